@@ -1,0 +1,9 @@
+pub mod Runs
+pub mod Bytes
+pub mod Values
+pub mod Ends
+pub mod Forms
+pub mod Steps
+pub mod Names
+pub mod Fields
+pub mod Grids

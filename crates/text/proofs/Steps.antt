@@ -1,0 +1,98 @@
+-- The readers of words and numbers, by the answers of the functions that read them. Assumes nothing.
+use mathlib.Core.Path.{_≡_, refl, sym, ap, _∙_, subst}
+use mathlib.Core.Bool.{Bool, true, false, not, _&&_}
+use mathlib.Core.List.{List}
+use Prim.Native.Nat.{ℕ, _+_, _-_, _≤_, _<_}
+use native.Mathlib.Omega.{arith}
+use borrow.Author.Tests.{le-leb, lt-leb, eq-eqb, ne-eqb, eqb-true}
+use lib.ListN.{length, getD}
+use lib.Dec.{eqb}
+use lib.IntN.{ℤ}
+use Rattle.text.specs.Reader.{Step, got, refused, Reader, after, _>>=_, _>>_, check, give}
+use Rattle.text.specs.Words.{run, wordStart, wordEnd, word}
+use Rattle.text.specs.Numbers as N
+use Rattle.text.specs.Numbers.{digit, numberAt, countAt, number, measure, count, centimetres}
+use Rattle.text.specs.declared.words.Next.the-variants.{Word}
+use Rattle.text.specs.declared.numbers.Form.{Form}
+use Rattle.text.specs.declared.numbers.Form.the-variants as F
+use Rattle.text.specs.declared.numbers.Number as D
+use Rattle.text.specs.declared.numbers.Numbered.{Numbered}
+use Rattle.text.specs.declared.numbers.Numbered.the-variants.{Number, NoNumber}
+use Rattle.text.specs.declared.Refusal.{Refusal}
+use Rattle.text.specs.Inner.{wordOf, Inside, formOf, EndsAt, Parsed, DigitsFrom, numberedOf, Sized}
+use Rattle.text.proofs.Ends.{first-solid, word-found, word-none, end-byte, end-digits, end-lower, end-upper}
+
+pub word-step : (s : List ℕ) (at a e : ℕ) → a ≡ wordStart s at → e ≡ wordEnd s a → a < length s
+    → (wordOf s (Word (record { start = a; end = e; rest = record { at = e } })) ≡ word s at) × ((a < e) × (e ≤ length s))
+word-step s at a e p q h = (
+  rw q (sym (word-found s at a p h)),
+  (omega (arith, q, end-byte s a h (first-solid s at a p h), end-lower s (a + 1)), omega (arith, q, end-upper s a (omega arith))),
+)
+
+-- ---- the next word as a number
+
+module _ (s : List ℕ) (at a : ℕ) (p : a ≡ wordStart s at) where
+  pub number-none : length s ≤ a → refused 9 (length s) ≡ number s at
+  unfolding number
+  number-none h = rw (word-none s at a p h)
+
+  module _ (h : a < length s) (r : Form) (m : Parsed (wordEnd s a) (numberAt s a (wordEnd s a)) r) where
+    pub number-bad : (b : ℕ) → r ≡ F.Malformed b → refused 7 a ≡ number s at
+    unfolding number
+    number-bad b e = rw (word-found s at a p h, sym (m .is) ∙ ap formOf e)
+
+    pub number-on : (minus : Bool) (size : ℕ) (fine : Bool) (end : ℕ) → r ≡ F.Number minus size fine end
+        → (numberedOf (Number (record { start = a; minus = minus; size = size; fine = fine; rest = record { at = end } })) ≡ number s at) × (size < 200000000000)
+    unfolding number
+    number-on minus size fine end e =
+        let q = subst (EndsAt (wordEnd s a)) e (m .ends) in
+        (rw (word-found s at a p h, sym (m .is) ∙ ap formOf e, q .0), q .1)
+
+-- ---- the same in whole cm
+
+module _ (s : List ℕ) (at : ℕ) (r : Numbered) (m : numberedOf r ≡ number s at) where
+  pub measure-none : (f : Refusal) → r ≡ NoNumber f → refused (f .number) (f .place) ≡ measure s at
+  unfolding measure
+  measure-none f e = rw (sym m ∙ ap numberedOf e)
+
+  module _ (x : D.Number) (e : r ≡ Number x) where
+    pub measure-fine : x .fine ≡ true → refused 8 (x .start) ≡ measure s at
+    unfolding measure
+    measure-fine t = rw (sym m ∙ ap numberedOf e, t)
+
+    pub measure-on : x .fine ≡ false → got (record { place = x .start; is = centimetres (x .minus) (x .size) }) (x .rest .at) ≡ measure s at
+    unfolding measure
+    measure-on t = rw (sym m ∙ ap numberedOf e, t)
+
+-- ---- the next word as a count
+
+module _ (s : List ℕ) (at a : ℕ) (p : a ≡ wordStart s at) where
+  pub count-none : length s ≤ a → refused 9 (length s) ≡ count s at
+  unfolding count
+  count-none h = rw (word-none s at a p h)
+
+  module _ (h : a < length s) (v d : ℕ) (w : DigitsFrom s a 9 v d) where
+    pub count-empty : d ≡ a → refused 7 a ≡ count s at
+    unfolding count countAt
+    count-empty z = rw (word-found s at a p h, ← w .ends, eq-eqb d a z)
+
+    module _ (some : d ≡ a → ⊥) where
+      e-is : wordEnd s a ≡ wordEnd s d
+      e-is = end-digits s a 9 d (omega arith) (w .ends)
+
+      pub count-off : eqb d (wordEnd s d) ≡ false → refused 7 a ≡ count s at
+      unfolding count countAt
+      count-off t = rw (word-found s at a p h, ← w .ends, ne-eqb d a some, e-is, t)
+
+      module _ (t : eqb d (wordEnd s d) ≡ true) where
+        pub count-low : v < 1 → refused 1 a ≡ count s at
+        unfolding count countAt
+        count-low l = rw (word-found s at a p h, ← w .ends, ne-eqb d a some, e-is, t, ← w .is, lt-leb 1 v l)
+
+        pub count-high : 1 ≤ v → 1024 < v → refused 1 a ≡ count s at
+        unfolding count countAt
+        count-high k l = rw (word-found s at a p h, ← w .ends, ne-eqb d a some, e-is, t, ← w .is, le-leb 1 v k, lt-leb v 1024 l)
+
+        pub count-on : 1 ≤ v → v ≤ 1024 → got v d ≡ count s at
+        unfolding count countAt
+        count-on k l = rw (word-found s at a p h, ← w .ends, ne-eqb d a some, e-is, t, ← w .is, le-leb 1 v k, le-leb v 1024 l) (ap (got v) (eqb-true d (wordEnd s d) t))

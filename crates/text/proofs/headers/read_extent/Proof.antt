@@ -1,0 +1,61 @@
+-- `text::headers::read_extent` meets its contract. Assumes nothing.
+use Rattle.text.specs.Bytes.{bytes}
+use Rattle.text.proofs.Fields.{extent-no-columns, extent-no-rows, extent-on, extent-fits}
+use borrow.Author.Needs.{needs}
+use Rattle.text.proofs.headers.read_extent.Statement.{statement}
+use Rattle.text.proofs.headers.read_extent.Tie as tie
+
+slice-aggregate-count-field : tie.Need-slice-aggregate-count-field
+slice-aggregate-count-field c = search needs
+
+count-field-requires : tie.Need-count-field-requires
+count-field-requires c κs = search needs
+
+enum-known-c : tie.Need-enum-known-c
+enum-known-c c = search needs
+
+enum-known-c-2 : tie.Need-enum-known-c-2
+enum-known-c-2 c = search needs
+
+slice-aggregate-count-field-2 : tie.Need-slice-aggregate-count-field-2
+slice-aggregate-count-field-2 c = search needs
+
+count-field-requires-2 : tie.Need-count-field-requires-2
+count-field-requires-2 c κs = search needs
+
+enum-known-r : tie.Need-enum-known-r
+enum-known-r c = search needs
+
+enum-known-r-2 : tie.Need-enum-known-r-2
+enum-known-r-2 c = search needs
+
+returns : tie.Need-returns
+unfolding bytes
+returns c = (extent-no-columns _ _ _ (c .before .before .before .count-field .ensures .0) _ (c .before .c .given .1), tt)
+
+returns-2 : tie.Need-returns-2
+unfolding bytes
+returns-2 c = (extent-no-rows _ _ _ (c .before .before .before .before .before .before .before .before .before .count-field .ensures .0) _ (c .before .before .before .before .before .before .before .c2 .given .1) _ (c .before .before .before .count-field2 .ensures .0) _ (c .before .r .given .1), tt)
+
+returns-3 : tie.Need-returns-3
+unfolding bytes
+returns-3 c = (
+  extent-on _ _ _ (c .before .before .before .before .before .before .before .before .before .before .count-field .ensures .0) _ (c .before .before .before .before .before .before .before .before .c2 .given .1) _ (c .before .before .before .before .count-field2 .ensures .0) _ (c .before .before .r2 .given .1),
+  extent-fits _ _ _ _ (c .before .before .before .before .before .before .before .before .c2 .given .1) (c .before .before .r2 .given .1) (c .before .before .before .before .before .before .before .before .before .before .count-field .ensures .1) (c .before .before .before .before .count-field2 .ensures .1),
+)
+
+pub read-extent-spec : {M : Type 1} → statement M
+read-extent-spec =
+    tie.close
+    (tie.spec
+    slice-aggregate-count-field
+    count-field-requires
+    enum-known-c
+    enum-known-c-2
+    slice-aggregate-count-field-2
+    count-field-requires-2
+    enum-known-r
+    enum-known-r-2
+    returns
+    returns-2
+    returns-3)

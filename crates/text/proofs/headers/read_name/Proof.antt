@@ -1,0 +1,32 @@
+-- `text::headers::read_name` meets its contract. Assumes nothing.
+use mathlib.Core.Path.{sym, _∙_}
+use Rattle.text.proofs.Fields.{name-none, name-on, name-off, word-inside}
+use borrow.Author.Needs.{needs}
+use Rattle.text.proofs.headers.read_name.Statement.{statement}
+use Rattle.text.proofs.headers.read_name.Tie as tie
+
+word-requires : tie.Need-word-requires
+word-requires c κs = search needs
+
+enum-told : tie.Need-enum-told
+enum-told c = search needs
+
+enum-known-w : tie.Need-enum-known-w
+enum-known-w c = search needs
+
+is-named-requires : tie.Need-is-named-requires
+is-named-requires c κs = word-inside _ _ _ (c .before .before .before .before .word .ensures .1) (c .before .before .w .given .1)
+
+returns : tie.Need-returns
+returns c = name-on _ _ _ _ (c .before .before .before .before .before .before .word .ensures .0) _ (c .before .before .before .before .w .given .1) (sym (c .if1 .taken) ∙ c .before .is-named .ensures)
+
+returns-2 : tie.Need-returns-2
+returns-2 c = name-none _ _ _ _ (c .before .before .word .ensures .0) (c .enum-told .given .1)
+
+returns-3 : tie.Need-returns-3
+returns-3 c = name-off _ _ _ _ (c .before .before .before .before .before .before .word .ensures .0) _ (c .before .before .before .before .w .given .1) (sym (c .if1 .left) ∙ c .before .is-named .ensures)
+
+pub read-name-spec : {M : Type 1} → statement M
+read-name-spec =
+    tie.close
+    (tie.spec word-requires enum-told enum-known-w is-named-requires returns returns-2 returns-3)

@@ -1,0 +1,48 @@
+-- `text::numbers::read_count` meets its contract. Assumes nothing.
+use mathlib.Core.Path.{_≡_, refl, sym, ap, _∙_}
+use borrow.Author.Tests.{not-true, not-false}
+use Rattle.text.proofs.Steps.{count-none, count-empty, count-off, count-low, count-high, count-on}
+use borrow.Author.Needs.{needs}
+use Rattle.text.proofs.numbers.read_count.Statement.{statement}
+use Rattle.text.proofs.numbers.read_count.Tie as tie
+
+word-start-requires : tie.Need-word-start-requires
+word-start-requires c κs = search needs
+
+returns : tie.Need-returns
+returns c = (count-none _ _ _ (c .before .word-start .ensures) (c .if1 .taken), tt)
+
+read-digits-requires : tie.Need-read-digits-requires
+read-digits-requires c κs = search needs
+
+returns-2 : tie.Need-returns-2
+returns-2 c = (count-empty _ _ _ (c .before .before .before .word-start .ensures) (c .before .before .if1 .left) _ _ (c .before .read-digits .ensures) (c .if2 .taken), tt)
+
+ends-requires : tie.Need-ends-requires
+ends-requires c κs = search needs
+
+returns-3 : tie.Need-returns-3
+returns-3 c = (count-off _ _ _ (c .before .before .before .before .before .word-start .ensures) (c .before .before .before .before .if1 .left) _ _ (c .before .before .before .read-digits .ensures) (c .before .before .if2 .left) (sym (c .before .ends .ensures) ∙ not-true _ (c .if3 .taken)), tt)
+
+returns-4 : tie.Need-returns-4
+returns-4 c = (count-low _ _ _ (c .before .before .before .before .before .before .word-start .ensures) (c .before .before .before .before .before .if1 .left) _ _ (c .before .before .before .before .read-digits .ensures) (c .before .before .before .if2 .left) (sym (c .before .before .ends .ensures) ∙ not-false _ (c .before .if3 .left)) (c .if4 .taken), tt)
+
+returns-5 : tie.Need-returns-5
+returns-5 c = (count-high _ _ _ (c .before .before .before .before .before .before .before .word-start .ensures) (c .before .before .before .before .before .before .if1 .left) _ _ (c .before .before .before .before .before .read-digits .ensures) (c .before .before .before .before .if2 .left) (sym (c .before .before .before .ends .ensures) ∙ not-false _ (c .before .before .if3 .left)) (c .before .if4 .left) (c .if5 .taken), tt)
+
+returns-6 : tie.Need-returns-6
+returns-6 c = (count-on _ _ _ (c .before .before .before .before .before .before .before .word-start .ensures) (c .before .before .before .before .before .before .if1 .left) _ _ (c .before .before .before .before .before .read-digits .ensures) (c .before .before .before .before .if2 .left) (sym (c .before .before .before .ends .ensures) ∙ not-false _ (c .before .before .if3 .left)) (c .before .if4 .left) (c .if5 .left), c .if5 .left)
+
+pub read-count-spec : {M : Type 1} → statement M
+read-count-spec =
+    tie.close
+    (tie.spec
+    word-start-requires
+    returns
+    read-digits-requires
+    returns-2
+    ends-requires
+    returns-3
+    returns-4
+    returns-5
+    returns-6)

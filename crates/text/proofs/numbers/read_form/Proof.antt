@@ -1,0 +1,57 @@
+-- `text::numbers::read_form` meets its contract. Assumes nothing.
+use mathlib.Core.Path.{_≡_, refl, sym, ap, _∙_}
+use native.Mathlib.Omega.{arith}
+use denote.Ref.{now}
+use Rattle.text.proofs.Forms.{sign-within, point-within, form-none, form-point, form-on, form-off}
+use borrow.Author.Needs.{needs}
+use Rattle.text.proofs.numbers.read_form.Statement.{statement}
+use Rattle.text.proofs.numbers.read_form.Tie as tie
+
+after-sign-requires : tie.Need-after-sign-requires
+after-sign-requires c κs = search needs
+
+read-digits-requires : tie.Need-read-digits-requires
+read-digits-requires c κs = (sign-within (now (c .before .before .args .s)) _ _ (c .before .before .pre .0) (c .before .before .pre .1) (c .after-sign .ensures), omega arith)
+
+returns : tie.Need-returns
+returns c = form-none _ _ _ (c .before .before .before .before .pre .0) (c .before .before .before .before .pre .1) (c .before .before .after-sign .ensures) _ _ (c .before .read-digits .ensures) (c .if1 .taken)
+
+mul-size : tie.Need-mul-size
+mul-size c = search needs
+
+byte-at-requires : tie.Need-byte-at-requires
+byte-at-requires c κs = search needs
+
+add-read-decimals : tie.Need-add-read-decimals
+add-read-decimals c = search needs
+
+read-decimals-requires : tie.Need-read-decimals-requires
+read-decimals-requires c κs = (point-within _ _ _ (c .before .before .before .before .before .before .before .pre .0) (c .before .before .before .before .before .before .before .pre .1) (c .before .before .before .before .before .after-sign .ensures) _ _ (c .before .before .before .before .read-digits .ensures) (sym (c .before .byte-at .ensures) ∙ c .if2 .taken), omega (arith, c .before .before .before .before .read-digits .ensures .small))
+
+returns-2 : tie.Need-returns-2
+returns-2 c = form-point _ _ _ (c .before .before .before .before .before .before .before .before .pre .0) (c .before .before .before .before .before .before .before .before .pre .1) (c .before .before .before .before .before .before .after-sign .ensures) _ _ (c .before .before .before .before .before .read-digits .ensures) (c .before .before .before .before .if1 .left) (sym (c .before .before .byte-at .ensures) ∙ c .before .if2 .taken) _ (c .read-decimals .ensures)
+
+ends-requires : tie.Need-ends-requires
+ends-requires c κs = search needs
+
+returns-3 : tie.Need-returns-3
+returns-3 c = form-on _ _ _ (c .before .before .before .before .before .before .before .before .before .pre .0) (c .before .before .before .before .before .before .before .before .before .pre .1) (c .before .before .before .before .before .before .before .after-sign .ensures) _ _ (c .before .before .before .before .before .before .read-digits .ensures) (c .before .before .before .before .before .if1 .left) (λ q. c .before .before .if2 .left (c .before .before .before .byte-at .ensures ∙ q)) (sym (c .before .ends .ensures) ∙ c .if3 .taken)
+
+returns-4 : tie.Need-returns-4
+returns-4 c = form-off _ _ _ (c .before .before .before .before .before .before .before .before .before .pre .0) (c .before .before .before .before .before .before .before .before .before .pre .1) (c .before .before .before .before .before .before .before .after-sign .ensures) _ _ (c .before .before .before .before .before .before .read-digits .ensures) (c .before .before .before .before .before .if1 .left) (λ q. c .before .before .if2 .left (c .before .before .before .byte-at .ensures ∙ q)) (sym (c .before .ends .ensures) ∙ c .if3 .left)
+
+pub read-form-spec : {M : Type 1} → statement M
+read-form-spec =
+    tie.close
+    (tie.spec
+    after-sign-requires
+    read-digits-requires
+    returns
+    mul-size
+    byte-at-requires
+    add-read-decimals
+    read-decimals-requires
+    returns-2
+    ends-requires
+    returns-3
+    returns-4)

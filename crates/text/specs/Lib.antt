@@ -1,0 +1,9 @@
+pub mod Bytes
+pub mod Quantities
+pub mod Reader
+pub mod Words
+pub mod Numbers
+pub mod Headers
+pub mod Heights
+pub mod Answers
+pub mod Inner

@@ -1,0 +1,64 @@
+// The text layer: an Esri ASCII grid is read into heights in cm, or refused. Document 01, "The text".
+//
+// Every text gets an answer: neither call has a `requires`. The modules follow document 01: words, numbers, the header, the heights.
+mod headers;
+mod heights;
+mod numbers;
+mod words;
+
+ghost use mathlib.Core.Path.{_≡_};
+ghost use Rattle.text.specs.Answers.{outcomeOf, gridOutcomeOf, headerAnswer, gridAnswer};
+use headers::Headed;
+use words::Cursor;
+
+// Document 01, "Quantities": a NoData cell's height, in cm.
+pub const NO_DATA: i32 = -999900;
+
+// Document 01, "Numbers of refusal": the number and the place.
+pub struct Refusal {
+    pub number: u32,
+    pub place: usize,
+}
+
+// What the header says; the side and the NoData number are in cm.
+pub struct Header {
+    pub rows: usize,
+    pub columns: usize,
+    pub side: u32,
+    pub no_data: i64,
+}
+
+// The answer of both calls.
+pub enum Answer {
+    Accepted(Header),
+    Refused(Refusal),
+}
+
+// Reads the header alone, and judges nothing after it.
+pub fn read_header(text: &[u8]) -> Answer
+    ensures { λ r. ⌜ outcomeOf r ≡ headerAnswer (now (text .entry)) ⌝ }
+{
+    let h = headers::read(text, Cursor { at: 0 });
+    match h {
+        Headed::NoHead(refusal) => Answer::Refused(refusal),
+        Headed::Head(x) => {
+            let header = x.header;
+            Answer::Accepted(header)
+        }
+    }
+}
+
+// Reads the whole text into the lent heights; a refusal leaves them as they were.
+pub fn read_grid(text: &[u8], heights: &mut [i32]) -> Answer
+    ensures { λ r. ⌜ gridOutcomeOf r (now (heights .exit)) ≡ gridAnswer (now (heights .entry)) (now (text .entry)) ⌝ }
+{
+    let h = headers::read(text, Cursor { at: 0 });
+    match h {
+        Headed::NoHead(refusal) => Answer::Refused(refusal),
+        Headed::Head(x) => {
+            let header = x.header;
+            let rest = x.rest;
+            heights::read(text, rest, header, heights)
+        }
+    }
+}
