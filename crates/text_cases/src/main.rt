@@ -1,0 +1,20 @@
+// Runs both calls of `text` on small texts and writes what they answer, for document 01's headings "The text" and
+// "Numbers of refusal". What must be written, the file `stdout`, is worked out from that document.
+mod counts;
+mod ends;
+mod forms;
+mod heights;
+mod names;
+mod show;
+mod side;
+mod words;
+
+fn main() {
+    words::run();
+    names::run();
+    counts::run();
+    side::run();
+    forms::run();
+    heights::run();
+    ends::run();
+}

@@ -1,0 +1,97 @@
+// Writes what both calls of `text` answer for one text. An answer is number, place, rows, columns, side and NoData
+// number, and after the reader call's stand the lent heights.
+ghost use Prim.Native.Nat.{_≤_};
+use libc::STDOUT_FILENO;
+use text::Answer;
+use text::Header;
+use text::Refusal;
+
+// What every lent height is beforehand, so that an untouched grid shows.
+const MARK: i32 = 77;
+
+// One case, with `cells` lent heights: the first line of `lines` is its name, and the text is all that follows.
+pub fn case(cells: usize, lines: &[u8])
+    requires { ⌜ cells ≤ 9 ⌝ }
+{
+    let mut lent = [MARK; 9];
+    let start = second_line(lines);
+    write(&lines[0..start]);
+    answers(&lines[start..], &mut lent[0..cells]);
+}
+
+// Where the second line of `lines` starts.
+fn second_line(lines: &[u8]) -> usize
+    ensures { λ r. do ⌜ r ≤ (← ⟦lines.len()⟧ .entry) ⌝ }
+{
+    let mut i = 0;
+    while i < lines.len() {
+        if lines[i] == b'\n' {
+            return i + 1;
+        }
+        i += 1;
+    }
+    i
+}
+
+fn answers(text: &[u8], heights: &mut [i32]) {
+    write(b"header");
+    write_answer(text::read_header(text));
+    write(b"\ngrid");
+    write_answer(text::read_grid(text, heights));
+    write(b":");
+    write_heights(heights);
+    write(b"\n");
+}
+
+fn write_answer(answer: Answer) {
+    match answer {
+        Answer::Accepted(header) => write_header(header),
+        Answer::Refused(refusal) => write_refusal(refusal),
+    }
+}
+
+fn write_header(header: Header) {
+    write(b" 0 0");
+    write_natural(header.rows as u64);
+    write_natural(header.columns as u64);
+    write_natural(header.side as u64);
+    write_integer(header.no_data);
+}
+
+fn write_refusal(refusal: Refusal) {
+    write_natural(refusal.number as u64);
+    write_natural(refusal.place as u64);
+    write(b" 0 0 0 0");
+}
+
+fn write_heights(heights: &[i32]) {
+    let mut i = 0;
+    while i < heights.len() {
+        write_integer(heights[i] as i64);
+        i += 1;
+    }
+}
+
+// For a negative `n`, -n is !n + 1.
+fn write_integer(n: i64) {
+    if n < 0 {
+        write(b" -");
+        io::print_decimal(STDOUT_FILENO, std::num::wrapping_add_u64(natural(!n), 1));
+    } else {
+        write_natural(natural(n));
+    }
+}
+
+// `n`, or 0 where `n` is negative.
+fn natural(n: i64) -> u64 {
+    if n < 0 { 0 } else { n as u64 }
+}
+
+fn write_natural(n: u64) {
+    write(b" ");
+    io::print_decimal(STDOUT_FILENO, n);
+}
+
+fn write(bytes: &[u8]) {
+    io::write_all(STDOUT_FILENO, bytes);
+}
