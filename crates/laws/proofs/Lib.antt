@@ -1,1 +1,7 @@
 pub mod Tests
+pub mod Lists
+pub mod Sums
+pub mod First
+pub mod Pigeon
+pub mod Settle
+pub mod Raise
