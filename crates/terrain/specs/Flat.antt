@@ -1,8 +1,9 @@
 -- Document 01: lower neighbours, and the steps of cells that have none: "Any other cell with no lower neighbour counts the fewest steps, over valid cells of its own
 -- filled height, to a cell with a lower neighbour or to a rim cell." Over filled levels. Assumes nothing.
+use mathlib.Core.Path.{_≡_}
 use mathlib.Core.List.{List}
-use mathlib.Core.Bool.{Bool, not, cond, _&&_, _||_}
-use Prim.Native.Nat.{ℕ, zero, suc, _+_, _*_, min}
+use mathlib.Core.Bool.{Bool, true, false, not, cond, _&&_, _||_}
+use Prim.Native.Nat.{ℕ, zero, suc, _+_, _*_, _≤_, _<_, min}
 use lib.ListN.{getD}
 use lib.Dec.{ltb, eqb}
 use Rattle.laws.specs.First.{someOf}
@@ -45,3 +46,16 @@ module _ (rows cols : ℕ) (lv : List ℕ) where
   unfoldable pub flatSteps : List ℕ
   unfolding settledOf flatAt nearestOf
   flatSteps = settledOf flatStepping
+
+  -- a walk over cells of one level to a cell that is not flat
+  pub data Walk : ℕ → Type 0 where
+    there : (x : ℕ) → 0 < getD lv x 0 → flatAt x ≡ false → Walk x
+    on : (x k : ℕ) → 0 < getD lv x 0 → k < 8 → getD lv (neighbour rows cols x k) 0 ≡ getD lv x 0 → Walk (neighbour rows cols x k) → Walk x
+
+  abbrev pub walked : {x : ℕ} → Walk x → ℕ
+  walked (there x v h) = 0
+  walked (on x k v h e w) = suc (walked w)
+
+  -- a walk from x has at most v steps: what every lowering of x to v has to show
+  abbrev pub Within : ℕ → ℕ → Type 0
+  Within x v = (w : Walk x) × (walked w ≤ v)
