@@ -1,2 +1,4 @@
 pub mod Cells
+pub mod Filled
+pub mod Surfaces
 pub mod Fields
