@@ -3,4 +3,7 @@ pub mod Filled
 pub mod Surfaces
 pub mod Flat
 pub mod Direction
+pub mod Trail
+pub mod Drainage
+pub mod Answers
 pub mod Fields

@@ -2,7 +2,7 @@
 use mathlib.Core.Path.{_≡_}
 use mathlib.Core.List.{List}
 use mathlib.Core.Logic.{_⊎_}
-use mathlib.Core.Bool.{Bool, not, cond}
+use mathlib.Core.Bool.{Bool, not, cond, _&&_}
 use Prim.Native.Nat.{ℕ, zero, suc, _+_, _*_, _<_}
 use lib.ListN.{getD}
 use lib.IntN.{ℤ}
@@ -95,3 +95,15 @@ module _ (rows cols : ℕ) (dir : List ℕ) where
   unfoldable pub longestOf : ℕ
   unfolding greatestTo when mappedAt stepsIn
   longestOf = greatestTo (rows * cols) (λ x. when (mappedAt x) (stepsIn (rows * cols) x))
+
+  -- ---- counts by raising: what a cell may be raised to
+
+  -- the neighbour at the side k of z points at z
+  unfoldable pub intoAt : ℕ → ℕ → Bool
+  unfolding neighbour flowsAt nextAt
+  intoAt z k = flowsAt (neighbour rows cols z k) && eqb (nextAt (neighbour rows cols z k)) z
+
+  -- a valid cell counts itself, and what the cells that point at it count
+  unfoldable pub countOffer : List ℕ → ℕ → ℕ
+  unfolding sumTo when mappedAt neighbour intoAt
+  countOffer l z = when (mappedAt z) (1 + sumTo 8 (λ k. when (intoAt z k) (getD l (neighbour rows cols z k) 0)))
