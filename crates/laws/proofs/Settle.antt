@@ -11,7 +11,7 @@ use lib.Seq.{ext-getD, getD-set-same, getD-set-other}
 use lib.Dec.{ltb}
 use borrow.Author.Tests.{ltb-true, ltb-false, lt-ltb, le-ltb}
 use borrow.Author.Count.{below-more}
-use Rattle.laws.specs.Lists.{tab, total}
+use Rattle.laws.specs.Lists.{total}
 use Rattle.laws.specs.Settle.{Lowering, startOf, roundOf, settleOf, settledOf, relaxedOf, Still, dueOf, Kept, Rule, Eased, Sweeping, Settling}
 use Rattle.laws.proofs.Tests.{two}
 use Rattle.laws.proofs.Lists.{length-tab, getD-tab, getD-tab-past, in-list, total-set, total-same}

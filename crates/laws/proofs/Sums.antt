@@ -1,5 +1,5 @@
 -- Laws of sums and of the greatest value over the numbers below n. Assumes nothing.
-use mathlib.Core.Path.{_≡_, refl, sym, ap, _∙_}
+use mathlib.Core.Path.{_≡_, refl, sym, ap}
 use mathlib.Core.Bool.{Bool, true, false, cond}
 use Prim.Native.Nat.{ℕ, zero, suc, _+_, _≤_, _<_, max}
 use native.Mathlib.Omega.{arith}
@@ -79,6 +79,14 @@ pub greatest-le : (n : ℕ) (f : ℕ → ℕ) (b : ℕ) → ((i : ℕ) → i < n
 unfolding greatestTo
 greatest-le zero f b h = omega arith
 greatest-le (suc n) f b h = omega (arith, greatest-le n f b (λ i l. h i (omega arith)), h n (omega arith))
+
+pub greatest-ext : (n : ℕ) (f g : ℕ → ℕ) → ((i : ℕ) → i < n → f i ≡ g i) → greatestTo n f ≡ greatestTo n g
+unfolding greatestTo
+greatest-ext zero f g h = refl
+greatest-ext (suc n) f g h = omega (arith, greatest-ext n f g (λ i l. h i (omega arith)), h n (omega arith))
+
+pub greatest-mono : (n : ℕ) (f g : ℕ → ℕ) → ((i : ℕ) → i < n → f i ≤ g i) → greatestTo n f ≤ greatestTo n g
+greatest-mono n f g h = greatest-le n f (greatestTo n g) (λ i l. omega (arith, h i l, greatest-ge n g i l))
 
 -- the greatest is 0, or some number's
 pub greatest-is : (n : ℕ) (f : ℕ → ℕ) → 0 < greatestTo n f → (k : ℕ) × (k < n) × (f k ≡ greatestTo n f)

@@ -1,8 +1,8 @@
 -- The verdict of the map call: its cases, what an accepted grid is, and that an accepted call's grids are a drainage. Assumes nothing.
 use mathlib.Core.Path.{_≡_, refl, sym, ap, subst, _∙_}
 use mathlib.Core.List.{List}
-use mathlib.Core.Bool.{Bool, true, false, cond, not, _&&_, true≢false}
-use Prim.Native.Nat.{ℕ, zero, suc, _*_, _≤_, _<_}
+use mathlib.Core.Bool.{Bool, true, false, cond, not, _&&_}
+use Prim.Native.Nat.{ℕ, _*_, _≤_, _<_}
 use native.Mathlib.Omega.{arith}
 use lib.ListN.{length, getD}
 use lib.IntN.{ℤ, pos}
@@ -14,7 +14,7 @@ use Rattle.laws.proofs.First.{first-before}
 use Rattle.terrain.specs.Quantities.{noData, sizeAccepted, heightAccepted, Fine}
 use Rattle.terrain.specs.Cells.{Ready}
 use Rattle.terrain.specs.Drainage.{Drainage}
-use Rattle.terrain.specs.Answers.{Grids, Answer, Verdict, accepted, refused, allLong, firstBad, judge, answerOf, gridsOf, answer, after}
+use Rattle.terrain.specs.Answers.{Grids, Verdict, accepted, refused, allLong, firstBad, judge, answerOf, gridsOf, answer, after}
 use Rattle.terrain.proofs.Cells.{area-small, accepted-fine}
 use Rattle.terrain.proofs.Drainage.{drainage}
 

@@ -1,9 +1,9 @@
 -- Laws of neighbours, codes, heights and levels. Assumes nothing.
 use mathlib.Core.Path.{_≡_, refl, sym, ap, ap₂, subst, _∙_}
-use mathlib.Core.List.{List, [], _∷_, map}
+use mathlib.Core.List.{List, [], _∷_}
 use mathlib.Core.Logic.{_⊎_, inl, inr, ⊎-elim}
 use mathlib.Core.Bool.{Bool, true, false, cond, not, _&&_, _||_, true≢false}
-use Prim.Native.Nat.{ℕ, zero, suc, _+_, _-_, _*_, _/_, _%_, _^_, _≤_, _<_, max, zero-le}
+use Prim.Native.Nat.{ℕ, zero, suc, _+_, _-_, _*_, _/_, _%_, _^_, _≤_, _<_, max}
 use native.Mathlib.Nat.{mul-le-mul-right, div-add-mod', mod-lt, le-trans, mul-add-div-right, mul-add-mod-self-right, div-eq-of-lt, mod-eq-of-lt, div-lt-iff-lt-mul}
 use native.Mathlib.Omega.{arith}
 use native.Mathlib.Decide.{decLt, ℕ-discrete}
@@ -15,9 +15,9 @@ use mir.Syntax.{w32}
 use mir.Val.{SFits}
 use borrow.Author.Tests.{lt-ltb, le-ltb, ltb-true, ltb-false, leb-true, leb-false, eqb-true, not-true}
 use Rattle.laws.specs.First.{firstOf}
-use Rattle.laws.proofs.First.{first-holds, first-none, some-is, some-yes, none-at}
-use Rattle.laws.proofs.Lists.{getD-any, getD-map-in}
-use Rattle.laws.proofs.Tests.{two, and-both}
+use Rattle.laws.proofs.First.{first-holds, some-is, some-yes}
+use Rattle.laws.proofs.Lists.{getD-any}
+use Rattle.laws.proofs.Tests.{and-both}
 use Rattle.terrain.specs.Quantities.{noData, isNoData, inRange, heightAccepted, Fine}
 use Rattle.terrain.specs.Cells.{rowSteps, colSteps, cellAt, neighbour, codeOf, sideOf, Valid, levelOf, heightOf, levelsOf, validAt, rimAt, Ready}
 use Rattle.terrain.specs.Surfaces.{maxZ}

@@ -1,22 +1,21 @@
 -- Directions: each valid cell points at a lower neighbour, or at one of its level that is a step nearer, or leaves the map at the rim. Assumes nothing.
-use mathlib.Core.Path.{_≡_, refl, sym, ap, subst, _∙_}
+use mathlib.Core.Path.{_≡_, refl, sym, subst, _∙_}
 use mathlib.Core.List.{List}
 use mathlib.Core.Logic.{⊎-elim}
-use mathlib.Core.Bool.{Bool, true, false, cond, not, _&&_, _||_, true≢false}
-use Prim.Native.Nat.{ℕ, zero, suc, _+_, _-_, _*_, _≤_, _<_}
+use mathlib.Core.Bool.{Bool, true, false, cond, true≢false}
+use Prim.Native.Nat.{ℕ, _+_, _-_, _*_, _≤_, _<_}
 use native.Mathlib.Nat.{mul-le-mul}
 use native.Mathlib.Omega.{arith}
-use native.Mathlib.Decide.{decLt, ℕ-discrete}
+use native.Mathlib.Decide.{decLt}
 use lib.ListN.{length, getD}
 use lib.Dec.{ltb, eqb}
-use borrow.Author.Tests.{ltb-true, ltb-false, lt-ltb, le-ltb, eqb-true, eq-eqb}
-use Rattle.laws.specs.Sums.{greatestTo}
+use borrow.Author.Tests.{lt-ltb, le-ltb, eqb-true, eq-eqb}
 use Rattle.laws.specs.First.{firstOf}
 use Rattle.laws.proofs.Tests.{two, and-both}
-use Rattle.laws.proofs.Lists.{in-list, getD-tab, getD-tab-past, length-tab}
+use Rattle.laws.proofs.Lists.{getD-tab, getD-tab-past, length-tab}
 use Rattle.laws.proofs.Sums.{greatest-ge, greatest-is}
 use Rattle.laws.proofs.First.{first-holds, first-le, some-is, some-yes}
-use Rattle.terrain.specs.Cells.{neighbour, codeOf, cardinal, validAt, rimAt}
+use Rattle.terrain.specs.Cells.{neighbour, codeOf, cardinal, rimAt}
 use Rattle.terrain.specs.Flat.{farSteps, lowerAt, hasLower, flatAt, flatSteps, Walk, there, on, walked}
 use Rattle.terrain.specs.Direction.{steepOf, steepAt, steepestAt, steepSide, nearerAt, nearerSide, directionAt, directionsOf}
 use Rattle.terrain.proofs.Cells.{rim-open}

@@ -1,35 +1,34 @@
 -- The definitions' own grids are a drainage: each trail stays on valid cells, never rises, never meets a cell twice and leaves at the rim, what leaves is what is on the
 -- map, and the filled heights are the lowest surface that drains. Assumes nothing.
-use mathlib.Core.Path.{_≡_, refl, sym, ap, subst, _∙_}
+use mathlib.Core.Path.{_≡_, sym, ap, subst, _∙_}
 use mathlib.Core.List.{List}
-use mathlib.Core.Logic.{_⊎_, inl, inr, ⊎-elim}
+use mathlib.Core.Logic.{⊎-elim}
 use mathlib.Core.Bool.{Bool, true, false, cond, not, true≢false}
-use Prim.Native.Nat.{ℕ, zero, suc, _+_, _*_, _≤_, _<_}
+use Prim.Native.Nat.{ℕ, _+_, _*_, _≤_, _<_}
 use native.Mathlib.Omega.{arith}
 use native.Mathlib.Decide.{decLt, ℕ-discrete}
 use lib.ListN.{length, getD}
 use lib.IntN.{ℤ}
-use lib.Dec.{ltb, eqb}
+use lib.Dec.{eqb}
 use borrow.Author.Tests.{ltb-true, lt-ltb, le-ltb, eq-eqb, ne-eqb}
-use Rattle.laws.specs.Sums.{sumTo, when}
+use Rattle.laws.specs.Sums.{greatestTo, when}
 use Rattle.laws.specs.Raise.{Rule}
 use Rattle.laws.proofs.Tests.{two}
 use Rattle.laws.proofs.Lists.{in-list}
 use Rattle.laws.proofs.Sums.{sum-ext, when-yes, when-no, when-zero}
 use Rattle.terrain.specs.Cells.{neighbour, codeOf, sideOf, Valid, Rim, levelsOf, validAt, Ready}
-use Rattle.terrain.specs.Surfaces.{Drained}
 use Rattle.terrain.specs.Filled.{filledLevels, filledOf}
 use Rattle.terrain.specs.Flat.{farSteps, flatSteps}
-use Rattle.terrain.specs.Direction.{directionAt, directionsOf}
-use Rattle.terrain.specs.Trail.{Trail, ends, goes, OnValid, NeverRises, Meets, NeverTwice, lastOf, validsOf, mappedAt, flowsAt, nextAt, stepsIn, countAt, countsOf, countOffer}
+use Rattle.terrain.specs.Direction.{directionsOf}
+use Rattle.terrain.specs.Trail.{Trail, ends, goes, OnValid, NeverRises, Meets, NeverTwice, lastOf, validsOf, mappedAt, flowsAt, nextAt, stepsIn, countAt, countsOf, countOffer, arrivalsOf, arriveOffer}
 use Rattle.terrain.specs.Drainage.{surfaceOf, outflowOf, Drainage}
-use Rattle.terrain.specs.Answers.{directionOf, countOf, validOf}
+use Rattle.terrain.specs.Answers.{directionOf, countOf, validOf, longestTrail}
 use Rattle.terrain.proofs.Cells.{side-code, code-some, code-small, valid-level, level-valid, level-invalid}
 use Rattle.terrain.proofs.Filled.{filled-long, filled-above, filled-some, filled-valid, level-filled}
 use Rattle.terrain.proofs.Surfaces.{filled-le, filled-least, filled-attained, filled-drained, filled-lowest}
 use Rattle.terrain.proofs.Flat.{steps-kept, steps-still, steps-small}
 use Rattle.terrain.proofs.Direction.{Points, down, along, leaves, points, directions-long, direction-at, direction-none}
-use Rattle.terrain.proofs.Trail.{Falls, mapped-is, is-mapped, mapped-none, mapped-in, code-flows, code-next, flows-code, flows-mapped, zero-stops, steps-le, rank-falls, trail-of, leavesAt, total-leaves, counts-at, count-rule}
+use Rattle.terrain.proofs.Trail.{Falls, is-mapped, mapped-none, code-flows, code-next, flows-code, flows-mapped, steps-le, rank-falls, trail-of, leavesAt, total-leaves, counts-at, count-rule, arrival-rule, longest-greatest}
 
 module _ (rows cols : ℕ) (ground : List ℤ) (ready : Ready rows cols ground) where
   abbrev lv : List ℕ
@@ -173,6 +172,14 @@ module _ (rows cols : ℕ) (ground : List ℤ) (ready : Ready rows cols ground) 
   -- the counts' rule of raising: a cell's count from those of the cells that point at it
   pub counting : Rule (countsOf rows cols (directionsOf rows cols (filledLevels rows cols ground))) (countOffer rows cols (directionsOf rows cols (filledLevels rows cols ground))) (stepsIn rows cols (directionsOf rows cols (filledLevels rows cols ground)) (rows * cols)) (rows * cols)
   counting = count-rule rows cols dir rank (rank-falls rows cols dir potential falls) rank-le
+
+  -- the arrivals' rule of raising, and the longest trail as the greatest arrival
+  pub arriving : Rule (arrivalsOf rows cols (directionsOf rows cols (filledLevels rows cols ground))) (arriveOffer rows cols (directionsOf rows cols (filledLevels rows cols ground))) (stepsIn rows cols (directionsOf rows cols (filledLevels rows cols ground)) (rows * cols)) (rows * cols)
+  arriving = arrival-rule rows cols dir rank (rank-falls rows cols dir potential falls) rank-le
+
+  pub longest-is : longestTrail rows cols ground ≡ greatestTo (rows * cols) (λ z. getD (arrivalsOf rows cols (directionsOf rows cols (filledLevels rows cols ground))) z 0)
+  unfolding longestTrail directionOf
+  longest-is = longest-greatest rows cols dir rank (rank-falls rows cols dir potential falls) rank-le
 
   leaving : (x : ℕ) → x < rows * cols → when (eqb (getD dir x 255) 0) (getD (countsOf rows cols dir) x 0) ≡ when (leavesAt rows cols dir rank (rank-falls rows cols dir potential falls) x) (countAt rows cols dir x)
   leaving x h = ⊎-elim mapped none (two (mappedAt rows cols dir x))

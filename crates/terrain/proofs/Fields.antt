@@ -6,7 +6,7 @@ use Prim.Native.Nat.{ℕ, _*_}
 use lib.ListN.{replicate}
 use lib.IntN.{ℤ, pos, negsuc}
 use Rattle.terrain.specs.Quantities.{noData}
-use Rattle.terrain.specs.Answers.{Answer, Grids, answer, after}
+use Rattle.terrain.specs.Answers.{Grids, answer, after}
 
 -- what a map of rows and columns is claimed to be
 pub record Maps : Type 0 where

@@ -1,8 +1,8 @@
 -- The filled levels: lowering until still is a rule whose levels runs attain and stay above, so any order of lowering gives the definition's. Assumes nothing.
-use mathlib.Core.Path.{_≡_, refl, sym, ap, subst, _∙_}
-use mathlib.Core.List.{List, map}
+use mathlib.Core.Path.{_≡_, refl, sym, ap, _∙_}
+use mathlib.Core.List.{List}
 use mathlib.Core.Logic.{⊎-elim}
-use mathlib.Core.Bool.{Bool, true, false, cond, true≢false}
+use mathlib.Core.Bool.{Bool, true, false, cond}
 use Prim.Native.Nat.{ℕ, zero, suc, _+_, _*_, _≤_, _<_, min, max}
 use native.Mathlib.Omega.{arith}
 use native.Mathlib.Numerals.{add-one}
@@ -10,16 +10,15 @@ use native.Mathlib.Decide.{decLe, decLt, ℕ-discrete}
 use lib.ListN.{length, getD, List·getD-map, List·getD-eq-default}
 use lib.IntN.{ℤ}
 use lib.Signed.{leZ}
-use lib.Dec.{ltb}
 use borrow.Author.Tests.{ltb-true, lt-ltb, le-ltb}
-use Rattle.laws.specs.Settle.{Kept, Still, Rule, settledOf}
+use Rattle.laws.specs.Settle.{Kept, Still, Rule}
 use Rattle.laws.proofs.Settle.{settled-done, done-is}
 use Rattle.laws.proofs.Lists.{in-list}
 use Rattle.terrain.specs.Quantities.{noData, Fine}
-use Rattle.terrain.specs.Cells.{neighbour, Valid, Rim, levelOf, heightOf, levelsOf, validAt, Ready}
+use Rattle.terrain.specs.Cells.{neighbour, Valid, levelOf, heightOf, levelsOf, validAt, Ready}
 use Rattle.terrain.specs.Surfaces.{Run, last, step, greatest, maxZ}
 use Rattle.terrain.specs.Filled.{top, lowestOf, filling, filledLevels, filledOf, Stands}
-use Rattle.terrain.proofs.Cells.{across, across-small, west, neighbour-back, level-at, level-max, level-fine, levels-long, level-height, fine-at, level-top, valid-level, level-valid, none-level, level-invalid}
+use Rattle.terrain.proofs.Cells.{across, across-small, west, neighbour-back, level-at, level-max, level-fine, levels-long, level-height, fine-at, valid-level, level-valid, none-level, level-invalid}
 
 -- ---- the lowest neighbour
 

@@ -1,8 +1,8 @@
 -- Flat cells and their steps: no walk is shorter, and there are fewer steps than cells. Assumes nothing.
-use mathlib.Core.Path.{_≡_, refl, sym, ap, subst, _∙_}
+use mathlib.Core.Path.{_≡_, refl, sym, ap, _∙_}
 use mathlib.Core.List.{List}
 use mathlib.Core.Logic.{⊎-elim}
-use mathlib.Core.Bool.{Bool, true, false, cond, not, _&&_, _||_, true≢false}
+use mathlib.Core.Bool.{Bool, true, false, not, _&&_, _||_, true≢false}
 use Prim.Native.Nat.{ℕ, zero, suc, _+_, _*_, _≤_, _<_, min}
 use native.Mathlib.Omega.{arith}
 use native.Mathlib.Numerals.{add-one}
@@ -10,12 +10,11 @@ use native.Mathlib.Decide.{decLe, decLt, ℕ-discrete}
 use lib.ListN.{length, getD}
 use lib.IntN.{ℤ}
 use lib.Dec.{ltb, leb, eqb}
-use borrow.Author.Tests.{ltb-true, ltb-false, lt-ltb, le-ltb, le-leb, lt-leb, eq-eqb, ne-eqb}
+use borrow.Author.Tests.{ltb-true, lt-ltb, le-ltb, le-leb, lt-leb, eq-eqb, ne-eqb}
 use Rattle.laws.specs.Settle.{Kept, Still, Rule}
-use Rattle.laws.specs.Pigeon.{Apart}
 use Rattle.laws.proofs.Tests.{two, and-both}
 use Rattle.laws.proofs.Lists.{in-list}
-use Rattle.laws.proofs.First.{some-is, some-yes, none-at}
+use Rattle.laws.proofs.First.{some-is, none-at}
 use Rattle.laws.proofs.Pigeon.{pigeon}
 use Rattle.laws.proofs.Settle.{settled-done, done-is}
 use Rattle.terrain.specs.Cells.{neighbour, validAt, rimAt, levelsOf, Ready}
@@ -23,8 +22,8 @@ use Rattle.terrain.specs.Surfaces.{Run, last, step, NeverRises}
 use Rattle.terrain.specs.Filled.{top, lowestOf, filledLevels, filledOf}
 use Rattle.terrain.specs.Flat.{farSteps, lowerAt, hasLower, flatAt, seenAt, nearestOf, flatStepping, flatSteps, Walk, there, on, walked, Within}
 use Rattle.terrain.specs.Drainage.{surfaceOf}
-use Rattle.terrain.proofs.Cells.{rim-open, open-rim, inland-valid, level-le, none-level, level-valid}
-use Rattle.terrain.proofs.Filled.{lowest-le, lowest-is, filled-long, filled-clear, filled-some, filled-above, level-filled, run-valid}
+use Rattle.terrain.proofs.Cells.{rim-open, inland-valid, level-le, none-level, level-valid}
+use Rattle.terrain.proofs.Filled.{lowest-le, lowest-is, filled-long, filled-clear, filled-some, filled-above, level-filled}
 use Rattle.terrain.proofs.Cells.{valid-level}
 use Rattle.terrain.proofs.Surfaces.{drain}
 

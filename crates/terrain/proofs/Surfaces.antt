@@ -1,14 +1,14 @@
 -- The filled heights in the words of document 01: the least greatest height of the runs, and the lowest surface that drains. Assumes nothing.
-use mathlib.Core.Path.{_≡_, refl, sym, ap, subst, _∙_}
+use mathlib.Core.Path.{_≡_, sym, ap, subst, _∙_}
 use mathlib.Core.List.{List}
-use Prim.Native.Nat.{ℕ, zero, suc, _+_, _≤_, _<_}
+use Prim.Native.Nat.{ℕ, zero, suc, _≤_, _<_}
 use native.Mathlib.Omega.{arith}
 use native.Mathlib.Decide.{decLt}
 use lib.ListN.{getD}
 use lib.IntN.{ℤ}
 use lib.Signed.{_≤ℤ_}
 use Rattle.terrain.specs.Quantities.{noData}
-use Rattle.terrain.specs.Cells.{neighbour, Valid, levelOf, heightOf, levelsOf, Ready}
+use Rattle.terrain.specs.Cells.{neighbour, Valid, levelOf, heightOf, Ready}
 use Rattle.terrain.specs.Surfaces.{Run, last, step, greatest, NeverRises, Drained}
 use Rattle.terrain.specs.Filled.{filledLevels, filledOf}
 use Rattle.terrain.specs.Drainage.{surfaceOf}
