@@ -1,0 +1,79 @@
+-- Raising until still: any order of raising in place stays at or below F, and a list that no offer raises is F. Assumes nothing.
+use mathlib.Core.Path.{_≡_, refl, sym, ap, subst, subst₂, _∙_}
+use mathlib.Core.List.{List}
+use mathlib.Core.Bool.{Bool, true, false, cond, _||_, true≢false, false≢true}
+use Prim.Native.Nat.{ℕ, zero, suc, _+_, _-_, _≤_, _<_}
+use native.Mathlib.Omega.{arith}
+use native.Mathlib.Decide.{decLt, ℕ-discrete}
+use lib.ListN.{length, getD, set, length-set, List·getD-eq-default}
+use lib.Seq.{ext-getD, getD-set-same, getD-set-other}
+use lib.Dec.{ltb}
+use borrow.Author.Tests.{ltb-true, ltb-false}
+use borrow.Author.Count.{below-more}
+use Rattle.laws.specs.Lists.{total}
+use Rattle.laws.specs.Raise.{raisedOf, Under, Still, Rule, Sweeping}
+use Rattle.laws.proofs.Lists.{total-set, total-le}
+
+-- any value that is at most F's may be stored
+pub store-under : (F l : List ℕ) → Under F l → (x v : ℕ) → x < length F → v ≤ getD F x 0 → Under F (set l x v)
+store-under F l k x v h le =
+    record {
+      long = length-set l x v ∙ k .long;
+      under = (λ y. elim (ℕ-discrete y x) [ yes e ↦ omega (arith, getD-set-same l x v 0 (omega (arith, k .long)), ap (λ (j : ℕ). getD (set l x v) j 0) e, ap (λ (j : ℕ). getD F j 0) e) | no d ↦ omega (arith, getD-set-other l x y v 0 d, k .under y) ]);
+    }
+
+module _ (F : List ℕ) (offer : List ℕ → ℕ → ℕ) (pot : ℕ → ℕ) (bound : ℕ) (rule : Rule F offer pot bound) where
+  done-at : (l : List ℕ) → Under F l → Still F offer l → (m x : ℕ) → bound - pot x < m → getD l x 0 ≡ getD F x 0
+  done-at l k s zero x h = absurd (omega arith)
+  done-at l k s (suc m) x h =
+      elim (decLt x (length F)) [
+        | yes i ↦ omega (arith, rule .exact l k x i (λ y q. done-at l k s m y (omega (arith, rule .bounded y, rule .bounded x))), s x i, k .under x)
+        | no o ↦ omega (arith, k .under x, List·getD-eq-default F 0 {n = x} (omega arith))
+      ]
+
+  -- a list that no offer raises is F
+  pub done-is : (l : List ℕ) → Under F l → Still F offer l → l ≡ F
+  done-is l k s = ext-getD 0 l F (k .long) (λ x h. done-at l k s (suc (bound - pot x)) x (omega arith))
+
+  pub offer-under : (l : List ℕ) → Under F l → (x : ℕ) → x < length F → Under F (set l x (offer l x))
+  offer-under l k x h = store-under F l k x (offer l x) h (rule .mono l k x h)
+
+  pub raise-under : (l m : List ℕ) (x : ℕ) → Under F l → x < length F → m ≡ raisedOf offer l x → Under F m
+  raise-under l m x k h e = subst (Under F) (sym e) (go (ltb (getD l x 0) (offer l x)))
+    where
+      go : (t : Bool) → Under F (cond t (set l x (offer l x)) l)
+      go true = offer-under l k x h
+      go false = k
+
+  -- ---- a sweep
+
+  pub sweep-none : (l : List ℕ) → Under F l → Sweeping F offer l l 0 false
+  sweep-none l k = record { kept = k; more = (λ e. absurd (false≢true e)); same = (λ e. refl); still = (λ e y h. absurd (omega arith)) }
+
+  sweep-raise : (l₀ l : List ℕ) (x : ℕ) (b : Bool) → x < length F → Sweeping F offer l₀ l x b → getD l x 0 < offer l x → Sweeping F offer l₀ (set l x (offer l x)) (x + 1) true
+  sweep-raise l₀ l x b i s h =
+      record { kept = offer-under l (s .kept) x i; more = (λ e. rise b s); same = (λ e. absurd (true≢false e)); still = (λ e. absurd (true≢false e)) }
+    where
+      rise : (b : Bool) → Sweeping F offer l₀ l x b → total l₀ < total (set l x (offer l x))
+      rise true s = omega (arith, s .more refl, total-set l x (offer l x) (omega (arith, s .kept .long)))
+      rise false s = omega (arith, s .same refl, total-set l x (offer l x) (omega (arith, s .kept .long)))
+
+  sweep-pass : (l₀ l : List ℕ) (x : ℕ) (b : Bool) → Sweeping F offer l₀ l x b → offer l x ≤ getD l x 0 → Sweeping F offer l₀ l (x + 1) b
+  sweep-pass l₀ l x b s h = record { kept = s .kept; more = s .more; same = s .same; still = (λ e. below-more (λ (y : ℕ). offer l y ≤ getD l y 0) x (s .still e) h) }
+
+  pub sweep-more : (l₀ l : List ℕ) (x : ℕ) (b b′ r : Bool) (l′ : List ℕ) → x < length F → Sweeping F offer l₀ l x b → r ≡ ltb (getD l x 0) (offer l x) → l′ ≡ raisedOf offer l x → b′ ≡ b || r → Sweeping F offer l₀ l′ (x + 1) b′
+  sweep-more l₀ l x b b′ r l′ i s e e′ w = subst₂ (λ (m : List ℕ) (t : Bool). Sweeping F offer l₀ m (x + 1) t) (sym e′) (sym (w ∙ ap (λ (t : Bool). b || t) e)) (go (ltb (getD l x 0) (offer l x)) refl b s)
+    where
+      go : (t : Bool) → ltb (getD l x 0) (offer l x) ≡ t → (b : Bool) → Sweeping F offer l₀ l x b → Sweeping F offer l₀ (cond t (set l x (offer l x)) l) (x + 1) (b || t)
+      go true q true s = sweep-raise l₀ l x true i s (ltb-true (getD l x 0) (offer l x) q)
+      go true q false s = sweep-raise l₀ l x false i s (ltb-true (getD l x 0) (offer l x) q)
+      go false q true s = sweep-pass l₀ l x true s (ltb-false (getD l x 0) (offer l x) q)
+      go false q false s = sweep-pass l₀ l x false s (ltb-false (getD l x 0) (offer l x) q)
+
+  -- the measure of sweeps until one raises nothing: what is missing of F's sum
+  pub sweep-less : (l₀ l : List ℕ) (x : ℕ) → Sweeping F offer l₀ l x true → total F - total l < total F - total l₀
+  sweep-less l₀ l x s = omega (arith, s .more refl, total-le l F (s .kept .long) (s .kept .under))
+
+  -- a sweep that raised nothing ends at F
+  pub sweep-done : (l₀ l : List ℕ) → Sweeping F offer l₀ l (length F) false → l ≡ F
+  sweep-done l₀ l s = done-is l (s .kept) (s .still refl)

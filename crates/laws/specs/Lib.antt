@@ -1,0 +1,6 @@
+pub mod Lists
+pub mod Sums
+pub mod First
+pub mod Pigeon
+pub mod Settle
+pub mod Raise

@@ -1,0 +1,9 @@
+pub mod Cells
+pub mod Filled
+pub mod Surfaces
+pub mod Flat
+pub mod Direction
+pub mod Trail
+pub mod Drainage
+pub mod Answers
+pub mod Fields

@@ -1,0 +1,9 @@
+pub mod Quantities
+pub mod Cells
+pub mod Surfaces
+pub mod Filled
+pub mod Flat
+pub mod Direction
+pub mod Trail
+pub mod Drainage
+pub mod Answers
