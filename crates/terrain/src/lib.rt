@@ -1,1 +1,126 @@
-// Layer 2: ground heights to filled heights, directions, flow counts and the longest trail.
+// The terrain layer: from ground heights to filled heights, directions and flow counts. Document 01, "Filling and directions".
+//
+// Every input gets an answer: the call has no `requires`. The modules follow document 01: cells, filled heights, steps over
+// flats, directions, trails.
+mod cells;
+mod direction;
+mod filled;
+mod flat;
+mod queue;
+mod trail;
+
+// Document 01, "Quantities": a NoData cell's height, in cm.
+pub const NO_DATA: i32 = -999900;
+
+// Document 01, "Numbers of refusal": the number and the place.
+pub struct Refusal {
+    pub number: u32,
+    pub place: usize,
+}
+
+// The answer of the map call: the number of valid cells and the steps of the longest trail, or why there is no map.
+pub enum Answer {
+    Accepted { valid: u32, longest: u32 },
+    Refused(Refusal),
+}
+
+// Whether a number of rows or columns is accepted.
+fn is_size(n: usize) -> bool {
+    if n < 1 {
+        return false;
+    }
+    n <= 1024
+}
+
+// Whether a height is accepted.
+fn is_height(h: i32) -> bool {
+    if h == NO_DATA {
+        return true;
+    }
+    if h < -50000 {
+        return false;
+    }
+    h <= 900000
+}
+
+// The first cell whose height is not accepted; the number of cells where there is none.
+fn first_bad(ground: &[i32]) -> usize {
+    let mut x: usize = 0;
+    while x < ground.len() {
+        if !is_height(ground[x]) {
+            return x;
+        }
+        x += 1;
+    }
+    x
+}
+
+fn refused(number: u32, place: usize) -> Answer {
+    Answer::Refused(Refusal {
+        number: number,
+        place: place,
+    })
+}
+
+// Works out the grids from a good ground.
+fn survey(
+    rows: usize,
+    columns: usize,
+    ground: &[i32],
+    filled: &mut [i32],
+    direction: &mut [u8],
+    count: &mut [u32],
+    workspace: &mut [u32],
+) -> Answer {
+    filled::fill(rows, columns, ground, workspace, count);
+    flat::measure(rows, columns, workspace, count, filled);
+    direction::point(rows, columns, workspace, count, direction);
+    filled::write_heights(workspace, filled);
+    let valid = filled::valid_cells(workspace);
+    trail::count_flow(rows, columns, direction, count, workspace);
+    let longest = trail::longest_trail(rows, columns, direction, workspace);
+    Answer::Accepted {
+        valid: valid,
+        longest: longest,
+    }
+}
+
+// Maps a ground of rows times columns heights, each lent grid and the workspace having one place per cell. A refusal changes
+// nothing that is lent; after success the workspace holds zeros.
+pub fn map(
+    rows: usize,
+    columns: usize,
+    ground: &[i32],
+    filled: &mut [i32],
+    direction: &mut [u8],
+    count: &mut [u32],
+    workspace: &mut [u32],
+) -> Answer {
+    if !is_size(rows) {
+        return refused(1, 0);
+    }
+    if !is_size(columns) {
+        return refused(1, 0);
+    }
+    let cells = rows * columns;
+    if ground.len() != cells {
+        return refused(2, 0);
+    }
+    if filled.len() != cells {
+        return refused(2, 0);
+    }
+    if direction.len() != cells {
+        return refused(2, 0);
+    }
+    if count.len() != cells {
+        return refused(2, 0);
+    }
+    if workspace.len() != cells {
+        return refused(2, 0);
+    }
+    let bad = first_bad(ground);
+    if bad < cells {
+        return refused(5, bad);
+    }
+    survey(rows, columns, ground, filled, direction, count, workspace)
+}

@@ -1,0 +1,334 @@
+// Trails along the directions: flow counts (flow accumulation, O'Callaghan and Mark 1984) and the longest trail. Counts are
+// handed on from the ridges down, a cell's once it waits for none; each is then compared with what its inflows bring.
+use crate::cells::beside;
+use crate::cells::clear;
+use crate::cells::larger;
+use crate::cells::near;
+use crate::cells::run_end;
+use crate::cells::value_at;
+use crate::direction::NO_CODE;
+use std::num::wrapping_add_u32;
+use std::num::wrapping_sub_u32;
+
+// A cell that has handed its count on.
+const TAKEN: u32 = 4294967295;
+
+// The cell that the cell x points at with this code; the number of cells where it points nowhere.
+fn receiver(rows: usize, columns: usize, code: u8, x: usize) -> usize {
+    if code == NO_CODE {
+        return rows * columns;
+    }
+    let k = u8::trailing_zeros(code) as usize;
+    if 8 <= k {
+        return rows * columns;
+    }
+    beside(columns, x, k)
+}
+
+// The code by which a neighbour at side k points back at the cell.
+fn back_of(k: usize) -> u8 {
+    match k {
+        0 => 16,
+        1 => 32,
+        2 => 64,
+        3 => 128,
+        4 => 1,
+        5 => 2,
+        6 => 4,
+        _ => 8,
+    }
+}
+
+// The code at an index; 0 where there is none.
+fn code_at(direction: &[u8], i: usize) -> u8 {
+    if i < direction.len() {
+        return direction[i];
+    }
+    0
+}
+
+// What a cell with this code and count brings to the one that it points at with the code `wanted`.
+fn brought(code: u8, wanted: u8, count: u32) -> u32 {
+    if code == wanted { count } else { 0 }
+}
+
+// What a cell with this code counts for itself.
+fn own(code: u8) -> u32 {
+    if code == NO_CODE { 0 } else { 1 }
+}
+
+// A cell x that is inside and the counts of the cells that point at it.
+fn gathered_inside(columns: usize, direction: &[u8], count: &[u32], x: usize) -> u32 {
+    let mut sum = own(direction[x]);
+    let mut k: usize = 0;
+    while k < 8 {
+        let y = beside(columns, x, k);
+        sum += brought(direction[y], back_of(k), count[y]);
+        k += 1;
+    }
+    sum
+}
+
+// The same of any cell x.
+fn gathered_near(rows: usize, columns: usize, direction: &[u8], count: &[u32], x: usize) -> u32 {
+    let mut sum = own(direction[x]);
+    let mut k: usize = 0;
+    while k < 8 {
+        let y = near(rows, columns, x, k);
+        sum += brought(code_at(direction, y), back_of(k), value_at(count, y));
+        k += 1;
+    }
+    sum
+}
+
+// Adds one to the waiting inflows of the cell that the cell x points at.
+fn await_one(rows: usize, columns: usize, direction: &[u8], waiting: &mut [u32], x: usize) {
+    let y = receiver(rows, columns, direction[x], x);
+    if y < waiting.len() {
+        waiting[y] = wrapping_add_u32(waiting[y], 1);
+    }
+}
+
+// Notes for every cell how many cells point at it.
+fn await_all(rows: usize, columns: usize, direction: &[u8], waiting: &mut [u32]) {
+    let mut x: usize = 0;
+    while x < waiting.len() {
+        await_one(rows, columns, direction, waiting, x);
+        x += 1;
+    }
+}
+
+// Starts every count with the cell itself.
+fn start(direction: &[u8], count: &mut [u32]) {
+    let mut x: usize = 0;
+    while x < count.len() {
+        count[x] = own(direction[x]);
+        x += 1;
+    }
+}
+
+// Hands the count of the cell x on to the cell y. The inflows that y waits for still.
+fn hand_on(count: &mut [u32], waiting: &mut [u32], x: usize, y: usize) -> u32 {
+    count[y] = wrapping_add_u32(count[y], count[x]);
+    waiting[y] = wrapping_sub_u32(waiting[y], 1);
+    waiting[y]
+}
+
+// Hands counts on along the trail from a cell that waits for nothing, as far as no cell waits.
+fn follow(
+    rows: usize,
+    columns: usize,
+    direction: &[u8],
+    count: &mut [u32],
+    waiting: &mut [u32],
+    start: usize,
+) {
+    let mut x = start;
+    let mut turns: usize = 0;
+    while turns < count.len() {
+        waiting[x] = TAKEN;
+        let y = receiver(rows, columns, direction[x], x);
+        if count.len() <= y {
+            return;
+        }
+        if 0 < hand_on(count, waiting, x, y) {
+            return;
+        }
+        x = y;
+        turns += 1;
+    }
+}
+
+// The same from the cell x, if it waits for nothing.
+fn begin(
+    rows: usize,
+    columns: usize,
+    direction: &[u8],
+    count: &mut [u32],
+    waiting: &mut [u32],
+    x: usize,
+) {
+    if 0 < waiting[x] {
+        return;
+    }
+    follow(rows, columns, direction, count, waiting, x);
+}
+
+// Hands counts on from the ridges down.
+fn descend(rows: usize, columns: usize, direction: &[u8], count: &mut [u32], waiting: &mut [u32]) {
+    let mut x: usize = 0;
+    while x < count.len() {
+        begin(rows, columns, direction, count, waiting, x);
+        x += 1;
+    }
+}
+
+// 1 if a count is not what is gathered; else 0.
+fn loose(count: u32, sum: u32) -> u32 {
+    if count == sum { 0 } else { 1 }
+}
+
+// How many counts are not what is gathered in a run of cells that are inside.
+fn loose_run(columns: usize, direction: &[u8], count: &[u32], from: usize, to: usize) -> u32 {
+    let mut sum: u32 = 0;
+    let mut x = from;
+    while x < to {
+        sum += loose(count[x], gathered_inside(columns, direction, count, x));
+        x += 1;
+    }
+    sum
+}
+
+// How many counts are not what is gathered.
+fn loose_cells(rows: usize, columns: usize, direction: &[u8], count: &[u32]) -> u32 {
+    let mut sum: u32 = 0;
+    let mut x: usize = 0;
+    while x < count.len() {
+        let end = run_end(rows, columns, x);
+        sum += loose_run(columns, direction, count, x, end);
+        sum += loose(
+            count[end],
+            gathered_near(rows, columns, direction, count, end),
+        );
+        x = end + 1;
+    }
+    sum
+}
+
+// The largest count.
+fn largest(count: &[u32]) -> u32 {
+    let mut most: u32 = 0;
+    let mut x: usize = 0;
+    while x < count.len() {
+        most = larger(most, count[x]);
+        x += 1;
+    }
+    most
+}
+
+// Whether every count is what is gathered; none may exceed the number of cells.
+fn is_counted(rows: usize, columns: usize, direction: &[u8], count: &[u32]) -> bool {
+    if count.len() < largest(count) as usize {
+        return false;
+    }
+    loose_cells(rows, columns, direction, count) < 1
+}
+
+// Raises the count of the cell x to what is gathered. True if it was less.
+fn raise(rows: usize, columns: usize, direction: &[u8], count: &mut [u32], x: usize) -> bool {
+    let sum = gathered_near(rows, columns, direction, count, x);
+    if sum <= count[x] {
+        return false;
+    }
+    count[x] = sum;
+    true
+}
+
+// Raises every count once. True if some count was raised.
+fn sweep(rows: usize, columns: usize, direction: &[u8], count: &mut [u32]) -> bool {
+    let mut raised = false;
+    let mut x: usize = 0;
+    while x < count.len() {
+        if raise(rows, columns, direction, count, x) {
+            raised = true;
+        }
+        x += 1;
+    }
+    raised
+}
+
+// Counts anew, raising until no count can be raised.
+fn recount(rows: usize, columns: usize, direction: &[u8], count: &mut [u32]) {
+    clear(count);
+    let mut again = true;
+    while again {
+        again = sweep(rows, columns, direction, count);
+    }
+}
+
+// The flow count of every cell. The workspace is scratch.
+pub(crate) fn count_flow(
+    rows: usize,
+    columns: usize,
+    direction: &[u8],
+    count: &mut [u32],
+    workspace: &mut [u32],
+) {
+    clear(workspace);
+    start(direction, count);
+    await_all(rows, columns, direction, workspace);
+    descend(rows, columns, direction, count, workspace);
+    if is_counted(rows, columns, direction, count) {
+        return;
+    }
+    recount(rows, columns, direction, count);
+}
+
+// The number of cells of the trail from a cell on; `known` has it for some cells, and 0 for the others.
+fn trail_cells(rows: usize, columns: usize, direction: &[u8], known: &[u32], start: usize) -> u32 {
+    let mut passed: u32 = 0;
+    let mut x = start;
+    while x < known.len() {
+        if 0 < known[x] {
+            return passed + known[x];
+        }
+        passed += 1;
+        x = receiver(rows, columns, direction[x], x);
+    }
+    passed
+}
+
+// Notes the number of cells of the trail from a cell on, there and along the trail as far as it was not known.
+fn note_trail(
+    rows: usize,
+    columns: usize,
+    direction: &[u8],
+    known: &mut [u32],
+    start: usize,
+    cells: u32,
+) {
+    let mut left = cells;
+    let mut x = start;
+    while x < known.len() {
+        if 0 < known[x] {
+            return;
+        }
+        known[x] = left;
+        left -= 1;
+        x = receiver(rows, columns, direction[x], x);
+    }
+}
+
+// The number of cells of the trail from the cell x on, noted along the trail; 0 for NoData.
+fn trail_from(rows: usize, columns: usize, direction: &[u8], known: &mut [u32], x: usize) -> u32 {
+    if direction[x] == NO_CODE {
+        return 0;
+    }
+    let cells = trail_cells(rows, columns, direction, known, x);
+    note_trail(rows, columns, direction, known, x, cells);
+    cells
+}
+
+// The number of cells of the longest trail. The scratch holds zeros before and after.
+fn longest_cells(rows: usize, columns: usize, direction: &[u8], known: &mut [u32]) -> u32 {
+    let mut most: u32 = 0;
+    let mut x: usize = 0;
+    while x < known.len() {
+        most = larger(most, trail_from(rows, columns, direction, known, x));
+        x += 1;
+    }
+    most
+}
+
+// The steps of the longest trail; 0 on an empty map. The workspace is scratch, and holds zeros afterwards.
+pub(crate) fn longest_trail(
+    rows: usize,
+    columns: usize,
+    direction: &[u8],
+    workspace: &mut [u32],
+) -> u32 {
+    clear(workspace);
+    let cells = longest_cells(rows, columns, direction, workspace);
+    clear(workspace);
+    if cells < 1 { 0 } else { cells - 1 }
+}
