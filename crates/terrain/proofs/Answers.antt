@@ -15,7 +15,7 @@ use Rattle.terrain.specs.Quantities.{noData, sizeAccepted, heightAccepte
 use Rattle.terrain.specs.Cells.{Ready}
 use Rattle.terrain.specs.Drainage.{Drainage}
 use Rattle.terrain.specs.Answers.{Grids, Verdict, accepted, refused, allLong, firstBad, judge, answerOf, gridsOf, answer, after}
-use Rattle.terrain.proofs.Cells.{area-small, accepted-fine}
+use Rattle.terrain.proofs.Neighbours.{area-small, accepted-fine}
 use Rattle.terrain.proofs.Drainage.{drainage}
 
 pub size-is : (n : ℕ) → sizeAccepted n ≡ true → (1 ≤ n) × (n ≤ 1024)

@@ -23,12 +23,12 @@ use Rattle.terrain.specs.Direction.{directionsOf}
 use Rattle.terrain.specs.Trail.{Trail, ends, goes, OnValid, NeverRises, Meets, NeverTwice, lastOf, validsOf, mappedAt, flowsAt, nextAt, stepsIn, countAt, countsOf, countOffer, arrivalsOf, arriveOffer}
 use Rattle.terrain.specs.Drainage.{surfaceOf, outflowOf, Drainage}
 use Rattle.terrain.specs.Answers.{directionOf, countOf, validOf, longestTrail}
-use Rattle.terrain.proofs.Cells.{side-code, code-some, code-small, valid-level, level-valid, level-invalid}
-use Rattle.terrain.proofs.Filled.{filled-long, filled-above, filled-some, filled-valid, level-filled}
+use Rattle.terrain.proofs.Neighbours.{side-code, code-some, code-small, valid-level, level-valid, level-invalid}
+use Rattle.terrain.proofs.Filling.{filled-long, filled-above, filled-some, filled-valid, level-filled}
 use Rattle.terrain.proofs.Surfaces.{filled-le, filled-least, filled-attained, filled-drained, filled-lowest}
-use Rattle.terrain.proofs.Flat.{steps-kept, steps-still, steps-small}
-use Rattle.terrain.proofs.Direction.{Points, down, along, leaves, points, directions-long, direction-at, direction-none}
-use Rattle.terrain.proofs.Trail.{Falls, is-mapped, mapped-none, code-flows, code-next, flows-code, flows-mapped, steps-le, rank-falls, trail-of, leavesAt, total-leaves, counts-at, count-rule, arrival-rule, longest-greatest}
+use Rattle.terrain.proofs.Flats.{steps-kept, steps-still, steps-small}
+use Rattle.terrain.proofs.Directions.{Points, down, along, leaves, points, directions-long, direction-at, direction-none}
+use Rattle.terrain.proofs.Trails.{Falls, is-mapped, mapped-none, code-flows, code-next, flows-code, flows-mapped, steps-le, rank-falls, trail-of, leavesAt, total-leaves, counts-at, count-rule, arrival-rule, longest-greatest}
 
 module _ (rows cols : ℕ) (ground : List ℤ) (ready : Ready rows cols ground) where
   abbrev lv : List ℕ

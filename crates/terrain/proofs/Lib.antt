@@ -1,9 +1,9 @@
-pub mod Cells
-pub mod Filled
+pub mod Neighbours
+pub mod Filling
 pub mod Surfaces
-pub mod Flat
-pub mod Direction
-pub mod Trail
+pub mod Flats
+pub mod Directions
+pub mod Trails
 pub mod Drainage
 pub mod Answers
 pub mod Fields

@@ -12,8 +12,8 @@ use Rattle.terrain.specs.Cells.{neighbour, Valid, levelOf, heightOf, Rea
 use Rattle.terrain.specs.Surfaces.{Run, last, step, greatest, NeverRises, Drained}
 use Rattle.terrain.specs.Filled.{filledLevels, filledOf}
 use Rattle.terrain.specs.Drainage.{surfaceOf}
-use Rattle.terrain.proofs.Cells.{level-at, level-max, level-le, height-le, height-level, fine-at, valid-level}
-use Rattle.terrain.proofs.Filled.{run-valid, still-least, filled-kept, filled-still, greatest-fine, filled-reached, filled-above, filled-at, level-filled}
+use Rattle.terrain.proofs.Neighbours.{level-at, level-max, level-le, height-le, height-level, fine-at, valid-level}
+use Rattle.terrain.proofs.Filling.{run-valid, still-least, filled-kept, filled-still, greatest-fine, filled-reached, filled-above, filled-at, level-filled}
 
 module _ (rows cols : ℕ) (ground : List ℤ) (ready : Ready rows cols ground) where
   abbrev lv : List ℕ

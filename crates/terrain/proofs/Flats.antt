@@ -22,9 +22,9 @@ use Rattle.terrain.specs.Surfaces.{Run, last, step, NeverRises}
 use Rattle.terrain.specs.Filled.{top, lowestOf, filledLevels, filledOf}
 use Rattle.terrain.specs.Flat.{farSteps, lowerAt, hasLower, flatAt, seenAt, nearestOf, flatStepping, flatSteps, Walk, there, on, walked, Within}
 use Rattle.terrain.specs.Drainage.{surfaceOf}
-use Rattle.terrain.proofs.Cells.{rim-open, inland-valid, level-le, none-level, level-valid}
-use Rattle.terrain.proofs.Filled.{lowest-le, lowest-is, filled-long, filled-clear, filled-some, filled-above, level-filled}
-use Rattle.terrain.proofs.Cells.{valid-level}
+use Rattle.terrain.proofs.Neighbours.{rim-open, inland-valid, level-le, none-level, level-valid}
+use Rattle.terrain.proofs.Filling.{lowest-le, lowest-is, filled-long, filled-clear, filled-some, filled-above, level-filled}
+use Rattle.terrain.proofs.Neighbours.{valid-level}
 use Rattle.terrain.proofs.Surfaces.{drain}
 
 nor : (a b : Bool) → not (a || b) ≡ true → (a ≡ false) × (b ≡ false)

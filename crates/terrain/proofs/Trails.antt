@@ -18,7 +18,7 @@ use Rattle.laws.proofs.Pigeon.{pigeon}
 use Rattle.laws.proofs.Sums.{sum-ext, sum-le, sum-zero, sum-ones, sum-add, sum-swap, sum-one, sum-when, when-yes, when-no, when-zero, when-swap, when-add, when-le, when-ext, when-under, greatest-ext, greatest-mono, greatest-ge, greatest-le, greatest-is}
 use Rattle.terrain.specs.Cells.{neighbour, codeOf, sideOf}
 use Rattle.terrain.specs.Trail.{Trail, ends, goes, steps, mappedAt, flowsAt, nextAt, stepsIn, passesIn, countAt, countsOf, longestOf, intoAt, countOffer, arriveIn, arrivalsOf, arriveOffer}
-use Rattle.terrain.proofs.Cells.{across, across-small, side-code, code-side, code-small, side-leaves, neighbour-back, neighbour-only}
+use Rattle.terrain.proofs.Neighbours.{across, across-small, side-code, code-side, code-small, side-leaves, neighbour-back, neighbour-only}
 
 -- ---- one step
 

@@ -18,7 +18,7 @@ use Rattle.terrain.specs.Quantities.{noData, Fine}
 use Rattle.terrain.specs.Cells.{neighbour, Valid, levelOf, heightOf, levelsOf, validAt, Ready}
 use Rattle.terrain.specs.Surfaces.{Run, last, step, greatest, maxZ}
 use Rattle.terrain.specs.Filled.{top, lowestOf, filling, filledLevels, filledOf, Stands}
-use Rattle.terrain.proofs.Cells.{across, across-small, west, neighbour-back, level-at, level-max, level-fine, levels-long, level-height, fine-at, valid-level, level-valid, none-level, level-invalid}
+use Rattle.terrain.proofs.Neighbours.{across, across-small, west, neighbour-back, level-at, level-max, level-fine, levels-long, level-height, fine-at, valid-level, level-valid, none-level, level-invalid}
 
 -- ---- the lowest neighbour
 
