@@ -5,7 +5,7 @@ use Prim.Native.Nat.{ℕ, zero, suc, _+_, _≤_, _<_, zero-le}
 use native.Mathlib.Nat.{le-of-suc-le-suc, not-suc-le-zero}
 use native.Mathlib.Omega.{arith}
 use native.Mathlib.Decide.{decLt, ℕ-discrete}
-use lib.ListN.{length, getD, set, length-map, List·getD-eq-default}
+use lib.ListN.{length, getD, set, replicate, length-map, length-replicate, getD-replicate, List·getD-eq-default}
 use lib.Seq.{ext-getD, getD-set-same, getD-set-other}
 use Rattle.laws.specs.Lists.{from, tab, total, Agrees}
 
@@ -97,3 +97,7 @@ module _ {A : Type 0} (f : ℕ → A) (d : A) where
 
 pub agrees-map : {A B : Type 0} (f : A → B) (m : List A) (l : List B) (a : A) (b : B) → length l ≡ length m → Agrees (λ (i : ℕ). f (getD m i a)) b l (length m) → l ≡ map f m
 agrees-map f m l a b e s = ext-getD b l (map f m) (e ∙ sym (length-map m f)) (λ i h. s i (omega arith) ∙ sym (getD-map-in f m i a b (omega arith)))
+
+-- a list with one value throughout
+pub agrees-replicate : {A : Type 0} (a d : A) (l : List A) (n : ℕ) → length l ≡ n → Agrees (λ (i : ℕ). a) d l n → l ≡ replicate n a
+agrees-replicate a d l n e s = ext-getD d l (replicate n a) (e ∙ sym (length-replicate n a)) (λ i h. s i (omega arith) ∙ sym (getD-replicate n i a d (omega arith)))

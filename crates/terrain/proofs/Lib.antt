@@ -6,4 +6,5 @@ pub mod Directions
 pub mod Trails
 pub mod Drainage
 pub mod Answers
+pub mod Interior
 pub mod Fields

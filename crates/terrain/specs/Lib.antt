@@ -7,3 +7,4 @@ pub mod Direction
 pub mod Trail
 pub mod Drainage
 pub mod Answers
+pub mod Inside
