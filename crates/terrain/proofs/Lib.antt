@@ -8,3 +8,4 @@ pub mod Drainage
 pub mod Answers
 pub mod Interior
 pub mod Fields
+pub mod Cutoffs

@@ -8,3 +8,5 @@ pub mod Trail
 pub mod Drainage
 pub mod Answers
 pub mod Inside
+pub mod Settings
+pub mod Length

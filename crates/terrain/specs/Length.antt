@@ -1,0 +1,102 @@
+-- Document 01, "Length": channel cells, steepness, cutoffs, what one inflow brings, and the length of every cell, over filled levels, directions and flow counts. Assumes nothing.
+use mathlib.Core.List.{List}
+use mathlib.Core.Bool.{Bool, false, cond, _&&_}
+use Prim.Native.Nat.{ℕ, zero, suc, _+_, _-_, _*_}
+use lib.ListN.{getD}
+use lib.IntN.{ℤ}
+use lib.Dec.{ltb, leb, eqb}
+use Rattle.laws.specs.Lists.{tab}
+use Rattle.laws.specs.First.{someOf}
+use Rattle.laws.specs.Sums.{greatestTo, when}
+use Rattle.terrain.specs.Cells.{neighbour, sideOf, cardinal}
+use Rattle.terrain.specs.Filled.{filledLevels}
+use Rattle.terrain.specs.Direction.{steepOf, directionsOf}
+use Rattle.terrain.specs.Trail.{mappedAt, flowsAt, nextAt, intoAt, countsOf}
+use Rattle.terrain.specs.declared.settings.Threshold.{Threshold}
+use Rattle.terrain.specs.declared.settings.Threshold.the-variants.{Share, Over, Never}
+use Rattle.terrain.specs.declared.settings.Rules.{Rules}
+
+-- "A channel cell has 1,000·count > n·largest, or count > the given number of cells; equality is no channel."
+unfoldable pub isChannel : Threshold → ℕ → ℕ → Bool
+isChannel (Share n) largest count = ltb (n * largest) (1000 * count)
+isChannel (Over n) largest count = ltb n count
+isChannel Never largest count = false
+
+-- "The receiving cell's slope picks the cutoff; under 5 percent means 200·q < c²."
+unfoldable pub cutoffFor : ℕ → ℕ → ℕ → ℕ → ℕ
+cutoffFor low high side q = cond (ltb (200 * q) (side * side)) low high
+
+-- "Cut, for receiving q, inflow p and n percent: n is below 100, q < p, and 10,000·q ≤ (100 - n)²·p."
+unfoldable pub isCut : ℕ → ℕ → ℕ → Bool
+isCut n q p = ltb n 100 && (ltb q p && leb (10000 * q) ((100 - n) * (100 - n) * p))
+
+-- where a length starts: "No inflow: 5,000", and between two flat cells
+abbrev pub startLength : ℕ
+startLength = 5000
+
+-- the step over the side k: "10,000, or 14,142 if diagonal"
+unfoldable pub stepOver : ℕ → ℕ
+stepOver k = cond (cardinal k) 10000 14142
+
+-- "Each inflow brings one amount. Both steepnesses 0: 5,000. A cut: 0. Else its length plus 10,000, or 14,142 if diagonal."
+unfoldable pub amountOf : ℕ → ℕ → ℕ → ℕ → ℕ → ℕ
+unfolding isCut
+amountOf n q p step len = cond (eqb q 0 && eqb p 0) startLength (cond (isCut n q p) 0 (len + step))
+
+-- the length of a cell that is no channel, by whether it has an inflow and by the greatest amount
+abbrev pub lengthBy : Bool → ℕ → ℕ
+lengthBy inflow greatest = cond inflow greatest startLength
+
+-- "the largest flow count"
+unfoldable pub largestOf : ℕ → List ℕ → ℕ
+unfolding greatestTo
+largestOf n count = greatestTo n (λ x. getD count x 0)
+
+module _ (rows cols side : ℕ) (rules : Rules) (lv dir count : List ℕ) where
+  -- the steepness of a cell is that of its own direction; 0 where it points at no neighbour
+  unfoldable pub steepnessAt : ℕ → ℕ
+  unfolding flowsAt nextAt sideOf
+  steepnessAt x = cond (flowsAt rows cols dir x) (steepOf (sideOf (getD dir x 255)) (getD lv x 0 - getD lv (nextAt rows cols dir x) 0)) 0
+
+  -- the cutoff that the cell z uses for its inflows, in percent
+  unfoldable pub cutoffAt : ℕ → ℕ
+  unfolding cutoffFor steepnessAt
+  cutoffAt z = cutoffFor (rules .low) (rules .high) side (steepnessAt z)
+
+  unfoldable pub channelAt : ℕ → Bool
+  unfolding isChannel largestOf
+  channelAt z = isChannel (rules .threshold) (largestOf (rows * cols) count) (getD count z 0)
+
+  -- what the neighbour at the side k of z brings to z, if it points at z; f has the lengths
+  unfoldable pub bringsAt : (ℕ → ℕ) → ℕ → ℕ → ℕ
+  unfolding neighbour sideOf steepnessAt cutoffAt amountOf stepOver
+  bringsAt f z k =
+      let y = neighbour rows cols z k in
+      amountOf (cutoffAt z) (steepnessAt z) (steepnessAt y) (stepOver (sideOf (getD dir y 255))) (f y)
+
+  -- the length of z by the lengths f of its inflows: "The greatest amount is the length." A channel and a NoData cell have 0.
+  unfoldable pub lengthFrom : (ℕ → ℕ) → ℕ → ℕ
+  unfolding mappedAt channelAt someOf intoAt greatestTo when bringsAt
+  lengthFrom f z =
+      cond (mappedAt rows cols dir z)
+      (cond (channelAt z) 0 (lengthBy (someOf (intoAt rows cols dir z) 8) (greatestTo 8 (λ k. when (intoAt rows cols dir z k) (bringsAt f z k)))))
+      0
+
+  -- the length of z, by trails to it of at most m steps
+  unfoldable pub lengthIn : ℕ → ℕ → ℕ
+  unfolding lengthFrom
+  lengthIn zero z = lengthFrom (λ y. 0) z
+  lengthIn (suc m) z = lengthFrom (lengthIn m) z
+
+  unfoldable pub lengthsOf : List ℕ
+  unfolding tab lengthIn
+  lengthsOf = tab (rows * cols) (lengthIn (rows * cols))
+
+-- the lengths of a map
+unfoldable pub lengthOf : ℕ → ℕ → ℕ → Rules → List ℤ → List ℕ
+unfolding filledLevels directionsOf countsOf lengthsOf
+lengthOf rows cols side rules ground =
+    let lv = filledLevels rows cols ground in
+    let dir = directionsOf rows cols lv in
+    let count = countsOf rows cols dir in
+    lengthsOf rows cols side rules lv dir count
