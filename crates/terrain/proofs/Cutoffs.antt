@@ -14,7 +14,7 @@ use lib.Ieee.{Float, nan, inf, fin, up, down, eq, div, ofInt, ofBits, binary64}
 use lib.Ieee.Fits.{and-l, and-r}
 use lib.Ieee.Positive.{num, den, den-pos}
 use Rattle.laws.proofs.Tests.{two}
-use Rattle.laws.proofs.First.{first-is}
+use Rattle.laws.proofs.First.{first-is, first-holds}
 use Rattle.terrain.specs.declared.settings.Channel.{Channel}
 use Rattle.terrain.specs.declared.settings.Channel.the-variants.{Percentage, Cells, NoChannel}
 use Rattle.terrain.specs.declared.settings.Settings.{Settings}
@@ -132,7 +132,11 @@ module _ (d top : ℕ) (rising : Rising d top) where
       let b = subst T (sym q) tt in
       elim (decLt i j) [ yes g ↦ absurd (apart x i j g l a b) | no f ↦ elim (decLt j i) [ yes g ↦ absurd (apart x j i g h b a) | no g ↦ omega arith ] ]
 
-  -- a float that equals the quotient of an n up to top means that n
+  -- what a float means has its quotient, and a float that has the quotient of an n up to top means that n
+  pub whole-holds : (x : Float) → wholeOf d top x ≤ top → eq x (quotient d (wholeOf d top x)) ≡ true
+  unfolding wholeOf
+  whole-holds x h = first-holds (λ m. eq x (quotient d m)) (suc top) (omega arith)
+
   pub whole-is : (x : Float) (n : ℕ) → n ≤ top → eq x (quotient d n) ≡ true → wholeOf d top x ≡ n
   unfolding wholeOf
   whole-is x n h e =
@@ -213,9 +217,11 @@ All (c ∷ l) = Holds c × All l
 
 unfoldable pub claims : List Claim
 claims =
+    -- 0.29, 0.57 and 0.58 mean 29, 57 and 58; zero and minus zero mean 0, and 1.0 means 100
     cutoffs 0x3FD28F5C28F5C28F 0x3FE23D70A3D70A3D (rulesOf 29 57 Never) ∷
     cutoffs 0x3FE28F5C28F5C28F 0x0000000000000000 (rulesOf 58 0 Never) ∷
     cutoffs 0x8000000000000000 0x3FF0000000000000 (rulesOf 0 100 Never) ∷
+    -- as the low cutoff 0.285, -0.01, 1.01, the infinities, NaN and the floats beside 0.29
     cutoffs 0x3FD23D70A3D70A3D 0x3FE0000000000000 (Refused 1) ∷
     cutoffs 0xBF847AE147AE147B 0x3FE0000000000000 (Refused 1) ∷
     cutoffs 0x3FF028F5C28F5C29 0x3FE0000000000000 (Refused 1) ∷
@@ -224,6 +230,7 @@ claims =
     cutoffs 0x7FF8000000000000 0x3FE0000000000000 (Refused 1) ∷
     cutoffs 0x3FD28F5C28F5C290 0x3FE0000000000000 (Refused 1) ∷
     cutoffs 0x3FD28F5C28F5C28E 0x3FE0000000000000 (Refused 1) ∷
+    -- as the high one 0.285, -0.01, 1.01, the infinities and NaN; 2.0 in both places
     cutoffs 0x0000000000000000 0x3FD23D70A3D70A3D (Refused 2) ∷
     cutoffs 0x0000000000000000 0xBF847AE147AE147B (Refused 2) ∷
     cutoffs 0x0000000000000000 0x3FF028F5C28F5C29 (Refused 2) ∷
@@ -231,12 +238,14 @@ claims =
     cutoffs 0x0000000000000000 0xFFF0000000000000 (Refused 2) ∷
     cutoffs 0x0000000000000000 0x7FF8000000000000 (Refused 2) ∷
     cutoffs 0x4000000000000000 0x4000000000000000 (Refused 1) ∷
+    -- the percentages minus zero, 0.1, 1.0 and 28.9; 0.05 and NaN
     channel (Percentage (ofBits binary64 0x8000000000000000)) (rulesOf 50 50 (Share 0)) ∷
     channel (Percentage (ofBits binary64 0x3FB999999999999A)) (rulesOf 50 50 (Share 1)) ∷
     channel (Percentage (ofBits binary64 0x3FF0000000000000)) (rulesOf 50 50 (Share 10)) ∷
     channel (Percentage (ofBits binary64 0x403CE66666666666)) (rulesOf 50 50 (Share 289)) ∷
     channel (Percentage (ofBits binary64 0x3FA999999999999A)) (Refused 3) ∷
     channel (Percentage (ofBits binary64 0x7FF8000000000000)) (Refused 3) ∷
+    -- any number of cells, and no channel
     channel (Cells 0) (rulesOf 50 50 (Over 0)) ∷
     channel (Cells 4294967295) (rulesOf 50 50 (Over 4294967295)) ∷
     channel NoChannel (rulesOf 50 50 Never) ∷

@@ -9,3 +9,4 @@ pub mod Answers
 pub mod Interior
 pub mod Fields
 pub mod Cutoffs
+pub mod LengthFields
