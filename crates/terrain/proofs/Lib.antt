@@ -4,6 +4,8 @@ pub mod Surfaces
 pub mod Flats
 pub mod Directions
 pub mod Trails
+pub mod Counting
+pub mod Following
 pub mod Drainage
 pub mod Answers
 pub mod Interior
