@@ -7,4 +7,5 @@ pub mod Trails
 pub mod Drainage
 pub mod Answers
 pub mod Interior
+pub mod Flooding
 pub mod Fields

@@ -8,3 +8,4 @@ pub mod Trail
 pub mod Drainage
 pub mod Answers
 pub mod Inside
+pub mod Flood
