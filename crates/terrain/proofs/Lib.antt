@@ -9,4 +9,5 @@ pub mod Following
 pub mod Drainage
 pub mod Answers
 pub mod Interior
+pub mod Flooding
 pub mod Fields

@@ -8,4 +8,5 @@ pub mod Trail
 pub mod Drainage
 pub mod Answers
 pub mod Inside
+pub mod Flood
 pub mod Directed
