@@ -5,14 +5,15 @@ use mathlib.Core.Bool.{Bool, true, false, cond, _||_, true≢false, false≢true
 use Prim.Native.Nat.{ℕ, zero, suc, _+_, _-_, _≤_, _<_}
 use native.Mathlib.Omega.{arith}
 use native.Mathlib.Decide.{decLt, ℕ-discrete}
-use lib.ListN.{length, getD, set, length-set, List·getD-eq-default}
+use lib.ListN.{length, getD, set, replicate, length-set, length-replicate, List·getD-eq-default}
 use lib.Seq.{ext-getD, getD-set-same, getD-set-other}
 use lib.Dec.{ltb}
-use borrow.Author.Tests.{ltb-true, ltb-false}
+use borrow.Author.Tests.{ltb-true, ltb-false, lt-ltb, le-ltb}
 use borrow.Author.Count.{below-more}
 use Rattle.laws.specs.Lists.{total}
-use Rattle.laws.specs.Raise.{raisedOf, Under, Still, Rule, Sweeping}
-use Rattle.laws.proofs.Lists.{total-set, total-le}
+use Rattle.laws.specs.Settle.{dueOf}
+use Rattle.laws.specs.Raise.{raisedOf, Under, Still, Rule, Sweeping, Raising}
+use Rattle.laws.proofs.Lists.{getD-zeros, total-set, total-le}
 
 -- any value that is at most F's may be stored
 pub store-under : (F l : List ℕ) → Under F l → (x v : ℕ) → x < length F → v ≤ getD F x 0 → Under F (set l x v)
@@ -21,6 +22,21 @@ store-under F l k x v h le =
       long = length-set l x v ∙ k .long;
       under = (λ y. elim (ℕ-discrete y x) [ yes e ↦ omega (arith, getD-set-same l x v 0 (omega (arith, k .long)), ap (λ (j : ℕ). getD (set l x v) j 0) e, ap (λ (j : ℕ). getD F j 0) e) | no d ↦ omega (arith, getD-set-other l x y v 0 d, k .under y) ]);
     }
+
+-- raising begins with zeros
+pub zeros-under : (F : List ℕ) (n : ℕ) → n ≡ length F → Under F (replicate n 0)
+zeros-under F n e = record { long = length-replicate n 0 ∙ e; under = (λ x. omega (arith, getD-zeros n x)) }
+
+-- one raising, as a program makes it: v is the offer, and is stored if it is higher
+pub raise-up : (offer : List ℕ → ℕ → ℕ) (l : List ℕ) (x v : ℕ) → v ≡ offer l x → getD l x 0 < v → (true ≡ ltb (getD l x 0) (offer l x)) × (set l x v ≡ raisedOf offer l x)
+raise-up offer l x v e h =
+    let t = lt-ltb (getD l x 0) (offer l x) (omega arith) in
+    (sym t, ap (set l x) e ∙ sym (ap (λ (b : Bool). cond b (set l x (offer l x)) l) t))
+
+pub raise-keep : (offer : List ℕ → ℕ → ℕ) (l : List ℕ) (x v : ℕ) → v ≡ offer l x → v ≤ getD l x 0 → (false ≡ ltb (getD l x 0) (offer l x)) × (l ≡ raisedOf offer l x)
+raise-keep offer l x v e h =
+    let t = le-ltb (getD l x 0) (offer l x) (omega arith) in
+    (sym t, sym (ap (λ (b : Bool). cond b (set l x (offer l x)) l) t))
 
 module _ (F : List ℕ) (offer : List ℕ → ℕ → ℕ) (pot : ℕ → ℕ) (bound : ℕ) (rule : Rule F offer pot bound) where
   done-at : (l : List ℕ) → Under F l → Still F offer l → (m x : ℕ) → bound - pot x < m → getD l x 0 ≡ getD F x 0
@@ -77,3 +93,15 @@ module _ (F : List ℕ) (offer : List ℕ → ℕ → ℕ) (pot : ℕ → ℕ) (
   -- a sweep that raised nothing ends at F
   pub sweep-done : (l₀ l : List ℕ) → Sweeping F offer l₀ l (length F) false → l ≡ F
   sweep-done l₀ l s = done-is l (s .kept) (s .still refl)
+
+  -- ---- sweeps until one raises nothing
+
+  pub raising-none : (l : List ℕ) → Under F l → Raising F l true
+  raising-none l k = record { kept = k; done = (λ e. absurd (true≢false e)) }
+
+  pub raising-more : (l₀ l : List ℕ) (x : ℕ) (again : Bool) → x ≡ length F → Sweeping F offer l₀ l x again → Raising F l again
+  raising-more l₀ l x again e s = record { kept = s .kept; done = (λ q. sweep-done l₀ l (subst₂ (Sweeping F offer l₀ l) e q s)) }
+
+  pub raising-less : (l₀ l : List ℕ) (x : ℕ) (again : Bool) → Sweeping F offer l₀ l x again → total F - total l + dueOf again < total F - total l₀ + 1
+  raising-less l₀ l x true s = omega (arith, sweep-less l₀ l x s)
+  raising-less l₀ l x false s = omega (arith, s .same refl)

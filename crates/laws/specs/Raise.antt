@@ -32,3 +32,8 @@ pub record Sweeping (F : List ℕ) (offer : List ℕ → ℕ → ℕ) (l₀ l : 
   pub more : rose ≡ true → total l₀ < total l
   pub same : rose ≡ false → total l ≡ total l₀
   pub still : rose ≡ false → (y : ℕ) → y < x → offer l y ≤ getD l y 0
+
+-- sweeps until one raises nothing: the list, and whether another is due
+pub record Raising (F l : List ℕ) (again : Bool) : Type 0 where
+  pub kept : Under F l
+  pub done : again ≡ false → l ≡ F

@@ -11,13 +11,14 @@ use lib.ListN.{length, getD, List·getD-map, List·getD-eq-default}
 use lib.IntN.{ℤ}
 use lib.Signed.{leZ}
 use borrow.Author.Tests.{ltb-true, lt-ltb, le-ltb}
-use Rattle.laws.specs.Settle.{Kept, Still, Rule}
+use Rattle.laws.specs.Settle.{Rule}
 use Rattle.laws.proofs.Settle.{settled-done, done-is}
 use Rattle.laws.proofs.Lists.{in-list}
 use Rattle.terrain.specs.Quantities.{noData, Fine}
 use Rattle.terrain.specs.Cells.{neighbour, Valid, levelOf, heightOf, levelsOf, validAt, Ready}
 use Rattle.terrain.specs.Surfaces.{Run, last, step, greatest, maxZ}
 use Rattle.terrain.specs.Filled.{top, lowestOf, filling, filledLevels, filledOf, Stands}
+use Rattle.terrain.specs.Flood.{FillKept, FillStill}
 use Rattle.terrain.proofs.Neighbours.{across, across-small, west, neighbour-back, level-at, level-max, level-fine, levels-long, level-height, fine-at, valid-level, level-valid, none-level, level-invalid}
 
 -- ---- the lowest neighbour
@@ -66,13 +67,6 @@ module _ (rows cols : ℕ) (ground : List ℤ) (ready : Ready rows cols ground) 
   abbrev nb : ℕ → ℕ → ℕ
   nb = neighbour rows cols
 
-  -- every list on the way down
-  abbrev pub FillKept : List ℕ → Type 0
-  FillKept = Kept (filling rows cols (levelsOf ground)) (Stands rows cols ground)
-
-  abbrev pub FillStill : List ℕ → Type 0
-  FillStill = Still (filling rows cols (levelsOf ground))
-
   active : (x : ℕ) → 0 < getD g x 0 → validAt g x ≡ true
   active x v = lt-ltb 0 (getD g x 0) v
 
@@ -81,7 +75,7 @@ module _ (rows cols : ℕ) (ground : List ℤ) (ready : Ready rows cols ground) 
   stands-rim x k v p h e le = (last x (record { valid = level-valid ready x p; side = k; small = h; none = level-invalid ready (nb x k) e }), omega (arith, level-at ground x))
 
   -- a cell can stand at the higher of its ground and a neighbour's level
-  pub stands-beside : (l : List ℕ) → FillKept l → (x k v : ℕ) → 0 < getD g x 0 → k < 8 → getD l (nb x k) 0 < top → max (getD g x 0) (getD l (nb x k) 0) ≤ v → Stands rows cols ground x v
+  pub stands-beside : (l : List ℕ) → FillKept rows cols ground l → (x k v : ℕ) → 0 < getD g x 0 → k < 8 → getD l (nb x k) 0 < top → max (getD g x 0) (getD l (nb x k) 0) ≤ v → Stands rows cols ground x v
   stands-beside l kept x k v p h low le =
       elim (ℕ-discrete (getD g (nb x k) 0) 0) [
         | yes z ↦ stands-rim x k v p h z (omega arith)
@@ -89,7 +83,7 @@ module _ (rows cols : ℕ) (ground : List ℤ) (ready : Ready rows cols ground) 
       ]
 
   -- the same seen from the neighbour: y, at the side k of x, can stand at the higher of its ground and the level of x
-  pub stands-across : (l : List ℕ) → FillKept l → (x k v : ℕ) → x < rows * cols → k < 8 → 0 < getD g (nb x k) 0 → getD l x 0 < top → max (getD g (nb x k) 0) (getD l x 0) ≤ v → Stands rows cols ground (nb x k) v
+  pub stands-across : (l : List ℕ) → FillKept rows cols ground l → (x k v : ℕ) → x < rows * cols → k < 8 → 0 < getD g (nb x k) 0 → getD l x 0 < top → max (getD g (nb x k) 0) (getD l x 0) ≤ v → Stands rows cols ground (nb x k) v
   stands-across l kept x k v i h p low le =
       let inside : nb x k < rows * cols = omega (arith, in-list g (nb x k) p, levels-long ready) in
       let back : nb (nb x k) (across k) ≡ x = neighbour-back rows cols x k i h inside in
@@ -101,7 +95,7 @@ module _ (rows cols : ℕ) (ground : List ℤ) (ready : Ready rows cols ground) 
   run-valid (step x k v h r) = v
 
   -- no run stays below a list that no offer lowers
-  pub still-least : (l : List ℕ) → FillKept l → FillStill l → {x : ℕ} (r : Run rows cols ground x) → getD l x 0 ≤ levelOf (greatest rows cols ground r)
+  pub still-least : (l : List ℕ) → FillKept rows cols ground l → FillStill rows cols ground l → {x : ℕ} (r : Run rows cols ground x) → getD l x 0 ≤ levelOf (greatest rows cols ground r)
   still-least l k s (last x r) =
       omega (arith, s x (active x (valid-level ready x (r .valid))), lowest-le rows cols l x (r .side) 8 (r .small), k .clear (nb x (r .side)) (le-ltb 0 (getD g (nb x (r .side)) 0) (omega (arith, none-level ready (nb x (r .side)) (r .none)))), level-at ground x)
   still-least l k s (step x j v h r) =
@@ -115,20 +109,20 @@ module _ (rows cols : ℕ) (ground : List ℤ) (ready : Ready rows cols ground) 
         least = (λ l k s x a v p. omega (arith, still-least l k s (p .0), p .1));
       }
     where
-      fair : (l : List ℕ) → FillKept l → (x : ℕ) → validAt g x ≡ true → max (getD g x 0) (lowestOf rows cols l x 8) < top → Stands rows cols ground x (max (getD g x 0) (lowestOf rows cols l x 8))
+      fair : (l : List ℕ) → FillKept rows cols ground l → (x : ℕ) → validAt g x ≡ true → max (getD g x 0) (lowestOf rows cols l x 8) < top → Stands rows cols ground x (max (getD g x 0) (lowestOf rows cols l x 8))
       fair l k x a h = let i = lowest-is rows cols l x 8 (omega arith) in stands-beside l k x (i .0) _ (ltb-true 0 (getD g x 0) a) (i .1) (omega (arith, i .2)) (omega (arith, i .2))
 
   -- ---- the definition, and any list like it
 
-  pub filled-kept : FillKept (filledLevels rows cols ground)
+  pub filled-kept : FillKept rows cols ground (filledLevels rows cols ground)
   unfolding filledLevels
   filled-kept = settled-done (filling rows cols g) (Stands rows cols ground) filling-rule .0
 
-  pub filled-still : FillStill (filledLevels rows cols ground)
+  pub filled-still : FillStill rows cols ground (filledLevels rows cols ground)
   unfolding filledLevels
   filled-still = settled-done (filling rows cols g) (Stands rows cols ground) filling-rule .1
 
-  pub filled-is : (l : List ℕ) → FillKept l → FillStill l → l ≡ filledLevels rows cols ground
+  pub filled-is : (l : List ℕ) → FillKept rows cols ground l → FillStill rows cols ground l → l ≡ filledLevels rows cols ground
   unfolding filledLevels
   filled-is l k s = done-is (filling rows cols g) (Stands rows cols ground) filling-rule l k s
 

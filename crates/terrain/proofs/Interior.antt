@@ -102,6 +102,9 @@ module _ (rows cols : ℕ) where
   pub inside-is : (x k : ℕ) → Inside rows cols x → k < 8 → besideOf cols x k ≡ neighbour rows cols x k
   inside-is x k i h = beside-is x k (inside-neighbour x k i h)
 
+  pub inside-lt : (x k y : ℕ) → Inside rows cols x → k < 8 → y ≡ besideOf cols x k → y < rows * cols
+  inside-lt x k y i h e = omega (arith, inside-is x k i h, inside-neighbour x k i h)
+
   -- the cells from one that is inside up to the last of its row are inside
   pub run-inside : (x : ℕ) → Inside rows cols x → RunsTo rows cols x (x + cols - 1 - x % cols)
   run-inside x i =

@@ -4,9 +4,12 @@ pub mod Surfaces
 pub mod Flats
 pub mod Directions
 pub mod Trails
+pub mod Counting
+pub mod Following
 pub mod Drainage
 pub mod Answers
 pub mod Interior
+pub mod Flooding
 pub mod Fields
 pub mod Cutoffs
 pub mod LengthFields

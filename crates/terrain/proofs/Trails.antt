@@ -282,7 +282,7 @@ module _ (rows cols : ℕ) (dir : List ℕ) (pot : ℕ → ℕ) (falls : Falls r
     abbrev into : ℕ → ℕ → Bool
     into = intoAt rows cols dir
 
-    into-flows : (z k : ℕ) → into z k ≡ true → (goesOn (nb z k) ≡ true) × (to (nb z k) ≡ z)
+    pub into-flows : (z k : ℕ) → intoAt rows cols dir z k ≡ true → (flowsAt rows cols dir (neighbour rows cols z k) ≡ true) × (nextAt rows cols dir (neighbour rows cols z k) ≡ z)
     unfolding intoAt
     into-flows z k e = let w = and-both (goesOn (nb z k)) (eqb (to (nb z k)) z) e in (w .0, eqb-true (to (nb z k)) z (w .1))
 
@@ -420,7 +420,7 @@ module _ (rows cols : ℕ) (dir : List ℕ) (pot : ℕ → ℕ) (falls : Falls r
         ∙ sym (count-local z v))
         ∙ sym (counts-at z h)
 
-    offer-le : (l m : List ℕ) (z : ℕ) → ((k : ℕ) → into z k ≡ true → getD l (nb z k) 0 ≤ getD m (nb z k) 0) → countOffer rows cols dir l z ≤ countOffer rows cols dir m z
+    pub offer-le : (l m : List ℕ) (z : ℕ) → ((k : ℕ) → intoAt rows cols dir z k ≡ true → getD l (neighbour rows cols z k) 0 ≤ getD m (neighbour rows cols z k) 0) → countOffer rows cols dir l z ≤ countOffer rows cols dir m z
     unfolding countOffer
     offer-le l m z h =
         when-le (cell z) (1 + sumTo 8 (λ k. when (into z k) (getD l (nb z k) 0))) (1 + sumTo 8 (λ k. when (into z k) (getD m (nb z k) 0)))

@@ -10,3 +10,5 @@ pub mod Answers
 pub mod Inside
 pub mod Settings
 pub mod Length
+pub mod Flood
+pub mod Directed

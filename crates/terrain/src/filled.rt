@@ -1,6 +1,20 @@
 // Filled heights: depression filling by priority flood with buckets (Barnes, Lehman and Mulla 2014). Every store lowers a
 // level to one that the cell's ground and a neighbour's level allow; a cell that nothing can lower any more has its filled level.
 // A level is a height plus 999,900, so NoData is 0, and a place off the grid reads as 0 too: a rim cell is one that sees a 0.
+ghost use mathlib.Core.Path.{_≡_};
+ghost use mathlib.Core.Bool.{cond};
+ghost use mathlib.Core.List.{map};
+ghost use Prim.Native.Nat.{ℕ, _*_, _≤_, _<_, max};
+ghost use lib.ListN.{length, getD};
+ghost use lib.IntN.{pos};
+ghost use lib.Dec.{ltb};
+ghost use Rattle.laws.specs.Sums.{sumTo, when};
+ghost use Rattle.laws.specs.Settle.{relaxedOf, Sweeping};
+ghost use Rattle.terrain.specs.Quantities.{Fine};
+ghost use Rattle.terrain.specs.Cells.{levelsOf, heightOf, validAt, Ready};
+ghost use Rattle.terrain.specs.Inside.{Sized, Inside, RunsTo};
+ghost use Rattle.terrain.specs.Filled.{top, lowestOf, filling, filledLevels, Stands};
+ghost use Rattle.terrain.specs.Flood.{Flooding, Lowered, startsOf, reachedOf, rimReachedOf, FillKept, FillStill, FillEased, Loose, LooseIn};
 use crate::cells::beside;
 use crate::cells::is_inside;
 use crate::cells::larger;
@@ -20,17 +34,26 @@ pub(crate) const UNREACHED: u32 = 1900000;
 const NO_BAND: usize = 1024;
 
 // The level of the ground at the cell x.
-fn ground_level(ground: &[i32], x: usize) -> u32 {
+fn ground_level(ground: &[i32], x: usize) -> u32
+    requires { ⌜ (x < length (now ground)) × Fine (getD (now ground) x (pos 0)) ⌝ }
+    ensures { λ r. ⌜ r ≡ getD (levelsOf (now (ground .entry))) x 0 ⌝ }
+{
     (ground[x] + 999900) as u32
 }
 
 // The height of a level.
-fn height_of(level: u32) -> i32 {
+fn height_of(level: u32) -> i32
+    requires { ⌜ level < 2000000 ⌝ }
+    ensures { λ r. ⌜ r ≡ heightOf level ⌝ }
+{
     level as i32 - 999900
 }
 
 // The lowest level beside a cell x that is inside.
-pub(crate) fn lowest_inside(columns: usize, level: &[u32], x: usize) -> u32 {
+pub(crate) fn lowest_inside(columns: usize, level: &[u32], x: usize) -> u32
+    requires { ⌜ ((rows : ℕ) × Sized rows columns × (length (now level) ≡ rows * columns) × Inside rows columns x) ⌝ }
+    ensures { λ r. ⌜ ((rows : ℕ) → Inside rows columns x → r ≡ lowestOf rows columns (now (level .entry)) x 8) ⌝ }
+{
     let mut low: u32 = UNREACHED;
     let mut k: usize = 0;
     while k < 8 {
@@ -41,7 +64,10 @@ pub(crate) fn lowest_inside(columns: usize, level: &[u32], x: usize) -> u32 {
 }
 
 // The lowest level beside any cell x.
-pub(crate) fn lowest_near(rows: usize, columns: usize, level: &[u32], x: usize) -> u32 {
+pub(crate) fn lowest_near(rows: usize, columns: usize, level: &[u32], x: usize) -> u32
+    requires { ⌜ Sized rows columns × (x < 1048576) ⌝ }
+    ensures { λ r. ⌜ r ≡ lowestOf rows columns (now (level .entry)) x 8 ⌝ }
+{
     let mut low: u32 = UNREACHED;
     let mut k: usize = 0;
     while k < 8 {
@@ -52,12 +78,17 @@ pub(crate) fn lowest_near(rows: usize, columns: usize, level: &[u32], x: usize) 
 }
 
 // The level that a cell with this level of ground starts from.
-fn start_level(g: u32) -> u32 {
+fn start_level(g: u32) -> u32
+    ensures { λ r. ⌜ r ≡ cond (ltb 0 g) top 0 ⌝ }
+{
     if g < 1 { 0 } else { UNREACHED }
 }
 
 // Sets every level to where it starts from.
-fn start(ground: &[i32], level: &mut [u32]) {
+fn start(ground: &[i32], level: &mut [u32])
+    requires { ⌜ ((rows : ℕ) × (columns : ℕ) × Ready rows columns (now ground) × (length (now level) ≡ rows * columns)) ⌝ }
+    ensures { λ r. ⌜ now (level .exit) ≡ startsOf (length (now (level .entry))) (levelsOf (now (ground .entry))) ⌝ }
+{
     let mut x: usize = 0;
     while x < level.len() {
         level[x] = start_level(ground_level(ground, x));
@@ -74,7 +105,10 @@ fn reach(
     band: usize,
     h: u32,
     y: usize,
-) {
+)
+    requires { ⌜ ((rows : ℕ) × (columns : ℕ) × Flooding rows columns (now ground) (now level) (now links)) ⌝ }
+    ensures { λ r. ⌜ now (level .exit) ≡ reachedOf (levelsOf (now (ground .entry))) (now (level .entry)) h y ⌝ }
+{
     if value_at(level, y) < UNREACHED {
         return;
     }
@@ -91,7 +125,10 @@ fn reach_rim(
     links: &mut [u32],
     low: u32,
     x: usize,
-) {
+)
+    requires { ⌜ ((rows : ℕ) × (columns : ℕ) × Flooding rows columns (now ground) (now level) (now links)) ⌝ }
+    ensures { λ r. ⌜ now (level .exit) ≡ rimReachedOf (levelsOf (now (ground .entry))) (now (level .entry)) low x ⌝ }
+{
     if 0 < low {
         return;
     }
@@ -107,7 +144,10 @@ fn reach_rim_run(
     links: &mut [u32],
     from: usize,
     to: usize,
-) {
+)
+    requires { ⌜ ((rows : ℕ) × Flooding rows columns (now ground) (now level) (now links) × RunsTo rows columns from to) ⌝ }
+    ensures { λ r. ⌜ ((rows : ℕ) → Ready rows columns (now (ground .entry)) → RunsTo rows columns from to → FillEased rows columns (now (ground .entry)) (now (level .entry)) (now (level .exit))) ⌝ }
+{
     let mut x = from;
     while x < to {
         let low = lowest_inside(columns, level, x);
@@ -124,7 +164,10 @@ fn reach_rims(
     level: &mut [u32],
     heads: &mut [u32; 2048],
     links: &mut [u32],
-) {
+)
+    requires { ⌜ Flooding rows columns (now ground) (now level) (now links) ⌝ }
+    ensures { λ r. ⌜ FillEased rows columns (now (ground .entry)) (now (level .entry)) (now (level .exit)) ⌝ }
+{
     let mut x: usize = 0;
     while x < level.len() {
         let end = run_end(rows, columns, x);
@@ -145,7 +188,10 @@ fn spread_inside(
     band: usize,
     h: u32,
     x: usize,
-) {
+)
+    requires { ⌜ ((rows : ℕ) × Flooding rows columns (now ground) (now level) (now links) × Inside rows columns x × (h ≡ getD (now level) x 0)) ⌝ }
+    ensures { λ r. ⌜ ((rows : ℕ) → Ready rows columns (now (ground .entry)) → Inside rows columns x → FillEased rows columns (now (ground .entry)) (now (level .entry)) (now (level .exit))) ⌝ }
+{
     let mut k: usize = 0;
     while k < 8 {
         reach(ground, level, heads, links, band, h, beside(columns, x, k));
@@ -164,7 +210,10 @@ fn spread_near(
     band: usize,
     h: u32,
     x: usize,
-) {
+)
+    requires { ⌜ Flooding rows columns (now ground) (now level) (now links) × (x < rows * columns) × (h ≡ getD (now level) x 0) ⌝ }
+    ensures { λ r. ⌜ FillEased rows columns (now (ground .entry)) (now (level .entry)) (now (level .exit)) ⌝ }
+{
     let mut k: usize = 0;
     while k < 8 {
         reach(
@@ -190,7 +239,10 @@ fn spread(
     links: &mut [u32],
     band: usize,
     x: usize,
-) {
+)
+    requires { ⌜ Flooding rows columns (now ground) (now level) (now links) × (x < rows * columns) ⌝ }
+    ensures { λ r. ⌜ FillEased rows columns (now (ground .entry)) (now (level .entry)) (now (level .exit)) ⌝ }
+{
     let h = level[x];
     if is_inside(rows, columns, x) {
         spread_inside(columns, ground, level, heads, links, band, h, x);
@@ -209,7 +261,10 @@ fn drain(
     links: &mut [u32],
     band: usize,
     list: usize,
-) {
+)
+    requires { ⌜ Flooding rows columns (now ground) (now level) (now links) × (list < 2048) ⌝ }
+    ensures { λ r. ⌜ FillEased rows columns (now (ground .entry)) (now (level .entry)) (now (level .exit)) ⌝ }
+{
     let mut turns: usize = 0;
     while turns < level.len() {
         let x = pop(heads, links, list);
@@ -230,7 +285,10 @@ fn flood_band(
     heads: &mut [u32; 2048],
     links: &mut [u32],
     band: usize,
-) {
+)
+    requires { ⌜ Flooding rows columns (now ground) (now level) (now links) × (band < 1024) ⌝ }
+    ensures { λ r. ⌜ FillEased rows columns (now (ground .entry)) (now (level .entry)) (now (level .exit)) ⌝ }
+{
     if heads[band] < 1 {
         return;
     }
@@ -243,7 +301,10 @@ fn flood_band(
 }
 
 // Spreads from the rim inwards, the lowest cells first.
-fn flood(rows: usize, columns: usize, ground: &[i32], level: &mut [u32], links: &mut [u32]) {
+fn flood(rows: usize, columns: usize, ground: &[i32], level: &mut [u32], links: &mut [u32])
+    requires { ⌜ Flooding rows columns (now ground) (now level) (now links) ⌝ }
+    ensures { λ r. ⌜ FillEased rows columns (now (ground .entry)) (now (level .entry)) (now (level .exit)) ⌝ }
+{
     let mut heads: [u32; 2048] = [0; 2048];
     reach_rims(rows, columns, ground, level, &mut heads, links);
     let mut band: usize = 0;
@@ -254,12 +315,17 @@ fn flood(rows: usize, columns: usize, ground: &[i32], level: &mut [u32], links: 
 }
 
 // 1 if a level can be lowered to what the ground and the lowest level beside it allow; else 0.
-fn loose(v: u32, ground: u32, low: u32) -> u32 {
+fn loose(v: u32, ground: u32, low: u32) -> u32
+    ensures { λ r. ⌜ Loose v ground low r ⌝ }
+{
     if larger(ground, low) < v { 1 } else { 0 }
 }
 
 // How many cells can be lowered in a run of cells that are inside.
-fn loose_run(columns: usize, ground: &[i32], level: &[u32], from: usize, to: usize) -> u32 {
+fn loose_run(columns: usize, ground: &[i32], level: &[u32], from: usize, to: usize) -> u32
+    requires { ⌜ ((rows : ℕ) × Ready rows columns (now ground) × (length (now level) ≡ rows * columns) × RunsTo rows columns from to) ⌝ }
+    ensures { λ r. ⌜ ((rows : ℕ) → RunsTo rows columns from to → LooseIn rows columns (now (ground .entry)) (now (level .entry)) from to r) ⌝ }
+{
     let mut sum: u32 = 0;
     let mut x = from;
     while x < to {
@@ -274,7 +340,10 @@ fn loose_run(columns: usize, ground: &[i32], level: &[u32], from: usize, to: usi
 }
 
 // How many cells can be lowered.
-fn loose_cells(rows: usize, columns: usize, ground: &[i32], level: &[u32]) -> u32 {
+fn loose_cells(rows: usize, columns: usize, ground: &[i32], level: &[u32]) -> u32
+    requires { ⌜ Ready rows columns (now ground) × (length (now level) ≡ rows * columns) ⌝ }
+    ensures { λ r. ⌜ (r ≡ 0 → FillStill rows columns (now (ground .entry)) (now (level .entry))) ⌝ }
+{
     let mut sum: u32 = 0;
     let mut x: usize = 0;
     while x < level.len() {
@@ -291,7 +360,10 @@ fn loose_cells(rows: usize, columns: usize, ground: &[i32], level: &[u32]) -> u3
 }
 
 // Lowers the cell x to what its ground and its neighbours allow. True if it was higher.
-fn lower(rows: usize, columns: usize, ground: &[i32], level: &mut [u32], x: usize) -> bool {
+fn lower(rows: usize, columns: usize, ground: &[i32], level: &mut [u32], x: usize) -> bool
+    requires { ⌜ Ready rows columns (now ground) × (length (now level) ≡ rows * columns) × (x < rows * columns) ⌝ }
+    ensures { λ r. ⌜ Lowered rows columns (now (ground .entry)) (now (level .entry)) (now (level .exit)) x r ⌝ }
+{
     let v = larger(
         ground_level(ground, x),
         lowest_near(rows, columns, level, x),
@@ -304,7 +376,10 @@ fn lower(rows: usize, columns: usize, ground: &[i32], level: &mut [u32], x: usiz
 }
 
 // Lowers every cell once. True if some cell was lowered.
-fn sweep(rows: usize, columns: usize, ground: &[i32], level: &mut [u32]) -> bool {
+fn sweep(rows: usize, columns: usize, ground: &[i32], level: &mut [u32]) -> bool
+    requires { ⌜ Ready rows columns (now ground) × (length (now level) ≡ rows * columns) ⌝ }
+    ensures { λ r. ⌜ Sweeping (filling rows columns (levelsOf (now (ground .entry)))) (Stands rows columns (now (ground .entry))) (now (level .entry)) (now (level .exit)) (length (now (level .entry))) r ⌝ }
+{
     let mut lowered = false;
     let mut x: usize = 0;
     while x < level.len() {
@@ -317,7 +392,10 @@ fn sweep(rows: usize, columns: usize, ground: &[i32], level: &mut [u32]) -> bool
 }
 
 // Lowers until no cell can be lowered.
-fn settle(rows: usize, columns: usize, ground: &[i32], level: &mut [u32]) {
+fn settle(rows: usize, columns: usize, ground: &[i32], level: &mut [u32])
+    requires { ⌜ Ready rows columns (now ground) × FillKept rows columns (now ground) (now level) ⌝ }
+    ensures { λ r. ⌜ now (level .exit) ≡ filledLevels rows columns (now (ground .entry)) ⌝ }
+{
     let mut again = 0 < loose_cells(rows, columns, ground, level);
     while again {
         again = sweep(rows, columns, ground, level);
@@ -331,14 +409,20 @@ pub(crate) fn fill(
     ground: &[i32],
     level: &mut [u32],
     links: &mut [u32],
-) {
+)
+    requires { ⌜ Flooding rows columns (now ground) (now level) (now links) ⌝ }
+    ensures { λ r. ⌜ now (level .exit) ≡ filledLevels rows columns (now (ground .entry)) ⌝ }
+{
     start(ground, level);
     flood(rows, columns, ground, level, links);
     settle(rows, columns, ground, level);
 }
 
 // Writes the height of each level.
-pub(crate) fn write_heights(level: &[u32], filled: &mut [i32]) {
+pub(crate) fn write_heights(level: &[u32], filled: &mut [i32])
+    requires { ⌜ (length (now level) ≡ length (now filled)) × ((x : ℕ) → getD (now level) x 0 < 2000000) ⌝ }
+    ensures { λ r. ⌜ now (filled .exit) ≡ map heightOf (now (level .entry)) ⌝ }
+{
     let mut x: usize = 0;
     while x < filled.len() {
         filled[x] = height_of(level[x]);
@@ -347,7 +431,10 @@ pub(crate) fn write_heights(level: &[u32], filled: &mut [i32]) {
 }
 
 // The number of cells that have data.
-pub(crate) fn valid_cells(level: &[u32]) -> u32 {
+pub(crate) fn valid_cells(level: &[u32]) -> u32
+    requires { ⌜ length (now level) ≤ 1048576 ⌝ }
+    ensures { λ r. ⌜ r ≡ sumTo (length (now (level .entry))) (λ x. when (validAt (now (level .entry)) x) 1) ⌝ }
+{
     let mut valid: u32 = 0;
     let mut x: usize = 0;
     while x < level.len() {
