@@ -55,7 +55,7 @@ module _ (rows cols : ℕ) (dir : List ℕ) (d : Directed rows cols dir) where
 
   -- ---- the cell that a cell points at
 
-  code-read : (x : ℕ) → x < rows * cols → getD dir x 255 ≡ getD dir x 0
+  pub code-read : (x : ℕ) → x < rows * cols → getD dir x 255 ≡ getD dir x 0
   code-read x h = getD-any dir x 255 0 (omega (arith, d .long))
 
   pub receiver-flows : (x : ℕ) → flowsAt rows cols dir x ≡ true → receiverOf rows cols dir x ≡ nextAt rows cols dir x
@@ -73,7 +73,7 @@ module _ (rows cols : ℕ) (dir : List ℕ) (d : Directed rows cols dir) where
   unfolding flowsAt
   receiver-none x h e = sym (receiver-stops x (le-ltb (sideOf (getD dir x 255)) 8 (omega (arith, ap sideOf (code-read x h ∙ e) ∙ side-none))))
 
-  bit-of : (x : ℕ) → x < rows * cols → flowsAt rows cols dir x ≡ true → trailingZeros 8 (getD dir x 0) ≡ sideOf (getD dir x 255)
+  pub bit-of : (x : ℕ) → x < rows * cols → flowsAt rows cols dir x ≡ true → trailingZeros 8 (getD dir x 0) ≡ sideOf (getD dir x 255)
   bit-of x h q = let c = flows-code rows cols dir x q in ap (trailingZeros 8) (sym (code-read x h) ∙ c .1) ∙ bit-side (sideOf (getD dir x 255)) (c .0)
 
   pub receiver-leaves : (x : ℕ) → x < rows * cols → 8 ≤ trailingZeros 8 (getD dir x 0) → rows * cols ≡ receiverOf rows cols dir x
@@ -96,7 +96,7 @@ module _ (rows cols : ℕ) (dir : List ℕ) (d : Directed rows cols dir) where
   -- ---- what the neighbours bring
 
   -- the neighbour at the side k points back, as the code reads it
-  into-read : (z k : ℕ) → z < rows * cols → k < 8 → eqb (getD dir (neighbour rows cols z k) 0) (backOf k) ≡ intoAt rows cols dir z k
+  pub into-read : (z k : ℕ) → z < rows * cols → k < 8 → eqb (getD dir (neighbour rows cols z k) 0) (backOf k) ≡ intoAt rows cols dir z k
   into-read z k h s =
       elim (decLt (nb z k) (rows * cols)) [
         | yes y ↦ ap₂ eqb (sym (code-read (nb z k) y)) (back-code k s) ∙ sym (into-code rows cols dir rank directed-falls rank-le z k h s y)

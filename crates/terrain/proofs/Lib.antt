@@ -12,4 +12,5 @@ pub mod Interior
 pub mod Flooding
 pub mod Fields
 pub mod Cutoffs
+pub mod Lengths
 pub mod LengthFields

@@ -43,43 +43,42 @@ unfoldable pub amountOf : ℕ → ℕ → ℕ → ℕ → ℕ → ℕ
 unfolding isCut
 amountOf n q p step len = cond (eqb q 0 && eqb p 0) startLength (cond (isCut n q p) 0 (len + step))
 
--- the length of a cell that is no channel, by whether it has an inflow and by the greatest amount
-abbrev pub lengthBy : Bool → ℕ → ℕ
-lengthBy inflow greatest = cond inflow greatest startLength
-
 -- "the largest flow count"
 unfoldable pub largestOf : ℕ → List ℕ → ℕ
 unfolding greatestTo
 largestOf n count = greatestTo n (λ x. getD count x 0)
 
-module _ (rows cols side : ℕ) (rules : Rules) (lv dir count : List ℕ) where
-  -- the steepness of a cell is that of its own direction; 0 where it points at no neighbour
-  unfoldable pub steepnessAt : ℕ → ℕ
-  unfolding flowsAt nextAt sideOf
-  steepnessAt x = cond (flowsAt rows cols dir x) (steepOf (sideOf (getD dir x 255)) (getD lv x 0 - getD lv (nextAt rows cols dir x) 0)) 0
+-- the steepness of the cell x is that of its own direction; 0 where it points at no neighbour
+unfoldable pub steepnessAt : ℕ → ℕ → List ℕ → List ℕ → ℕ → ℕ
+unfolding flowsAt nextAt sideOf
+steepnessAt rows cols lv dir x = cond (flowsAt rows cols dir x) (steepOf (sideOf (getD dir x 255)) (getD lv x 0 - getD lv (nextAt rows cols dir x) 0)) 0
 
+-- the cell x is a channel
+unfoldable pub channelAt : ℕ → ℕ → Rules → List ℕ → ℕ → Bool
+unfolding isChannel largestOf
+channelAt rows cols rules count x = isChannel (rules .threshold) (largestOf (rows * cols) count) (getD count x 0)
+
+module _ (rows cols side : ℕ) (rules : Rules) (lv dir : List ℕ) where
   -- the cutoff that the cell z uses for its inflows, in percent
   unfoldable pub cutoffAt : ℕ → ℕ
   unfolding cutoffFor steepnessAt
-  cutoffAt z = cutoffFor (rules .low) (rules .high) side (steepnessAt z)
-
-  unfoldable pub channelAt : ℕ → Bool
-  unfolding isChannel largestOf
-  channelAt z = isChannel (rules .threshold) (largestOf (rows * cols) count) (getD count z 0)
+  cutoffAt z = cutoffFor (rules .low) (rules .high) side (steepnessAt rows cols lv dir z)
 
   -- what the neighbour at the side k of z brings to z, if it points at z; f has the lengths
   unfoldable pub bringsAt : (ℕ → ℕ) → ℕ → ℕ → ℕ
   unfolding neighbour sideOf steepnessAt cutoffAt amountOf stepOver
   bringsAt f z k =
       let y = neighbour rows cols z k in
-      amountOf (cutoffAt z) (steepnessAt z) (steepnessAt y) (stepOver (sideOf (getD dir y 255))) (f y)
+      amountOf (cutoffAt z) (steepnessAt rows cols lv dir z) (steepnessAt rows cols lv dir y) (stepOver (sideOf (getD dir y 255))) (f y)
 
+module _ (rows cols side : ℕ) (rules : Rules) (lv dir count : List ℕ) where
   -- the length of z by the lengths f of its inflows: "The greatest amount is the length." A channel and a NoData cell have 0.
   unfoldable pub lengthFrom : (ℕ → ℕ) → ℕ → ℕ
   unfolding mappedAt channelAt someOf intoAt greatestTo when bringsAt
   lengthFrom f z =
       cond (mappedAt rows cols dir z)
-      (cond (channelAt z) 0 (lengthBy (someOf (intoAt rows cols dir z) 8) (greatestTo 8 (λ k. when (intoAt rows cols dir z k) (bringsAt f z k)))))
+      (cond (channelAt rows cols rules count z) 0
+      (cond (someOf (intoAt rows cols dir z) 8) (greatestTo 8 (λ k. when (intoAt rows cols dir z k) (bringsAt rows cols side rules lv dir f z k))) startLength))
       0
 
   -- the length of z, by trails to it of at most m steps

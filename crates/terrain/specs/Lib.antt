@@ -12,3 +12,4 @@ pub mod Settings
 pub mod Length
 pub mod Flood
 pub mod Directed
+pub mod Measure
