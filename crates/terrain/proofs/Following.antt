@@ -96,7 +96,7 @@ module _ (rows cols : ℕ) (dir : List ℕ) (d : Directed rows cols dir) where
 
 -- ---- the longest
 
-most-less : (n : ℕ) (b : ℕ → Bool) (f : ℕ → ℕ) → greatestTo n (λ x. when (b x) (f x + 1)) - 1 ≡ greatestTo n (λ x. when (b x) (f x))
+pub most-less : (n : ℕ) (b : ℕ → Bool) (f : ℕ → ℕ) → greatestTo n (λ x. when (b x) (f x + 1)) - 1 ≡ greatestTo n (λ x. when (b x) (f x))
 unfolding greatestTo
 most-less zero b f = refl
 most-less (suc n) b f = ⊎-elim (λ e. omega (arith, most-less n b f, when-yes (f n + 1) e, when-yes (f n) e)) (λ e. omega (arith, most-less n b f, when-no (f n + 1) e, when-no (f n) e)) (two (b n))

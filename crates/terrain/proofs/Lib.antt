@@ -13,4 +13,5 @@ pub mod Flooding
 pub mod Fields
 pub mod Cutoffs
 pub mod Lengths
+pub mod Measuring
 pub mod LengthFields

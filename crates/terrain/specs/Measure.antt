@@ -21,16 +21,27 @@ longest = 15000000000
 abbrev pub steepest : ℕ
 steepest = 7220000000000
 
+-- heights that are levels too
+abbrev pub AllFine : List ℤ → Type 0
+AllFine filled = (x : ℕ) → x < length filled → Fine (getD filled x (pos 0))
+
 -- filled heights and the directions on them
 pub record Charted (rows cols : ℕ) (filled : List ℤ) (dir : List ℕ) : Type 0 where
   pub directed : Directed rows cols dir
   pub filled-long : length filled ≡ rows * cols
-  pub fine : (x : ℕ) → x < length filled → Fine (getD filled x (pos 0))
+  pub fine : AllFine filled
 
 -- the counts of channels are those above `most`
 pub record Bounded (rows cols : ℕ) (rules : Rules) (most : ℕ) (count : List ℕ) : Type 0 where
   pub long : length count ≡ rows * cols
   pub channel : (x : ℕ) → x < rows * cols → ltb most (getD count x 0) ≡ channelAt rows cols rules count x
+
+-- the same with the grids that lengths are worked out in
+pub record Working (rows cols : ℕ) (filled : List ℤ) (dir count l waiting : List ℕ) : Type 0 where
+  pub charted : Charted rows cols filled dir
+  pub count-long : length count ≡ rows * cols
+  pub lengths-long : length l ≡ rows * cols
+  pub waiting-long : length waiting ≡ rows * cols
 
 -- a length as it is read, so that sums with it stay small
 abbrev pub cappedAt : List ℕ → ℕ → ℕ
@@ -38,7 +49,7 @@ cappedAt l y = min (getD l y 0) longest
 
 -- the cells x and y of a grid of filled heights, codes and lengths, and the side k at which y lies
 pub record Meeting (filled : List ℤ) (dir l : List ℕ) (q x y k : ℕ) : Type 0 where
-  pub fine : (z : ℕ) → z < length filled → Fine (getD filled z (pos 0))
+  pub fine : AllFine filled
   pub dir-long : length dir ≡ length filled
   pub lengths-long : length l ≡ length filled
   pub steepness-small : q ≤ steepest

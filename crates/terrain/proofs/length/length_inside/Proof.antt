@@ -1,0 +1,46 @@
+-- `terrain::length::length_inside` meets its contract. Assumes nothing.
+use mathlib.Core.Path.{ap, _∙_}
+use native.Mathlib.Omega.{arith}
+use lib.ListN.{getD}
+use lib.Dec.{ltb}
+use Rattle.terrain.specs.Cells.{levelsOf}
+use Rattle.terrain.specs.Measure.{settledOf, lengthOffer}
+use Rattle.terrain.proofs.Measuring.{settled-is}
+use borrow.Author.Needs.{needs}
+use Rattle.terrain.proofs.length.length_inside.Statement.{statement}
+use Rattle.terrain.proofs.length.length_inside.Tie as tie
+
+gathered-inside-requires : tie.Need-gathered-inside-requires
+gathered-inside-requires c κs = search needs
+
+shared-slice-read-settled : tie.Need-shared-slice-read-settled
+shared-slice-read-settled c = search needs
+
+mul-settled : tie.Need-mul-settled
+mul-settled c = search needs
+
+shared-slice-read-settled-2 : tie.Need-shared-slice-read-settled-2
+shared-slice-read-settled-2 c = search needs
+
+settled-requires : tie.Need-settled-requires
+settled-requires c κs = search needs
+
+returns : tie.Need-returns
+unfolding lengthOffer
+returns c =
+    let s = c .before .before .before .before .before .before .before in
+    let g = c .before .before .before .gathered-inside in
+    let t = ltb (s .args .most) (getD (s .args .count .now) (s .args .x) 0) in
+    c .settled .ensures ∙ ap (settledOf (getD (s .args .direction .now) (s .args .x) 0) t) (g .ensures)
+    ∙ settled-is (s .args .rows) (s .args .columns) (s .args .side) (s .args .rules) (levelsOf (s .args .filled .now)) (s .args .direction .now) (s .args .count .now) (s .pre .0 .directed) (s .args .lengths .now) (s .args .x) (omega (arith, s .pre .3 .down)) t (s .pre .1 .channel (s .args .x) (omega (arith, s .pre .3 .down)))
+
+pub length-inside-spec : {M : Type 1} → statement M
+length-inside-spec =
+    tie.close
+    (tie.spec
+    gathered-inside-requires
+    shared-slice-read-settled
+    mul-settled
+    shared-slice-read-settled-2
+    settled-requires
+    returns)
