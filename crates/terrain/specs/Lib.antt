@@ -9,3 +9,4 @@ pub mod Drainage
 pub mod Answers
 pub mod Inside
 pub mod Flood
+pub mod Levels
