@@ -10,4 +10,6 @@ pub mod Drainage
 pub mod Answers
 pub mod Interior
 pub mod Flooding
+pub mod Stepping
+pub mod Falls
 pub mod Fields

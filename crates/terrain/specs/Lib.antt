@@ -10,3 +10,4 @@ pub mod Answers
 pub mod Inside
 pub mod Flood
 pub mod Directed
+pub mod Levels

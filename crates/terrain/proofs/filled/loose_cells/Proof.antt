@@ -3,21 +3,25 @@ use mathlib.Core.Path.{_≡_, refl}
 use Prim.Native.Nat.{_+_, _-_, _*_, _≤_}
 use native.Mathlib.Omega.{arith}
 use lib.ListN.{length}
-use Rattle.terrain.specs.Flood.{LooseIn}
+use Rattle.laws.proofs.Settle.{loose-none, loose-join, loose-still}
+use Rattle.terrain.specs.Cells.{levelsOf}
+use Rattle.terrain.specs.Filled.{filling, Stands}
+use Rattle.terrain.specs.Flood.{FillLoose}
 use Rattle.terrain.proofs.Interior.{ready-sized}
-use Rattle.terrain.proofs.Flooding.{loose-none, loose-join, loose-one, loose-still}
+use Rattle.terrain.proofs.Filling.{filling-rule}
+use Rattle.terrain.proofs.Flooding.{cell-loose}
 use borrow.Author.Needs.{needs}
 use Rattle.terrain.proofs.filled.loose_cells.Statement.{statement}
 use Rattle.terrain.proofs.filled.loose_cells.Tie as tie
 
 abbrev Inv-loop : tie.InvT-loop
-Inv-loop rows columns ground level sum₀ x₀ sum x = (x ≤ length level) × LooseIn rows columns ground level 0 x sum
+Inv-loop rows columns ground level sum₀ x₀ sum x = (x ≤ length level) × FillLoose rows columns ground level 0 x sum
 
 abbrev μ-loop : tie.MeasureT-loop
 μ-loop rows columns ground level sum₀ x₀ sum x = length level - x
 
 loop-holds : tie.Need-loop-holds Inv-loop μ-loop
-loop-holds c = let s = c .before in (omega arith, loose-none (s .args .rows) (s .args .columns) (s .args .ground .now) (s .args .level .now) 0)
+loop-holds c = let s = c .before in (omega arith, loose-none (filling (s .args .rows) (s .args .columns) (levelsOf (s .args .ground .now))) (s .args .level .now) 0)
 
 run-end-requires : tie.Need-run-end-requires Inv-loop μ-loop
 run-end-requires c κs = let s = c .before .before .before in (ready-sized (s .pre .0), omega (arith, s .pre .1))
@@ -62,9 +66,9 @@ loop-again c =
     let e = c .before .before .before .before .before .run-end in
     let r = c .before .before .before .before .loose-run in (
       omega (arith, e .ensures .within, s .pre .1),
-      loose-join (s .args .rows) (s .args .columns) (s .args .ground .now) (s .args .level .now) 0 (e .result) (e .result + 1) (p .sum + r .result) _
-          (loose-join (s .args .rows) (s .args .columns) (s .args .ground .now) (s .args .level .now) 0 (p .x) (e .result) (p .sum) (r .result) (p .inv .1) (r .ensures (s .args .rows) (e .ensures)))
-          (loose-one (s .args .rows) (s .args .columns) (s .args .ground .now) (s .args .level .now) (e .result) _ _ _ _ refl (c .before .before .ground-level .ensures) (c .before .lowest-near .ensures) (c .loose .ensures)),
+      loose-join (filling (s .args .rows) (s .args .columns) (levelsOf (s .args .ground .now))) (s .args .level .now) 0 (e .result) (e .result + 1) (p .sum + r .result) _
+          (loose-join (filling (s .args .rows) (s .args .columns) (levelsOf (s .args .ground .now))) (s .args .level .now) 0 (p .x) (e .result) (p .sum) (r .result) (p .inv .1) (r .ensures (s .args .rows) (e .ensures)))
+          (cell-loose (s .args .rows) (s .args .columns) (s .args .ground .now) (s .args .level .now) (e .result) _ _ _ _ refl (c .before .before .ground-level .ensures) (c .before .lowest-near .ensures) (c .loose .ensures)),
     )
 
 returns : tie.Need-returns Inv-loop μ-loop
@@ -72,7 +76,7 @@ returns c =
     let s = c .before .before .before in
     let p = c .before .loop in
     let e : p .x ≡ s .args .rows * s .args .columns = omega (arith, s .pre .1) in
-    loose-still (s .args .rows) (s .args .columns) (s .args .ground .now) (s .args .level .now) (s .pre .0) (p .sum) (rw e at (p .inv .1))
+    loose-still (filling (s .args .rows) (s .args .columns) (levelsOf (s .args .ground .now))) (Stands (s .args .rows) (s .args .columns) (s .args .ground .now)) (filling-rule (s .args .rows) (s .args .columns) (s .args .ground .now) (s .pre .0)) (s .args .level .now) (p .sum) (rw e at (p .inv .1))
 
 pub loose-cells-spec : {M : Type 1} → statement M
 loose-cells-spec =

@@ -2,22 +2,25 @@
 use mathlib.Core.Path.{_≡_, refl, subst}
 use Prim.Native.Nat.{ℕ, _+_, _-_, _≤_}
 use native.Mathlib.Omega.{arith}
+use Rattle.laws.proofs.Settle.{loose-none, loose-join}
+use Rattle.terrain.specs.Cells.{levelsOf}
 use Rattle.terrain.specs.Inside.{RunsTo}
-use Rattle.terrain.specs.Flood.{LooseIn}
+use Rattle.terrain.specs.Filled.{filling}
+use Rattle.terrain.specs.Flood.{FillLoose}
 use Rattle.terrain.proofs.Interior.{ready-sized}
-use Rattle.terrain.proofs.Flooding.{loose-none, loose-join, loose-one}
+use Rattle.terrain.proofs.Flooding.{cell-loose}
 use borrow.Author.Needs.{needs}
 use Rattle.terrain.proofs.filled.loose_run.Statement.{statement}
 use Rattle.terrain.proofs.filled.loose_run.Tie as tie
 
 abbrev Inv-loop : tie.InvT-loop
-Inv-loop columns ground level from to sum₀ x₀ sum x = (from ≤ x) × (x ≤ to) × ((rows : ℕ) → RunsTo rows columns from to → LooseIn rows columns ground level from x sum)
+Inv-loop columns ground level from to sum₀ x₀ sum x = (from ≤ x) × (x ≤ to) × ((rows : ℕ) → RunsTo rows columns from to → FillLoose rows columns ground level from x sum)
 
 abbrev μ-loop : tie.MeasureT-loop
 μ-loop columns ground level from to sum₀ x₀ sum x = to - x
 
 loop-holds : tie.Need-loop-holds Inv-loop μ-loop
-loop-holds c = let s = c .before in (omega arith, s .pre .3 .from, λ rows t. loose-none rows (s .args .columns) (s .args .ground .now) (s .args .level .now) (s .args .from))
+loop-holds c = let s = c .before in (omega arith, s .pre .3 .from, λ rows t. loose-none (filling rows (s .args .columns) (levelsOf (s .args .ground .now))) (s .args .level .now) (s .args .from))
 
 mul-loose : tie.Need-mul-loose Inv-loop μ-loop
 mul-loose c = search needs
@@ -59,8 +62,8 @@ loop-again c =
     let f = s .args in (
       omega arith,
       omega arith,
-      λ rows t. loose-join rows (f .columns) (f .ground .now) (f .level .now) (f .from) (p .x) (p .x + 1) (p .sum) _ (p .inv .2 rows t)
-          (loose-one rows (f .columns) (f .ground .now) (f .level .now) (p .x) _ _ _ _ refl (c .before .before .ground-level .ensures) (c .before .lowest-inside .ensures rows (t .inside (p .x) (omega arith) (omega arith))) (c .loose .ensures)),
+      λ rows t. loose-join (filling rows (f .columns) (levelsOf (f .ground .now))) (f .level .now) (f .from) (p .x) (p .x + 1) (p .sum) _ (p .inv .2 rows t)
+          (cell-loose rows (f .columns) (f .ground .now) (f .level .now) (p .x) _ _ _ _ refl (c .before .before .ground-level .ensures) (c .before .lowest-inside .ensures rows (t .inside (p .x) (omega arith) (omega arith))) (c .loose .ensures)),
     )
 
 returns : tie.Need-returns Inv-loop μ-loop
@@ -68,7 +71,7 @@ returns c =
     let f = c .before .before .before .args in
     let p = c .before .loop in
     let e : p .x ≡ f .to = omega arith in
-    λ rows t. subst (λ (y : ℕ). LooseIn rows (f .columns) (f .ground .now) (f .level .now) (f .from) y (p .sum)) e (p .inv .2 rows t)
+    λ rows t. subst (λ (y : ℕ). FillLoose rows (f .columns) (f .ground .now) (f .level .now) (f .from) y (p .sum)) e (p .inv .2 rows t)
 
 pub loose-run-spec : {M : Type 1} → statement M
 loose-run-spec =

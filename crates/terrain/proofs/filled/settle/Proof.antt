@@ -9,7 +9,6 @@ use Rattle.laws.proofs.Settle.{settling-less, settling-more}
 use Rattle.terrain.specs.Cells.{levelsOf}
 use Rattle.terrain.specs.Filled.{filling, Stands}
 use Rattle.terrain.proofs.Filling.{filling-rule, filled-is}
-use borrow.Author.Needs.{needs}
 use Rattle.terrain.proofs.filled.settle.Statement.{statement}
 use Rattle.terrain.proofs.filled.settle.Tie as tie
 

@@ -1,7 +1,7 @@
 -- `terrain::filled::start` meets its contract. Assumes nothing.
-use mathlib.Core.Path.{_≡_, refl}
+use mathlib.Core.Path.{_≡_, refl, _∙_}
 use mathlib.Core.Bool.{cond}
-use Prim.Native.Nat.{ℕ, _-_, _≤_}
+use Prim.Native.Nat.{ℕ, _-_, _*_, _≤_}
 use native.Mathlib.Omega.{arith}
 use lib.ListN.{length, length-set}
 use Rattle.laws.specs.Lists.{Agrees}
@@ -51,7 +51,7 @@ same-length c = c .before .loop .inv .0
 returns : tie.Need-returns Inv-loop μ-loop
 returns c =
     let p = c .before .loop in
-    agrees-tab (λ (i : ℕ). cond (validAt (levelsOf (c .before .before .before .args .ground .now)) i) top 0) 0 (p .level) _ (p .inv .0) (λ j h. p .inv .2 j (omega arith))
+    λ rows columns e. agrees-tab (λ (i : ℕ). cond (validAt (levelsOf (c .before .before .before .args .ground .now)) i) top 0) 0 (p .level) (rows * columns) (p .inv .0 ∙ e) (λ j h. p .inv .2 j (omega arith))
 
 pub start-spec : {M : Type 1} → statement M
 start-spec =

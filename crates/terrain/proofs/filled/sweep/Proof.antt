@@ -4,18 +4,17 @@ use mathlib.Core.Logic.{⊎-elim}
 use Prim.Native.Nat.{_-_, _≤_}
 use native.Mathlib.Omega.{arith}
 use lib.ListN.{length}
-use Rattle.laws.specs.Settle.{Sweeping}
 use Rattle.laws.proofs.Tests.{or-set, or-keep}
 use Rattle.laws.proofs.Settle.{sweep-none, sweep-more}
 use Rattle.terrain.specs.Cells.{levelsOf}
 use Rattle.terrain.specs.Filled.{filling, Stands}
+use Rattle.terrain.specs.Flood.{FillSweeping}
 use Rattle.terrain.proofs.Filling.{filling-rule}
-use borrow.Author.Needs.{needs}
 use Rattle.terrain.proofs.filled.sweep.Statement.{statement}
 use Rattle.terrain.proofs.filled.sweep.Tie as tie
 
 abbrev Inv-loop : tie.InvT-loop
-Inv-loop rows columns ground level₀ lowered₀ x₀ level lowered x = Sweeping (filling rows columns (levelsOf ground)) (Stands rows columns ground) level₀ level x lowered × (x ≤ length level₀)
+Inv-loop rows columns ground level₀ lowered₀ x₀ level lowered x = FillSweeping rows columns ground level₀ level x lowered × (x ≤ length level₀)
 
 abbrev μ-loop : tie.MeasureT-loop
 μ-loop rows columns ground level₀ lowered₀ x₀ level lowered x = length level₀ - x
