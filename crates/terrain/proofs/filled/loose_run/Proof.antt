@@ -1,11 +1,9 @@
 -- `terrain::filled::loose_run` meets its contract. Assumes nothing.
 use mathlib.Core.Path.{_≡_, refl, subst}
-use Prim.Native.Nat.{ℕ, _+_, _-_, _≤_}
+use Prim.Native.Nat.{ℕ, _-_, _≤_}
 use native.Mathlib.Omega.{arith}
 use Rattle.laws.proofs.Settle.{loose-none, loose-join}
-use Rattle.terrain.specs.Cells.{levelsOf}
 use Rattle.terrain.specs.Inside.{RunsTo}
-use Rattle.terrain.specs.Filled.{filling}
 use Rattle.terrain.specs.Flood.{FillLoose}
 use Rattle.terrain.proofs.Interior.{ready-sized}
 use Rattle.terrain.proofs.Flooding.{cell-loose}
@@ -20,7 +18,7 @@ abbrev μ-loop : tie.MeasureT-loop
 μ-loop columns ground level from to sum₀ x₀ sum x = to - x
 
 loop-holds : tie.Need-loop-holds Inv-loop μ-loop
-loop-holds c = let s = c .before in (omega arith, s .pre .3 .from, λ rows t. loose-none (filling rows (s .args .columns) (levelsOf (s .args .ground .now))) (s .args .level .now) (s .args .from))
+loop-holds c = let s = c .before in (omega arith, s .pre .3 .from, λ rows t. loose-none _ _ _)
 
 mul-loose : tie.Need-mul-loose Inv-loop μ-loop
 mul-loose c = search needs
@@ -58,12 +56,10 @@ loop-less c = search needs
 loop-again : tie.Need-loop-again Inv-loop μ-loop
 loop-again c =
     let s = c .before .before .before .before .before .before .before in
-    let p = c .before .before .before .before .before .loop in
-    let f = s .args in (
+    let p = c .before .before .before .before .before .loop in (
       omega arith,
       omega arith,
-      λ rows t. loose-join (filling rows (f .columns) (levelsOf (f .ground .now))) (f .level .now) (f .from) (p .x) (p .x + 1) (p .sum) _ (p .inv .2 rows t)
-          (cell-loose rows (f .columns) (f .ground .now) (f .level .now) (p .x) _ _ _ _ refl (c .before .before .ground-level .ensures) (c .before .lowest-inside .ensures rows (t .inside (p .x) (omega arith) (omega arith))) (c .loose .ensures)),
+      λ rows t. loose-join _ (p .inv .2 rows t) (cell-loose rows (s .args .columns) (s .args .ground .now) (s .args .level .now) (p .x) _ _ _ _ refl (c .before .before .ground-level .ensures) (c .before .lowest-inside .ensures rows (t .inside (p .x) (omega arith) (omega arith))) (c .loose .ensures)),
     )
 
 returns : tie.Need-returns Inv-loop μ-loop
