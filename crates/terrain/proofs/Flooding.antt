@@ -47,6 +47,10 @@ difference-fits v h = subst (SFits w32) (sym (difference-word v h)) (record { sf
 pub height-word : (v : ℕ) → v < top → toZ w32 (ofZ w32 (toZ w32 v -ℤ pos 999900)) ≡ heightOf v
 height-word v h = toZ-ofZ (difference-fits v h) ∙ difference-word v h
 
+-- what reading the ground's level at a cell asks
+pub ground-read : {rows cols : ℕ} {ground : List ℤ} → Ready rows cols ground → (x : ℕ) → x < rows * cols → (x < length ground) × Fine (getD ground x (pos 0))
+ground-read r x h = (omega (arith, r .long), r .fine x (omega (arith, r .long)))
+
 -- ---- the flood's loops
 
 -- the levels l and the links s came from l₀ and s₀ by steps of the flood

@@ -7,7 +7,7 @@ use Rattle.laws.proofs.Settle.{loose-none, loose-join, loose-still}
 use Rattle.terrain.specs.Flood.{FillLoose}
 use Rattle.terrain.proofs.Interior.{ready-sized}
 use Rattle.terrain.proofs.Filling.{filling-rule}
-use Rattle.terrain.proofs.Flooding.{cell-loose}
+use Rattle.terrain.proofs.Flooding.{ground-read, cell-loose}
 use borrow.Author.Needs.{needs}
 use Rattle.terrain.proofs.filled.loose_cells.Statement.{statement}
 use Rattle.terrain.proofs.filled.loose_cells.Tie as tie
@@ -40,10 +40,7 @@ shared-slice-read-loose : tie.Need-shared-slice-read-loose Inv-loop μ-loop
 shared-slice-read-loose c = search needs
 
 ground-level-requires : tie.Need-ground-level-requires Inv-loop μ-loop
-ground-level-requires c κs =
-    let s = c .before .before .before .before .before .before in
-    let e = c .before .before .run-end in
-    (omega (arith, e .ensures .within, s .pre .0 .long), s .pre .0 .fine (e .result) (omega (arith, e .ensures .within, s .pre .0 .long)))
+ground-level-requires c κs = let e = c .before .before .run-end in ground-read (c .before .before .before .before .before .before .pre .0) (e .result) (e .ensures .within)
 
 lowest-near-requires : tie.Need-lowest-near-requires Inv-loop μ-loop
 lowest-near-requires c κs =

@@ -6,7 +6,7 @@ use Rattle.laws.proofs.Settle.{loose-none, loose-join}
 use Rattle.terrain.specs.Inside.{RunsTo}
 use Rattle.terrain.specs.Flood.{FillLoose}
 use Rattle.terrain.proofs.Interior.{ready-sized}
-use Rattle.terrain.proofs.Flooding.{cell-loose}
+use Rattle.terrain.proofs.Flooding.{ground-read, cell-loose}
 use borrow.Author.Needs.{needs}
 use Rattle.terrain.proofs.filled.loose_run.Statement.{statement}
 use Rattle.terrain.proofs.filled.loose_run.Tie as tie
@@ -27,10 +27,7 @@ shared-slice-read-loose : tie.Need-shared-slice-read-loose Inv-loop μ-loop
 shared-slice-read-loose c = search needs
 
 ground-level-requires : tie.Need-ground-level-requires Inv-loop μ-loop
-ground-level-requires c κs =
-    let s = c .before .before .before .before in
-    let p = c .before .before .loop in
-    (omega (arith, s .pre .1 .long, s .pre .3 .within), s .pre .1 .fine (p .x) (omega (arith, s .pre .1 .long, s .pre .3 .within)))
+ground-level-requires c κs = let s = c .before .before .before .before in ground-read (s .pre .1) (c .before .before .loop .x) (omega (arith, s .pre .3 .within))
 
 lowest-inside-requires : tie.Need-lowest-inside-requires Inv-loop μ-loop
 lowest-inside-requires c κs =
