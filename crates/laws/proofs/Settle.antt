@@ -35,8 +35,8 @@ module _ (w : Lowering) where
   loose-one l b m h s =
       record { few = omega arith; still = (λ e x le lt. let q : b ≡ x = omega arith in subst (λ (y : ℕ). getD l y 0 ≤ w .offer l y) q (s e)) }
 
-  pub loose-join : (l : List ℕ) (a b c n m : ℕ) → Loose w l a b n → Loose w l b c m → Loose w l a c (n + m)
-  loose-join l a b c n m s t =
+  pub loose-join : {l : List ℕ} {a b c n m : ℕ} → Loose w l a b n → Loose w l b c m → Loose w l a c (n + m)
+  loose-join {b = b} s t =
       record {
         few = omega (arith, s .few, t .few);
         still = (λ e x le lt. elim (decLt x b) [ yes h ↦ s .still (omega arith) x le h | no f ↦ t .still (omega arith) x (omega arith) lt ]);

@@ -17,7 +17,7 @@ use Rattle.laws.specs.Sums.{sumTo, when}
 use Rattle.laws.specs.Settle.{startOf}
 use Rattle.laws.proofs.Sums.{sum-ext}
 use Rattle.laws.proofs.Lists.{in-list}
-use Rattle.laws.proofs.Settle.{loose-one, kept-active, store-kept, start-kept}
+use Rattle.laws.proofs.Settle.{loose-one, kept-active, store-kept, start-kept, eased-none, eased-then}
 use Rattle.terrain.specs.Quantities.{Fine}
 use Rattle.terrain.specs.Cells.{neighbour, levelOf, heightOf, levelsOf, validAt, Ready}
 use Rattle.terrain.specs.Filled.{top, lowestOf, filling, filledLevels, filledOf, Stands}
@@ -47,15 +47,33 @@ difference-fits v h = subst (SFits w32) (sym (difference-word v h)) (record { sf
 pub height-word : (v : ℕ) → v < top → toZ w32 (ofZ w32 (toZ w32 v -ℤ pos 999900)) ≡ heightOf v
 height-word v h = toZ-ofZ (difference-fits v h) ∙ difference-word v h
 
+-- what reading the ground's level at a cell asks
+pub ground-read : {rows cols : ℕ} {ground : List ℤ} → Ready rows cols ground → (x : ℕ) → x < rows * cols → (x < length ground) × Fine (getD ground x (pos 0))
+ground-read r x h = (omega (arith, r .long), r .fine x (omega (arith, r .long)))
+
+-- ---- the flood's loops
+
+-- the levels l and the links s came from l₀ and s₀ by steps of the flood
+pub record Flooded (rows cols : ℕ) (ground : List ℤ) (l₀ s₀ l s : List ℕ) : Type 0 where
+  pub eased : FillEased rows cols ground l₀ l
+  pub links-long : length s ≡ length s₀
+
+module _ {rows cols : ℕ} {ground : List ℤ} where
+  pub flooded-none : {l s : List ℕ} → Flooded rows cols ground l s l s
+  flooded-none {l} = record { eased = eased-none (filling rows cols (levelsOf ground)) (Stands rows cols ground) l; links-long = refl }
+
+  pub flooded-then : {l₀ s₀ l s m : List ℕ} (t : List ℕ) → Flooded rows cols ground l₀ s₀ l s → FillEased rows cols ground l m → length t ≡ length s → Flooded rows cols ground l₀ s₀ m t
+  flooded-then t f e q = record { eased = eased-then (filling rows cols (levelsOf ground)) (Stands rows cols ground) (f .eased) e; links-long = q ∙ f .links-long }
+
+  -- the grids serve as before
+  pub flooded-on : {l₀ s₀ l s : List ℕ} → Flooding rows cols ground l₀ s₀ → Flooded rows cols ground l₀ s₀ l s → Flooding rows cols ground l s
+  flooded-on f d = record { ready = f .ready; level-long = d .eased .long ∙ f .level-long; links-long = d .links-long ∙ f .links-long }
+
+  -- only a cell of the grid can be at the top
+  pub flooding-in : {l s : List ℕ} → Flooding rows cols ground l s → (y : ℕ) → top ≤ getD l y 0 → y < rows * cols
+  flooding-in {l} f y h = omega (arith, in-list l y (omega arith), f .level-long)
+
 -- ---- reaching a cell
-
--- only a cell of the grid can be at the top
-pub flooding-in : {rows cols : ℕ} {ground : List ℤ} {level links : List ℕ} → Flooding rows cols ground level links → (y : ℕ) → top ≤ getD level y 0 → y < rows * cols
-flooding-in {level = level} f y h = omega (arith, in-list level y (omega arith), f .level-long)
-
--- the same grids later on
-pub flooding-on : {rows cols : ℕ} {ground : List ℤ} {l₀ s₀ : List ℕ} → Flooding rows cols ground l₀ s₀ → (l s : List ℕ) → length l ≡ length l₀ → length s ≡ length s₀ → Flooding rows cols ground l s
-flooding-on f l s e q = record { ready = f .ready; level-long = e ∙ f .level-long; links-long = q ∙ f .links-long }
 
 -- a cell that was reached before stays, any other comes down
 pub reached-before : (g l : List ℕ) (h y : ℕ) → getD l y 0 < top → l ≡ reachedOf g l h y
@@ -82,7 +100,7 @@ pub rim-reached : (g l m : List ℕ) (low x : ℕ) → low ≤ 0 → m ≡ reach
 unfolding rimReachedOf
 rim-reached g l m low x h e = rw (le-ltb 0 low h) e
 
-module _ (rows cols : ℕ) (ground : List ℤ) (ready : Ready rows cols ground) where
+module _ {rows cols : ℕ} {ground : List ℤ} (ready : Ready rows cols ground) where
   abbrev g : List ℕ
   g = levelsOf ground
 
@@ -142,7 +160,7 @@ pub valids-counted : (rows cols : ℕ) (lv : List ℕ) (n : ℕ) → n ≡ rows 
 unfolding validsOf
 valids-counted rows cols lv n e = ap (λ (m : ℕ). sumTo m (λ x. when (validAt lv x) 1)) e
 
-module _ (rows cols : ℕ) (ground : List ℤ) (ready : Ready rows cols ground) where
+module _ {rows cols : ℕ} {ground : List ℤ} (ready : Ready rows cols ground) where
   -- the filled levels have the ground's valid cells
   pub filled-valids : validsOf rows cols (filledLevels rows cols ground) ≡ validOf rows cols ground
   unfolding validOf validsOf
