@@ -29,6 +29,7 @@ use Rattle.terrain.proofs.Directions.{lower-steepest}
 -- ---- the first of greatest value, as a loop finds it
 
 module _ (f : ℕ → ℕ) (n : ℕ) where
+  -- the next value is no greater, or it is
   first-kept : f n ≤ greatestTo n f → 0 < greatestTo n f → firstOf (λ j. eqb (f j) (greatestTo (n + 1) f)) (n + 1) ≡ firstOf (λ j. eqb (f j) (greatestTo n f)) n
   first-kept h p =
       let e : greatestTo (n + 1) f ≡ greatestTo n f = omega (arith, greatest-more n f) in
@@ -68,6 +69,7 @@ steep-is k w d e = rw e (go (cardinal k))
     go true = mul-assoc 2 d d
     go false = rw one-mul
 
+-- the fall that the code keeps, and the one that it takes
 pub steeper-kept : (k d w : ℕ) (a : Fall) → w ≡ cond (cardinal k) 2 1 → w * d * d ≤ a .steepness → Steeper k d a a
 steeper-kept k d w a e h =
     let q = steep-is k w d e in
@@ -91,10 +93,11 @@ pub record FallTo (rows cols : ℕ) (lv : List ℕ) (x k : ℕ) (a : Fall) : Typ
   pub steepness : a .steepness ≡ greatestTo k (steepAt rows cols lv x)
 
 module _ (rows cols : ℕ) (lv : List ℕ) (x : ℕ) where
-  abbrev f : ℕ → ℕ
-  f = steepAt rows cols lv x
+  abbrev steep : ℕ → ℕ
+  steep = steepAt rows cols lv x
 
-  steep-drop : (k d : ℕ) → d ≡ dropOf (getD lv x 0) (getD lv (neighbour rows cols x k) 0) → steepOf k d ≡ f k
+  -- the steepness at the side k, from the drop that the code finds
+  steep-drop : (k d : ℕ) → d ≡ dropOf (getD lv x 0) (getD lv (neighbour rows cols x k) 0) → steepOf k d ≡ steep k
   unfolding steepAt
   steep-drop k d e = rw e (go (ltb 0 (getD lv (neighbour rows cols x k) 0) && ltb (getD lv (neighbour rows cols x k) 0) (getD lv x 0)))
     where
@@ -106,31 +109,32 @@ module _ (rows cols : ℕ) (lv : List ℕ) (x : ℕ) where
       go true = refl
       go false = flat (cardinal k)
 
+  -- before the first side, and at each side: the fall stays, or it is the new side's
   pub fall-none : (a : Fall) → a .code ≡ 0 → a .steepness ≡ 0 → FallTo rows cols lv x 0 a
   unfolding fallIn greatestTo
   fall-none a c s = record { code = c; steepness = s }
 
-  fall-kept : (k : ℕ) → f k ≤ greatestTo k f → fallIn rows cols lv x (k + 1) ≡ fallIn rows cols lv x k
+  fall-kept : (k : ℕ) → steep k ≤ greatestTo k steep → fallIn rows cols lv x (k + 1) ≡ fallIn rows cols lv x k
   unfolding fallIn
   fall-kept k h =
-      let e : greatestTo (k + 1) f ≡ greatestTo k f = omega (arith, greatest-more k f) in
-      elim (decLt 0 (greatestTo k f)) [
-        | yes p ↦ simp (lt-ltb 0 (greatestTo k f) p, lt-ltb 0 (greatestTo (k + 1) f) (omega arith)) (ap codeOf (first-kept f k h p))
-        | no q ↦ simp (le-ltb 0 (greatestTo k f) (omega arith), le-ltb 0 (greatestTo (k + 1) f) (omega arith))
+      let e : greatestTo (k + 1) steep ≡ greatestTo k steep = omega (arith, greatest-more k steep) in
+      elim (decLt 0 (greatestTo k steep)) [
+        | yes p ↦ simp (lt-ltb 0 (greatestTo k steep) p, lt-ltb 0 (greatestTo (k + 1) steep) (omega arith)) (ap codeOf (first-kept steep k h p))
+        | no q ↦ simp (le-ltb 0 (greatestTo k steep) (omega arith), le-ltb 0 (greatestTo (k + 1) steep) (omega arith))
       ]
 
-  fall-new : (k : ℕ) → greatestTo k f < f k → fallIn rows cols lv x (k + 1) ≡ codeOf k
+  fall-new : (k : ℕ) → greatestTo k steep < steep k → fallIn rows cols lv x (k + 1) ≡ codeOf k
   unfolding fallIn
-  fall-new k h = simp (lt-ltb 0 (greatestTo (k + 1) f) (omega (arith, greatest-more k f))) (ap codeOf (first-new f k h))
+  fall-new k h = simp (lt-ltb 0 (greatestTo (k + 1) steep) (omega (arith, greatest-more k steep))) (ap codeOf (first-new steep k h))
 
   pub fall-more : (k d : ℕ) (a r : Fall) → FallTo rows cols lv x k a → d ≡ dropOf (getD lv x 0) (getD lv (neighbour rows cols x k) 0) → Steeper k d a r → FallTo rows cols lv x (k + 1) r
   fall-more k d a r p e s =
       record {
         code = s .code ∙ go (steepOf k d) (steep-drop k d e) (decLe (steepOf k d) (a .steepness));
-        steepness = omega (arith, s .steepness, p .steepness, steep-drop k d e, greatest-more k f);
+        steepness = omega (arith, s .steepness, p .steepness, steep-drop k d e, greatest-more k steep);
       }
     where
-      go : (m : ℕ) → m ≡ f k → Dec (m ≤ a .steepness) → cond (leb m (a .steepness)) (a .code) (codeOf k) ≡ fallIn rows cols lv x (k + 1)
+      go : (m : ℕ) → m ≡ steep k → Dec (m ≤ a .steepness) → cond (leb m (a .steepness)) (a .code) (codeOf k) ≡ fallIn rows cols lv x (k + 1)
       go m q (yes h) = rw (le-leb m (a .steepness) h) (p .code ∙ sym (fall-kept k (omega (arith, p .steepness))))
       go m q (no h) = rw (lt-leb m (a .steepness) (omega arith)) (sym (fall-new k (omega (arith, p .steepness))))
 
@@ -142,7 +146,7 @@ module _ (rows cols : ℕ) (lv : List ℕ) (x : ℕ) where
   -- at all eight sides it is the definition's
   fall-is : fallIn rows cols lv x 8 ≡ cond (hasLower rows cols lv x) (codeOf (steepSide rows cols lv x)) 0
   unfolding fallIn steepSide steepestAt
-  fall-is = ap (λ (b : Bool). cond b (codeOf (firstOf (λ j. eqb (f j) (greatestTo 8 f)) 8)) 0) (sym (lower-steepest rows cols lv x))
+  fall-is = ap (λ (b : Bool). cond b (codeOf (firstOf (λ j. eqb (steep j) (greatestTo 8 steep)) 8)) 0) (sym (lower-steepest rows cols lv x))
 
   -- ---- the codes of the sides passed
 
@@ -150,6 +154,7 @@ module _ (rows cols : ℕ) (lv : List ℕ) (x : ℕ) where
   abbrev pub NoneNearer : List ℕ → ℕ → Type 0
   NoneNearer st k = (j : ℕ) → j < k → nearerAt rows cols lv st x j ≡ false
 
+  -- the code that the loop yields: none is nearer, or the side k is the first
   pub nearer-none : (st : List ℕ) (k : ℕ) → NoneNearer st k → 8 ≤ k → 0 ≡ codeOf (nearerSide rows cols lv st x)
   unfolding nearerSide
   nearer-none st k n h = ap codeOf (sym (first-none (nearerAt rows cols lv st x) 8 (λ j l. n j (omega arith))))
@@ -194,6 +199,7 @@ module _ (rows cols : ℕ) (lv st : List ℕ) where
         some (there y v f) e = absurd (true≢false (sym e ∙ f))
         some (on y k v h s w) e = omega arith
 
+    -- the cells with steps are flat, and those with none point as written before
     direction-flat : (x : ℕ) → 0 < getD st x 0 → directionAt rows cols lv st x ≡ codeOf (nearerSide rows cols lv st x)
     unfolding directionAt
     direction-flat x h =

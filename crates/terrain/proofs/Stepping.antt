@@ -5,7 +5,7 @@ use mathlib.Core.Bool.{Bool, true, false, cond, _&&_, true≢false}
 use Prim.Native.Nat.{ℕ, suc, _+_, _-_, _*_, _^_, _≤_, _<_}
 use native.Mathlib.Omega.{arith}
 use lib.ListN.{length, getD, set}
-use lib.IntN.{pos, negsuc, natAbs}
+use lib.IntN.{ℤ, pos, negsuc, natAbs}
 use lib.Signed.{ltZ, nonNeg}
 use lib.Dec.{T, ltb, eqb}
 use mir.Syntax.{w32, w64}
@@ -15,12 +15,18 @@ use Rattle.laws.specs.Lists.{Agrees}
 use Rattle.laws.specs.Settle.{startOf}
 use Rattle.laws.proofs.Lists.{in-list, agrees-tab}
 use Rattle.laws.proofs.Settle.{relax-lower, relax-pass, loose-one, kept-active, store-kept, start-kept}
-use Rattle.terrain.specs.Cells.{neighbour}
-use Rattle.terrain.specs.Filled.{lowestOf}
+use Rattle.terrain.specs.Cells.{neighbour, Ready}
+use Rattle.terrain.specs.Filled.{lowestOf, filledLevels}
 use Rattle.terrain.specs.Flat.{farSteps, flatAt, nearestOf, flatStepping, Within, StepsKept}
 use Rattle.terrain.specs.Levels.{Levels, startOn, startAt, Reached, StepsLoose, LooseSteps, LoweredSteps}
 use Rattle.terrain.proofs.Neighbours.{across, across-small, neighbour-back}
+use Rattle.terrain.proofs.Interior.{ready-sized}
+use Rattle.terrain.proofs.Filling.{filled-long, filled-small}
 use Rattle.terrain.proofs.Flats.{flat-valid, flat-lowest, within-beside, flat-rule}
+
+-- the filled levels are a grid that the functions may assume
+pub filled-levels : (rows cols : ℕ) (ground : List ℤ) → Ready rows cols ground → Levels rows cols (filledLevels rows cols ground)
+filled-levels rows cols ground r = record { sized = ready-sized r; long = filled-long rows cols ground r; capped = (λ x. omega (arith, filled-small rows cols ground r x)) }
 
 -- an entry that is not below 0 casts to an index
 pub entry-casts : (n : ℕ) → ltZ (toZ w32 n) (pos 0) ≡ false → T (nonNeg (toZ w32 n)) × Fits w64 (natAbs (toZ w32 n))
@@ -45,6 +51,7 @@ module _ {lv d : List ℕ} {v n y room e : ℕ} where
 module _ (rows cols : ℕ) (lv : List ℕ) (levels : Levels rows cols lv) where
   -- ---- the start
 
+  -- one cell, as the code tells, and all of them
   pub start-is : (x low r : ℕ) → low ≡ lowestOf rows cols lv x 8 → r ≡ startOn (getD lv x 0) low → r ≡ startAt rows cols lv x
   unfolding startAt
   start-is x low r e q = q ∙ ap (startOn (getD lv x 0)) e ∙ ap (λ (b : Bool). cond b farSteps 0) (sym (flat-lowest rows cols lv x (levels .capped x)))
@@ -53,16 +60,18 @@ module _ (rows cols : ℕ) (lv : List ℕ) (levels : Levels rows cols lv) where
   unfolding startAt
   start-all d e s = agrees-tab (λ x. cond (flatAt rows cols lv x) farSteps 0) 0 d (rows * cols) e s
 
+  -- far and 0 are steps to begin with
   pub begun-kept : (d : List ℕ) → d ≡ startOf (flatStepping rows cols lv) → StepsKept rows cols lv d
   begun-kept d e = subst (StepsKept rows cols lv) (sym e) (start-kept (flatStepping rows cols lv) (Within rows cols lv) (flat-rule rows cols lv (levels .long)))
 
   -- ---- what a queue lowers
 
+  -- a cell with steps to lower is flat
   steps-flat : (d : List ℕ) → StepsKept rows cols lv d → (y n : ℕ) → n < getD d y 0 → flatAt rows cols lv y ≡ true
   steps-flat d k y n h = kept-active (flatStepping rows cols lv) (Within rows cols lv) d k y (omega arith)
 
   -- a cell that is reached at steps that some walk has
-  pub reached-kept : (d d′ : List ℕ) (v n y room e : ℕ) → StepsKept rows cols lv d → Reached lv d d′ v n y room e → (n < getD d y 0 → getD lv y 0 ≡ v → Within rows cols lv y n) → StepsKept rows cols lv d′
+  reached-kept : (d d′ : List ℕ) (v n y room e : ℕ) → StepsKept rows cols lv d → Reached lv d d′ v n y room e → (n < getD d y 0 → getD lv y 0 ≡ v → Within rows cols lv y n) → StepsKept rows cols lv d′
   reached-kept d d′ v n y room e k r w = subst (StepsKept rows cols lv) (sym (r .is)) (go (ltb n (getD d y 0)) refl (eqb (getD lv y 0) v) refl)
     where
       go : (a : Bool) → ltb n (getD d y 0) ≡ a → (b : Bool) → eqb (getD lv y 0) v ≡ b → StepsKept rows cols lv (cond (a && b) (set d y n) d)

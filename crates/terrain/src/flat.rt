@@ -209,8 +209,8 @@ fn spread_inside(
     d: u32,
     x: usize,
 ) -> usize
-    requires { ⌜ ((rows : ℕ) × Levels rows columns (now level) × Inside rows columns x × StepsKept rows columns (now level) (now steps) × (end ≤ length (now queue))) ⌝ }
-    ensures { λ r. ⌜ ((rows : ℕ) → Levels rows columns (now (level .entry)) → Inside rows columns x → StepsKept rows columns (now (level .entry)) (now (steps .entry)) → v ≡ getD (now (level .entry)) x 0 → d ≡ getD (now (steps .entry)) x 0 + 1 → Spread rows columns (now (level .entry)) (now (steps .exit)) (length (now (queue .entry))) r) ⌝ }
+    requires { ⌜ ((rows : ℕ) × Levels rows columns (now level) × Inside rows columns x × StepsKept rows columns (now level) (now steps) × (end ≤ length (now queue)) × (v ≡ getD (now level) x 0) × (d ≡ getD (now steps) x 0 + 1)) ⌝ }
+    ensures { λ r. ⌜ ((rows : ℕ) → Levels rows columns (now (level .entry)) → Inside rows columns x → StepsKept rows columns (now (level .entry)) (now (steps .entry)) → Spread rows columns (now (level .entry)) (now (steps .exit)) (length (now (queue .entry))) r) ⌝ }
 {
     let mut last = end;
     let mut k: usize = 0;

@@ -1,4 +1,4 @@
--- `terrain::direction::point_down` meets its contract: the cells passed. Assumes nothing.
+-- `terrain::direction::point_down` meets its contract: the cells passed have their codes but for flats. Assumes nothing.
 use mathlib.Core.Path.{_≡_, refl, _∙_}
 use Prim.Native.Nat.{_≤_, _*_, _-_}
 use native.Mathlib.Omega.{arith}
@@ -21,31 +21,31 @@ loop-holds : tie.Need-loop-holds Inv-loop μ-loop
 loop-holds c = let a = c .before .before .args in (refl, omega arith, agrees-none (downAt (a .rows) (a .columns) (a .level .now)) 255 (a .direction .now))
 
 run-end-requires : tie.Need-run-end-requires Inv-loop μ-loop
-run-end-requires c κs = let s = c .before .before .before .before in (s .pre .0 .sized, omega (arith, s .pre .1, c .before .loop .inv .0))
+run-end-requires c κs = search needs
 
 point-run-requires : tie.Need-point-run-requires Inv-loop μ-loop
 point-run-requires c κs = let s = c .before .before .before .before .before .before in (s .args .rows, s .pre .0, c .before .run-end .ensures, c .before .before .before .loop .inv .0 ∙ s .pre .1)
 
 mul-downhill : tie.Need-mul-downhill Inv-loop μ-loop
-mul-downhill c = omega (arith, c .before .before .before .before .run-end .ensures .within, c .before .before .before .before .before .before .before .before .before .pre .0 .sized .small)
+mul-downhill c = search needs
 
 shared-slice-read-downhill : tie.Need-shared-slice-read-downhill Inv-loop μ-loop
-shared-slice-read-downhill c = omega (arith, c .before .before .before .before .before .run-end .ensures .within, c .before .before .before .before .before .before .before .before .before .before .pre .0 .long)
+shared-slice-read-downhill c = search needs
 
 steepest-near-requires : tie.Need-steepest-near-requires Inv-loop μ-loop
-steepest-near-requires c κs = let s = c .before .before .before .before .before .before .before .before .before .before in (s .pre .0, c .before .before .before .before .before .run-end .ensures .within)
+steepest-near-requires c κs = search needs
 
 downhill-requires : tie.Need-downhill-requires Inv-loop μ-loop
 downhill-requires c κs = search needs
 
 slice-write-direction : tie.Need-slice-write-direction Inv-loop μ-loop
-slice-write-direction c = omega (arith, c .before .before .before .before .before .before .before .run-end .ensures .within, c .before .before .before .before .before .point-run .kept .1 .1 .0, c .before .before .before .before .before .before .before .before .before .loop .inv .0, c .before .before .before .before .before .before .before .before .before .before .before .before .pre .1)
+slice-write-direction c = search needs
 
 add-x : tie.Need-add-x Inv-loop μ-loop
-add-x c = omega (arith, c .before .before .before .before .before .before .before .run-end .ensures .within, c .before .before .before .before .before .before .before .before .before .before .before .before .pre .0 .sized .small)
+add-x c = search needs
 
 loop-less : tie.Need-loop-less Inv-loop μ-loop
-loop-less c = omega (arith, c .before .before .before .before .before .before .before .run-end .ensures .within, c .before .before .before .before .before .before .before .run-end .ensures .from)
+loop-less c = search needs
 
 loop-again : tie.Need-loop-again Inv-loop μ-loop
 loop-again c =
@@ -60,7 +60,7 @@ loop-again c =
     )
 
 same-length : tie.Need-same-length Inv-loop μ-loop
-same-length c = c .before .loop .inv .0
+same-length c = search needs
 
 returns : tie.Need-returns Inv-loop μ-loop
 returns c =

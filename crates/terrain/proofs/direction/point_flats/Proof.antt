@@ -1,4 +1,4 @@
--- `terrain::direction::point_flats` meets its contract: the cells passed point where they should, and no side passed is nearer. Assumes nothing.
+-- `terrain::direction::point_flats` meets its contract: the cells passed have their directions, and no side passed is nearer. Assumes nothing.
 use mathlib.Core.Path.{_≡_, sym, _∙_}
 use mathlib.Core.Logic.{⊎-elim}
 use mathlib.Core.Bool.{false}
@@ -27,19 +27,19 @@ loop-holds : tie.Need-loop-holds Inv-loop2 μ-loop2 Inv-loop μ-loop
 loop-holds c = let s = c .before .before .before in (point-none (s .args .rows) (s .args .columns) (s .args .level .now) (s .args .steps .now) (s .args .direction .now) (s .pre .2), omega arith)
 
 mul-if1 : tie.Need-mul-if1 Inv-loop2 μ-loop2 Inv-loop μ-loop
-mul-if1 c = let s = c .before .before .before .before .before in omega (arith, c .before .loop .inv .0 .long, s .pre .0 .sized .small)
+mul-if1 c = search needs
 
 shared-slice-read-if1 : tie.Need-shared-slice-read-if1 Inv-loop2 μ-loop2 Inv-loop μ-loop
 shared-slice-read-if1 c = let s = c .before .before .before .before .before .before in omega (arith, c .before .before .loop .inv .0 .long, given-kept (s .args .rows) (s .args .columns) (s .args .level .now) (s .args .steps .now) (s .pre .0 .long) (s .pre .1) .long)
 
 is-inside-requires : tie.Need-is-inside-requires Inv-loop2 μ-loop2 Inv-loop μ-loop
-is-inside-requires c κs = let s = c .before .before .before .before .before .before .before in (s .pre .0 .sized, omega (arith, c .before .before .before .loop .inv .0 .long, s .pre .0 .sized .small))
+is-inside-requires c κs = search needs
 
 loop2-holds : tie.Need-loop2-holds Inv-loop2 μ-loop2 Inv-loop μ-loop
 loop2-holds c = (omega arith, λ j h. absurd (omega arith))
 
 neighbour-requires : tie.Need-neighbour-requires Inv-loop2 μ-loop2 Inv-loop μ-loop
-neighbour-requires c κs = let s = c .before .before .before .before .before .before .before .before .before .before in (s .pre .0 .sized, omega (arith, c .before .before .before .before .before .before .loop .inv .0 .long), omega arith, c .before .before .is-inside .ensures)
+neighbour-requires c κs = search needs
 
 is-nearer-requires : tie.Need-is-nearer-requires Inv-loop2 μ-loop2 Inv-loop μ-loop
 is-nearer-requires c κs =
@@ -64,13 +64,13 @@ loop2-again c =
     (omega arith, below-more (λ (j : ℕ). nearerAt (a .rows) (a .columns) (a .level .now) (a .steps .now) (c .before .before .before .before .before .before .before .before .before .loop .x) j ≡ false) (p .k) (p .inv .1) (cc))
 
 slice-write-direction : tie.Need-slice-write-direction Inv-loop2 μ-loop2 Inv-loop μ-loop
-slice-write-direction c = omega arith
+slice-write-direction c = search needs
 
 add-x : tie.Need-add-x Inv-loop2 μ-loop2 Inv-loop μ-loop
-add-x c = omega (arith, c .before .before .before .loop .inv .0 .long, c .before .before .before .before .before .before .before .pre .0 .sized .small)
+add-x c = search needs
 
 loop-less : tie.Need-loop-less Inv-loop2 μ-loop2 Inv-loop μ-loop
-loop-less c = omega (arith, c .before .before .before .loop .inv .0 .long)
+loop-less c = search needs
 
 loop-again : tie.Need-loop-again Inv-loop2 μ-loop2 Inv-loop μ-loop
 loop-again c =

@@ -1,4 +1,4 @@
--- `terrain::direction::point_run` meets its contract: the cells passed. Assumes nothing.
+-- `terrain::direction::point_run` meets its contract: the cells passed have their codes but for flats. Assumes nothing.
 use mathlib.Core.Path.{_≡_, refl}
 use Prim.Native.Nat.{ℕ, _≤_, _-_}
 use native.Mathlib.Omega.{arith}
@@ -22,10 +22,10 @@ loop-holds : tie.Need-loop-holds Inv-loop μ-loop
 loop-holds c = (refl, omega arith, omega (arith, c .before .before .pre .2 .from), λ rows r g. g)
 
 mul-downhill : tie.Need-mul-downhill Inv-loop μ-loop
-mul-downhill c = omega (arith, c .before .before .before .before .pre .2 .within, c .before .before .before .before .pre .1 .sized .small)
+mul-downhill c = search needs
 
 shared-slice-read-downhill : tie.Need-shared-slice-read-downhill Inv-loop μ-loop
-shared-slice-read-downhill c = omega (arith, c .before .before .before .before .before .pre .2 .within, c .before .before .before .before .before .pre .1 .long)
+shared-slice-read-downhill c = search needs
 
 steepest-inside-requires : tie.Need-steepest-inside-requires Inv-loop μ-loop
 steepest-inside-requires c κs = let s = c .before .before .before .before .before in let p = c .before .before .loop in (s .pre .0, s .pre .1, s .pre .2 .inside (p .x) (omega arith) (omega arith))
@@ -34,10 +34,10 @@ downhill-requires : tie.Need-downhill-requires Inv-loop μ-loop
 downhill-requires c κs = search needs
 
 slice-write-direction : tie.Need-slice-write-direction Inv-loop μ-loop
-slice-write-direction c = omega (arith, c .before .before .before .before .before .before .before .pre .2 .within, c .before .before .before .before .before .before .before .pre .3, c .before .before .before .before .loop .inv .0)
+slice-write-direction c = search needs
 
 add-x : tie.Need-add-x Inv-loop μ-loop
-add-x c = omega (arith, c .before .before .before .before .before .before .before .pre .2 .within, c .before .before .before .before .before .before .before .pre .1 .sized .small)
+add-x c = search needs
 
 loop-less : tie.Need-loop-less Inv-loop μ-loop
 loop-less c = search needs
@@ -54,7 +54,7 @@ loop-again c =
     )
 
 same-length : tie.Need-same-length Inv-loop μ-loop
-same-length c = c .before .loop .inv .0
+same-length c = search needs
 
 returns : tie.Need-returns Inv-loop μ-loop
 returns c =

@@ -1,4 +1,4 @@
--- `terrain::direction::steepest_near` meets its contract: the fall at the sides passed. Assumes nothing.
+-- `terrain::direction::steepest_near` meets its contract: the steepest of the sides passed. Assumes nothing.
 use mathlib.Core.Path.{_≡_, refl, ap, _∙_}
 use Prim.Native.Nat.{_≤_, _-_}
 use native.Mathlib.Omega.{arith}

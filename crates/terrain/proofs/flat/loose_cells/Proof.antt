@@ -1,4 +1,4 @@
--- `terrain::flat::loose_cells` meets its contract: the cells passed. Assumes nothing.
+-- `terrain::flat::loose_cells` meets its contract: the sum counts the cells passed. Assumes nothing.
 use mathlib.Core.Path.{_≡_}
 use Prim.Native.Nat.{_≤_, _*_, _-_}
 use native.Mathlib.Omega.{arith}
@@ -7,6 +7,7 @@ use Rattle.terrain.specs.Flat.{flatStepping, Within}
 use Rattle.terrain.specs.Levels.{StepsLoose}
 use Rattle.terrain.proofs.Flats.{nearest-far, flat-rule}
 use Rattle.terrain.proofs.Stepping.{steps-loose}
+use borrow.Author.Needs.{needs}
 use Rattle.terrain.proofs.flat.loose_cells.Statement.{statement}
 use Rattle.terrain.proofs.flat.loose_cells.Tie as tie
 
@@ -20,22 +21,22 @@ loop-holds : tie.Need-loop-holds Inv-loop μ-loop
 loop-holds c = let a = c .before .before .args in (omega arith, loose-none (flatStepping (a .rows) (a .columns) (a .level .now)) (a .steps .now) 0)
 
 run-end-requires : tie.Need-run-end-requires Inv-loop μ-loop
-run-end-requires c κs = let s = c .before .before .before .before in (s .pre .0 .sized, omega (arith, s .pre .1))
+run-end-requires c κs = search needs
 
 loose-run-requires : tie.Need-loose-run-requires Inv-loop μ-loop
-loose-run-requires c κs = let s = c .before .before .before .before .before in (s .args .rows, s .pre .0, c .run-end .ensures, s .pre .1)
+loose-run-requires c κs = search needs
 
 add-sum : tie.Need-add-sum Inv-loop μ-loop
 add-sum c = let s = c .before .before .before .before .before .before in let e = c .before .run-end in omega (arith, c .before .before .before .loop .inv .1 .few, c .loose-run .ensures (s .args .rows) (e .ensures) .few, e .ensures .within, s .pre .0 .sized .small)
 
 mul-loose : tie.Need-mul-loose Inv-loop μ-loop
-mul-loose c = omega (arith, c .before .run-end .ensures .within, c .before .before .before .before .before .before .pre .0 .sized .small)
+mul-loose c = search needs
 
 shared-slice-read-loose : tie.Need-shared-slice-read-loose Inv-loop μ-loop
-shared-slice-read-loose c = omega (arith, c .before .before .run-end .ensures .within, c .before .before .before .before .before .before .before .pre .1)
+shared-slice-read-loose c = search needs
 
 nearest-near-requires : tie.Need-nearest-near-requires Inv-loop μ-loop
-nearest-near-requires c κs = let s = c .before .before .before .before .before .before .before in (s .pre .0, s .pre .1, c .before .before .run-end .ensures .within)
+nearest-near-requires c κs = search needs
 
 loose-requires : tie.Need-loose-requires Inv-loop μ-loop
 loose-requires c κs = let a = c .before .before .before .before .before .before .before .before .args in omega (arith, c .nearest-near .ensures, nearest-far (a .rows) (a .columns) (a .level .now) (a .steps .now) (c .before .before .before .run-end .result) 8)
@@ -46,10 +47,10 @@ add-sum-2 c =
     omega (arith, c .before .before .before .before .before .before .loop .inv .1 .few, c .before .before .before .loose-run .ensures (s .args .rows) (e .ensures) .few, c .loose .ensures .few, e .ensures .within, s .pre .0 .sized .small)
 
 add-x : tie.Need-add-x Inv-loop μ-loop
-add-x c = omega (arith, c .before .before .before .before .run-end .ensures .within, c .before .before .before .before .before .before .before .before .before .pre .0 .sized .small)
+add-x c = search needs
 
 loop-less : tie.Need-loop-less Inv-loop μ-loop
-loop-less c = omega (arith, c .before .before .before .before .run-end .ensures .within, c .before .before .before .before .run-end .ensures .from)
+loop-less c = search needs
 
 loop-again : tie.Need-loop-again Inv-loop μ-loop
 loop-again c =

@@ -1,4 +1,4 @@
--- `terrain::flat::loose_run` meets its contract: the cells passed. Assumes nothing.
+-- `terrain::flat::loose_run` meets its contract: the sum counts the cells passed. Assumes nothing.
 use mathlib.Core.Path.{_≡_}
 use Prim.Native.Nat.{ℕ, _≤_, _-_}
 use native.Mathlib.Omega.{arith}
@@ -22,10 +22,10 @@ loop-holds : tie.Need-loop-holds Inv-loop μ-loop
 loop-holds c = let a = c .before .before .args in (omega arith, c .before .before .pre .2 .from, λ rows r. loose-none (flatStepping rows (a .columns) (a .level .now)) (a .steps .now) (a .from))
 
 mul-loose : tie.Need-mul-loose Inv-loop μ-loop
-mul-loose c = let s = c .before .before .before .before in omega (arith, s .pre .2 .within, s .pre .1 .sized .small)
+mul-loose c = search needs
 
 shared-slice-read-loose : tie.Need-shared-slice-read-loose Inv-loop μ-loop
-shared-slice-read-loose c = let s = c .before .before .before .before .before in omega (arith, s .pre .2 .within, s .pre .3)
+shared-slice-read-loose c = search needs
 
 nearest-inside-requires : tie.Need-nearest-inside-requires Inv-loop μ-loop
 nearest-inside-requires c κs = let s = c .before .before .before .before .before in let p = c .before .before .loop in (s .pre .0, s .pre .1, s .pre .2 .inside (p .x) (omega arith) (omega arith), s .pre .3)
@@ -39,7 +39,7 @@ add-sum : tie.Need-add-sum Inv-loop μ-loop
 add-sum c = let s = c .before .before .before .before .before .before .before in omega (arith, c .before .before .before .before .loop .inv .2 (s .pre .0) (s .pre .2) .few, c .loose .ensures .few, s .pre .2 .within, s .pre .1 .sized .small)
 
 add-x : tie.Need-add-x Inv-loop μ-loop
-add-x c = omega (arith, c .before .before .before .before .before .before .before .pre .2 .within, c .before .before .before .before .before .before .before .pre .1 .sized .small)
+add-x c = search needs
 
 loop-less : tie.Need-loop-less Inv-loop μ-loop
 loop-less c = search needs

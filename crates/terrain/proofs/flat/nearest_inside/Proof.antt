@@ -1,7 +1,8 @@
 -- `terrain::flat::nearest_inside` meets its contract: the fewest steps at the sides passed. Assumes nothing.
 use mathlib.Core.Path.{_≡_, sym, ap, _∙_}
-use Prim.Native.Nat.{ℕ, _≤_, _-_}
+use Prim.Native.Nat.{ℕ, _≤_, _<_, _-_}
 use native.Mathlib.Omega.{arith}
+use lib.ListN.{length}
 use Rattle.terrain.specs.Inside.{Inside}
 use Rattle.terrain.specs.Flat.{nearestOf}
 use Rattle.terrain.proofs.Interior.{inside-beside, inside-is, inside-lt}
@@ -28,17 +29,23 @@ loop-holds c = (omega arith, λ rows i. sym (nearest-none _ _ _ _ _))
 beside-requires : tie.Need-beside-requires Inv-loop μ-loop
 beside-requires c κs = let s = c .before .before .before .before .before in inside-beside (s .pre .0) _ _ _ (s .pre .1 .sized) (s .pre .2) (omega arith)
 
+-- the neighbour is a cell of the grid
+near-lt : (c : tie.After-beside Inv-loop μ-loop) → c .beside .result < length (c .before .before .before .before .before .before .args .level .now)
+near-lt c =
+    let s = c .before .before .before .before .before .before in
+    omega (arith, s .pre .1 .long, inside-lt (s .pre .0) (s .args .columns) (s .args .x) (c .before .before .loop .k) (c .beside .result) (s .pre .2) (omega arith) (c .beside .ensures))
+
 mul-seen : tie.Need-mul-seen Inv-loop μ-loop
-mul-seen c = let s = c .before .before .before .before .before .before in omega (arith, inside-lt (s .pre .0) (s .args .columns) (s .args .x) (c .before .before .loop .k) (c .beside .result) (s .pre .2) (omega arith) (c .beside .ensures))
+mul-seen c = omega (arith, near-lt c)
 
 shared-slice-read-seen : tie.Need-shared-slice-read-seen Inv-loop μ-loop
-shared-slice-read-seen c = let s = c .before .before .before .before .before .before .before in omega (arith, inside-lt (s .pre .0) (s .args .columns) (s .args .x) (c .before .before .before .loop .k) (c .before .beside .result) (s .pre .2) (omega arith) (c .before .beside .ensures))
+shared-slice-read-seen c = omega (arith, near-lt (c .before))
 
 mul-seen-2 : tie.Need-mul-seen-2 Inv-loop μ-loop
-mul-seen-2 c = let s = c .before .before .before .before .before .before .before in omega (arith, inside-lt (s .pre .0) (s .args .columns) (s .args .x) (c .before .before .before .loop .k) (c .before .beside .result) (s .pre .2) (omega arith) (c .before .beside .ensures))
+mul-seen-2 c = omega (arith, near-lt (c .before))
 
 shared-slice-read-seen-2 : tie.Need-shared-slice-read-seen-2 Inv-loop μ-loop
-shared-slice-read-seen-2 c = let s = c .before .before .before .before .before .before .before .before in omega (arith, inside-lt (s .pre .0) (s .args .columns) (s .args .x) (c .before .before .before .before .loop .k) (c .before .before .beside .result) (s .pre .2) (omega arith) (c .before .before .beside .ensures))
+shared-slice-read-seen-2 c = omega (arith, near-lt (c .before .before))
 
 seen-requires : tie.Need-seen-requires Inv-loop μ-loop
 seen-requires c κs = search needs

@@ -1,5 +1,4 @@
 -- `terrain::flat::reach_shore` meets its contract. Assumes nothing.
-use native.Mathlib.Omega.{arith}
 use Rattle.terrain.proofs.Stepping.{shore-kept}
 use borrow.Author.Needs.{needs}
 use Rattle.terrain.proofs.flat.reach_shore.Statement.{statement}
@@ -12,16 +11,16 @@ slice-read-if1 : tie.Need-slice-read-if1
 slice-read-if1 c = search needs
 
 returns : tie.Need-returns
-returns c = record { kept = c .before .before .before .before .pre .1; fits = c .before .before .before .before .pre .2 }
+returns c = search needs
 
 nearest-requires : tie.Need-nearest-requires
-nearest-requires c κs = let s = c .before .before .before .before .before in (s .pre .0, s .pre .1 .long, s .pre .3)
+nearest-requires c κs = search needs
 
 same-length : tie.Need-same-length
 same-length c = search needs
 
 returns-2 : tie.Need-returns-2
-returns-2 c = record { kept = c .before .before .before .before .before .before .before .pre .1; fits = c .before .before .before .before .before .before .before .pre .2 }
+returns-2 c = search needs
 
 mul-reach : tie.Need-mul-reach
 mul-reach c = search needs
@@ -30,7 +29,7 @@ shared-slice-read-reach : tie.Need-shared-slice-read-reach
 shared-slice-read-reach c = search needs
 
 reach-requires : tie.Need-reach-requires
-reach-requires c κs = let s = c .before .before .before .before .before .before .before .before .before .before in (omega (arith, s .pre .0 .long, s .pre .1 .long), omega (arith, s .pre .0 .sized .small, s .pre .1 .long), s .pre .2)
+reach-requires c κs = search needs
 
 same-length-2 : tie.Need-same-length-2
 same-length-2 c = search needs

@@ -1,5 +1,5 @@
--- `terrain::flat::reach_shores` meets its contract. Assumes nothing.
-use mathlib.Core.Path.{_≡_, refl, sym, _∙_}
+-- `terrain::flat::reach_shores` meets its contract: every reach keeps the steps such that walks have them. Assumes nothing.
+use mathlib.Core.Path.{_≡_, refl, _∙_}
 use Prim.Native.Nat.{_≤_, _*_, _-_}
 use native.Mathlib.Omega.{arith}
 use lib.ListN.{length}
@@ -18,10 +18,10 @@ loop-holds : tie.Need-loop-holds Inv-loop μ-loop
 loop-holds c = (c .before .before .pre .1, refl, omega arith, omega arith)
 
 reach-shore-requires : tie.Need-reach-shore-requires Inv-loop μ-loop
-reach-shore-requires c κs = let s = c .before .before .before .before .before .before in let p = c .before .before .before .loop in (s .pre .0, p .inv .0, omega (arith, p .inv .1), omega (arith, p .inv .0 .long))
+reach-shore-requires c κs = search needs
 
 add-x : tie.Need-add-x Inv-loop μ-loop
-add-x c = omega (arith, c .before .before .before .before .before .before .before .before .before .before .pre .0 .sized .small)
+add-x c = search needs
 
 loop-less : tie.Need-loop-less Inv-loop μ-loop
 loop-less c = search needs
@@ -33,13 +33,13 @@ loop-again c =
     (r .ensures .kept, r .kept .1 .1 .1 .1 .0 ∙ p .inv .1, omega (arith, r .ensures .fits, p .inv .1), omega (arith, p .inv .0 .long))
 
 same-length : tie.Need-same-length Inv-loop μ-loop
-same-length c = c .before .loop .inv .0 .long ∙ sym (c .before .before .before .before .pre .1 .long)
+same-length c = search needs
 
 same-length-2 : tie.Need-same-length-2 Inv-loop μ-loop
-same-length-2 c = c .before .loop .inv .1
+same-length-2 c = search needs
 
 returns : tie.Need-returns Inv-loop μ-loop
-returns c = record { kept = c .before .loop .inv .0; fits = c .before .loop .inv .2 }
+returns c = search needs
 
 pub reach-shores-spec : {M : Type 1} → statement M
 reach-shores-spec =

@@ -1,5 +1,4 @@
 -- `terrain::flat::settle` meets its contract: each sweep but the last lowers the sum of the steps. Assumes nothing.
-use mathlib.Core.Path.{sym, _∙_}
 use Prim.Native.Nat.{_+_}
 use native.Mathlib.Omega.{arith}
 use borrow.Author.Tests.{ltb-false}
@@ -8,6 +7,7 @@ use Rattle.laws.specs.Settle.{dueOf, Settling}
 use Rattle.laws.proofs.Settle.{settling-more, settling-less}
 use Rattle.terrain.specs.Flat.{flatStepping, Within}
 use Rattle.terrain.proofs.Flats.{flat-rule, steps-are}
+use borrow.Author.Needs.{needs}
 use Rattle.terrain.proofs.flat.settle.Statement.{statement}
 use Rattle.terrain.proofs.flat.settle.Tie as tie
 
@@ -18,13 +18,13 @@ abbrev μ-loop : tie.MeasureT-loop
 μ-loop rows columns level steps₀ again₀ steps again = total steps + dueOf again
 
 loose-cells-requires : tie.Need-loose-cells-requires Inv-loop μ-loop
-loose-cells-requires c κs = (c .before .before .before .pre .0, c .before .before .before .pre .1 .long)
+loose-cells-requires c κs = search needs
 
 loop-holds : tie.Need-loop-holds Inv-loop μ-loop
 loop-holds c = let r = c .loose-cells in record { kept = c .before .before .before .before .pre .1; still = (λ e. r .ensures (omega (arith, ltb-false 0 (r .result) e))) }
 
 sweep-requires : tie.Need-sweep-requires Inv-loop μ-loop
-sweep-requires c κs = (c .before .before .before .before .before .before .before .pre .0, c .before .before .loop .inv .kept .long)
+sweep-requires c κs = search needs
 
 loop-less : tie.Need-loop-less Inv-loop μ-loop
 loop-less c =
@@ -37,7 +37,7 @@ loop-again c =
     settling-more (flatStepping (a .rows) (a .columns) (a .level .now)) (Within (a .rows) (a .columns) (a .level .now)) (flat-rule (a .rows) (a .columns) (a .level .now) (s .pre .0 .long)) (p .steps) _ (c .before .before .sweep .result) (p .inv .kept) (c .before .before .sweep .ensures)
 
 same-length : tie.Need-same-length Inv-loop μ-loop
-same-length c = c .before .loop .inv .kept .long ∙ sym (c .before .before .before .before .before .before .pre .1 .long)
+same-length c = search needs
 
 returns : tie.Need-returns Inv-loop μ-loop
 returns c =

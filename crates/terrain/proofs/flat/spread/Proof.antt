@@ -6,7 +6,7 @@ use Rattle.terrain.proofs.flat.spread.Statement.{statement}
 use Rattle.terrain.proofs.flat.spread.Tie as tie
 
 returns : tie.Need-returns
-returns c = record { kept = c .before .before .before .pre .1; fits = c .before .before .before .pre .2 }
+returns c = search needs
 
 mul-v : tie.Need-mul-v
 mul-v c = search needs
@@ -27,7 +27,7 @@ is-inside-requires : tie.Need-is-inside-requires
 is-inside-requires c κs = search needs
 
 spread-inside-requires : tie.Need-spread-inside-requires
-spread-inside-requires c κs = let s = c .before .before .before .before .before .before .before .before .before in (s .args .rows, s .pre .0, c .before .before .before .is-inside .ensures (c .before .before .if2 .taken), s .pre .1, s .pre .2)
+spread-inside-requires c κs = let s = c .before .before .before .before .before .before .before .before .before in (s .args .rows, s .pre .0, c .before .before .before .is-inside .ensures (c .before .before .if2 .taken), s .pre .1, s .pre .2, refl, refl)
 
 same-length : tie.Need-same-length
 same-length c = search needs
@@ -36,10 +36,12 @@ same-length-2 : tie.Need-same-length-2
 same-length-2 c = search needs
 
 returns-2 : tie.Need-returns-2
-returns-2 c = c .before .before .before .spread-inside .ensures _ (c .before .before .before .before .before .before .before .before .before .before .before .before .before .pre .0) (c .before .before .before .before .before .before .before .is-inside .ensures (c .before .before .before .before .before .before .if2 .taken)) (c .before .before .before .before .before .before .before .before .before .before .before .before .before .pre .1) refl refl
+returns-2 c =
+    let s = c .before .before .before .before .before .before .before .before .before .before .before .before .before in
+    c .before .before .before .spread-inside .ensures (s .args .rows) (s .pre .0) (c .before .before .before .before .before .before .before .is-inside .ensures (c .before .before .before .before .before .before .if2 .taken)) (s .pre .1)
 
 spread-near-requires : tie.Need-spread-near-requires
-spread-near-requires c κs = let s = c .before .before .before .before .before .before .before .before .before in (s .pre .0, s .pre .1, s .pre .2, omega (arith, s .pre .1 .long), refl, refl)
+spread-near-requires c κs = search needs
 
 same-length-3 : tie.Need-same-length-3
 same-length-3 c = search needs
@@ -48,7 +50,7 @@ same-length-4 : tie.Need-same-length-4
 same-length-4 c = search needs
 
 returns-3 : tie.Need-returns-3
-returns-3 c = c .before .before .before .spread-near .ensures
+returns-3 c = search needs
 
 pub spread-spec : {M : Type 1} → statement M
 spread-spec =

@@ -1,5 +1,5 @@
--- `terrain::flat::spread_near` meets its contract: each neighbour is one step further than x was. Assumes nothing.
-use mathlib.Core.Path.{_≡_, refl, sym, _∙_}
+-- `terrain::flat::spread_near` meets its contract: each neighbour is reached at one step more than x had. Assumes nothing.
+use mathlib.Core.Path.{_≡_, refl, _∙_}
 use Prim.Native.Nat.{_≤_, _-_}
 use native.Mathlib.Omega.{arith}
 use lib.ListN.{length}
@@ -22,7 +22,7 @@ near-requires : tie.Need-near-requires Inv-loop μ-loop
 near-requires c κs = search needs
 
 reach-requires : tie.Need-reach-requires Inv-loop μ-loop
-reach-requires c κs = let s = c .before .before .before .before .before .before .before in let p = c .before .before .before .before .loop in (omega (arith, s .pre .0 .long, p .inv .0 .long), omega (arith, s .pre .0 .sized .small, p .inv .0 .long), omega (arith, p .inv .1))
+reach-requires c κs = search needs
 
 add-k : tie.Need-add-k Inv-loop μ-loop
 add-k c = search needs
@@ -42,13 +42,13 @@ loop-again c =
     )
 
 same-length : tie.Need-same-length Inv-loop μ-loop
-same-length c = c .before .loop .inv .0 .long ∙ sym (c .before .before .before .before .pre .1 .long)
+same-length c = search needs
 
 same-length-2 : tie.Need-same-length-2 Inv-loop μ-loop
-same-length-2 c = c .before .loop .inv .1
+same-length-2 c = search needs
 
 returns : tie.Need-returns Inv-loop μ-loop
-returns c = record { kept = c .before .loop .inv .0; fits = c .before .loop .inv .2 }
+returns c = search needs
 
 pub spread-near-spec : {M : Type 1} → statement M
 spread-near-spec =

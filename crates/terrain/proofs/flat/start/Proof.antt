@@ -1,4 +1,4 @@
--- `terrain::flat::start` meets its contract: the cells passed. Assumes nothing.
+-- `terrain::flat::start` meets its contract: the cells passed have the steps that they start from. Assumes nothing.
 use mathlib.Core.Path.{_≡_, refl, _∙_}
 use Prim.Native.Nat.{_≤_, _*_, _-_}
 use native.Mathlib.Omega.{arith}
@@ -21,34 +21,34 @@ loop-holds : tie.Need-loop-holds Inv-loop μ-loop
 loop-holds c = let a = c .before .before .args in (refl, omega arith, agrees-none (startAt (a .rows) (a .columns) (a .level .now)) 0 (a .steps .now))
 
 run-end-requires : tie.Need-run-end-requires Inv-loop μ-loop
-run-end-requires c κs = let s = c .before .before .before .before in (s .pre .0 .sized, omega (arith, s .pre .1, c .before .loop .inv .0))
+run-end-requires c κs = search needs
 
 start-run-requires : tie.Need-start-run-requires Inv-loop μ-loop
 start-run-requires c κs = let s = c .before .before .before .before .before .before in (s .args .rows, s .pre .0, c .before .run-end .ensures, c .before .before .before .loop .inv .0 ∙ s .pre .1)
 
 mul-start-steps : tie.Need-mul-start-steps Inv-loop μ-loop
-mul-start-steps c = omega (arith, c .before .before .before .before .run-end .ensures .within, c .before .before .before .before .before .before .before .before .before .pre .0 .sized .small)
+mul-start-steps c = search needs
 
 shared-slice-read-start-steps : tie.Need-shared-slice-read-start-steps Inv-loop μ-loop
-shared-slice-read-start-steps c = omega (arith, c .before .before .before .before .before .run-end .ensures .within, c .before .before .before .before .before .before .before .before .before .before .pre .0 .long)
+shared-slice-read-start-steps c = search needs
 
 lowest-near-requires : tie.Need-lowest-near-requires Inv-loop μ-loop
-lowest-near-requires c κs = let s = c .before .before .before .before .before .before .before .before .before .before in (s .pre .0 .sized, omega (arith, c .before .before .before .before .before .run-end .ensures .within, s .pre .0 .sized .small))
+lowest-near-requires c κs = search needs
 
 start-steps-requires : tie.Need-start-steps-requires Inv-loop μ-loop
 start-steps-requires c κs = search needs
 
 mul-steps : tie.Need-mul-steps Inv-loop μ-loop
-mul-steps c = omega (arith, c .before .before .before .before .before .before .before .run-end .ensures .within, c .before .before .before .before .before .before .before .before .before .before .before .before .pre .0 .sized .small)
+mul-steps c = search needs
 
 slice-write-steps : tie.Need-slice-write-steps Inv-loop μ-loop
-slice-write-steps c = omega (arith, c .before .before .before .before .before .before .before .run-end .ensures .within, c .before .before .before .before .before .start-run .kept .1 .1 .0, c .before .before .before .before .before .before .before .before .before .loop .inv .0, c .before .before .before .before .before .before .before .before .before .before .before .before .pre .1)
+slice-write-steps c = search needs
 
 add-x : tie.Need-add-x Inv-loop μ-loop
-add-x c = omega (arith, c .before .before .before .before .before .before .before .run-end .ensures .within, c .before .before .before .before .before .before .before .before .before .before .before .before .pre .0 .sized .small)
+add-x c = search needs
 
 loop-less : tie.Need-loop-less Inv-loop μ-loop
-loop-less c = omega (arith, c .before .before .before .before .before .before .before .run-end .ensures .within, c .before .before .before .before .before .before .before .run-end .ensures .from)
+loop-less c = search needs
 
 loop-again : tie.Need-loop-again Inv-loop μ-loop
 loop-again c =
@@ -63,7 +63,7 @@ loop-again c =
     )
 
 same-length : tie.Need-same-length Inv-loop μ-loop
-same-length c = c .before .loop .inv .0
+same-length c = search needs
 
 returns : tie.Need-returns Inv-loop μ-loop
 returns c =

@@ -1,4 +1,4 @@
--- `terrain::flat::start_run` meets its contract: the cells passed. Assumes nothing.
+-- `terrain::flat::start_run` meets its contract: the cells passed have the steps that they start from. Assumes nothing.
 use mathlib.Core.Path.{_≡_, refl}
 use Prim.Native.Nat.{ℕ, _≤_, _-_}
 use native.Mathlib.Omega.{arith}
@@ -22,10 +22,10 @@ loop-holds : tie.Need-loop-holds Inv-loop μ-loop
 loop-holds c = (refl, omega arith, omega (arith, c .before .before .pre .2 .from), λ rows l r s. s)
 
 mul-start-steps : tie.Need-mul-start-steps Inv-loop μ-loop
-mul-start-steps c = omega (arith, c .before .before .before .before .pre .2 .within, c .before .before .before .before .pre .1 .sized .small)
+mul-start-steps c = search needs
 
 shared-slice-read-start-steps : tie.Need-shared-slice-read-start-steps Inv-loop μ-loop
-shared-slice-read-start-steps c = omega (arith, c .before .before .before .before .before .pre .2 .within, c .before .before .before .before .before .pre .1 .long)
+shared-slice-read-start-steps c = search needs
 
 lowest-inside-requires : tie.Need-lowest-inside-requires Inv-loop μ-loop
 lowest-inside-requires c κs = let s = c .before .before .before .before .before in let p = c .before .before .loop in (s .pre .0, s .pre .1 .sized, s .pre .1 .long, s .pre .2 .inside (p .x) (omega arith) (omega arith))
@@ -34,13 +34,13 @@ start-steps-requires : tie.Need-start-steps-requires Inv-loop μ-loop
 start-steps-requires c κs = search needs
 
 mul-steps : tie.Need-mul-steps Inv-loop μ-loop
-mul-steps c = omega (arith, c .before .before .before .before .before .before .before .pre .2 .within, c .before .before .before .before .before .before .before .pre .1 .sized .small)
+mul-steps c = search needs
 
 slice-write-steps : tie.Need-slice-write-steps Inv-loop μ-loop
-slice-write-steps c = omega (arith, c .before .before .before .before .before .before .before .pre .2 .within, c .before .before .before .before .before .before .before .pre .3, c .before .before .before .before .loop .inv .0)
+slice-write-steps c = search needs
 
 add-x : tie.Need-add-x Inv-loop μ-loop
-add-x c = omega (arith, c .before .before .before .before .before .before .before .pre .2 .within, c .before .before .before .before .before .before .before .pre .1 .sized .small)
+add-x c = search needs
 
 loop-less : tie.Need-loop-less Inv-loop μ-loop
 loop-less c = search needs
@@ -57,7 +57,7 @@ loop-again c =
     )
 
 same-length : tie.Need-same-length Inv-loop μ-loop
-same-length c = c .before .loop .inv .0
+same-length c = search needs
 
 returns : tie.Need-returns Inv-loop μ-loop
 returns c =

@@ -1,5 +1,5 @@
--- `terrain::flat::sweep` meets its contract: the cells passed. Assumes nothing.
-use mathlib.Core.Path.{_≡_, _∙_}
+-- `terrain::flat::sweep` meets its contract: the cells passed are lowered. Assumes nothing.
+use mathlib.Core.Path.{_≡_}
 use mathlib.Core.Logic.{⊎-elim}
 use Prim.Native.Nat.{_≤_, _*_, _-_}
 use native.Mathlib.Omega.{arith}
@@ -9,6 +9,7 @@ use Rattle.laws.proofs.Tests.{or-set, or-keep}
 use Rattle.laws.proofs.Settle.{sweep-none, sweep-more}
 use Rattle.terrain.specs.Flat.{flatStepping, Within}
 use Rattle.terrain.proofs.Flats.{flat-rule}
+use borrow.Author.Needs.{needs}
 use Rattle.terrain.proofs.flat.sweep.Statement.{statement}
 use Rattle.terrain.proofs.flat.sweep.Tie as tie
 
@@ -24,13 +25,13 @@ loop-holds c =
     (sweep-none (flatStepping (a .rows) (a .columns) (a .level .now)) (Within (a .rows) (a .columns) (a .level .now)) (flat-rule (a .rows) (a .columns) (a .level .now) (s .pre .0 .long)) (a .steps .now), omega arith)
 
 lower-requires : tie.Need-lower-requires Inv-loop μ-loop
-lower-requires c κs = let s = c .before .before .before .before .before in let p = c .before .before .loop in (s .pre .0, p .inv .0 .eased .long ∙ s .pre .1, omega (arith, p .inv .0 .eased .long))
+lower-requires c κs = search needs
 
 add-x : tie.Need-add-x Inv-loop μ-loop
-add-x c = omega (arith, c .before .before .before .before .before .before .before .before .before .pre .0 .sized .small)
+add-x c = search needs
 
 loop-less : tie.Need-loop-less Inv-loop μ-loop
-loop-less c = omega (arith, c .before .before .before .before .before .before .loop .inv .0 .eased .long)
+loop-less c = search needs
 
 loop-again : tie.Need-loop-again Inv-loop μ-loop
 loop-again c =
@@ -44,7 +45,7 @@ loop-again c =
     )
 
 same-length : tie.Need-same-length Inv-loop μ-loop
-same-length c = c .before .loop .inv .0 .eased .long
+same-length c = search needs
 
 returns : tie.Need-returns Inv-loop μ-loop
 returns c =

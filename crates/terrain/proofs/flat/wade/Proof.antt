@@ -1,5 +1,5 @@
--- `terrain::flat::wade` meets its contract. Assumes nothing.
-use mathlib.Core.Path.{_≡_, refl, sym, _∙_}
+-- `terrain::flat::wade` meets its contract: every spread keeps the steps such that walks have them. Assumes nothing.
+use mathlib.Core.Path.{_≡_, refl, _∙_}
 use Prim.Native.Nat.{_≤_, _-_}
 use native.Mathlib.Omega.{arith}
 use lib.ListN.{length}
@@ -15,7 +15,7 @@ abbrev μ-loop : tie.MeasureT-loop
 μ-loop rows columns level steps₀ queue₀ end₀ at₀ steps queue end at = length queue₀ - at
 
 reach-shores-requires : tie.Need-reach-shores-requires Inv-loop μ-loop
-reach-shores-requires c κs = (c .before .before .before .before .pre .0, c .before .before .before .before .pre .1)
+reach-shores-requires c κs = search needs
 
 loop-holds : tie.Need-loop-holds Inv-loop μ-loop
 loop-holds c = let r = c .before .before .before .reach-shores in (r .ensures .kept, refl, omega (arith, r .ensures .fits, r .kept .1 .1 .1 .1 .0))
@@ -24,13 +24,13 @@ cell-in-requires : tie.Need-cell-in-requires Inv-loop μ-loop
 cell-in-requires c κs = search needs
 
 spread-requires : tie.Need-spread-requires Inv-loop μ-loop
-spread-requires c κs = let p = c .before .before .before .before .before .loop in (c .before .before .before .before .before .before .before .before .before .before .before .before .before .before .pre .0, p .inv .0, omega (arith, p .inv .1, p .inv .2))
+spread-requires c κs = search needs
 
 add-at : tie.Need-add-at Inv-loop μ-loop
-add-at c = omega (arith, c .before .before .before .before .before .before .before .before .before .loop .inv .2, c .before .before .before .before .before .before .before .before .before .before .before .before .before .reach-shores .kept .1 .1 .1 .1 .0)
+add-at c = search needs
 
 loop-less : tie.Need-loop-less Inv-loop μ-loop
-loop-less c = omega (arith, c .before .before .before .before .before .before .before .before .before .loop .inv .2)
+loop-less c = search needs
 
 loop-again : tie.Need-loop-again Inv-loop μ-loop
 loop-again c =
@@ -39,13 +39,13 @@ loop-again c =
     (r .ensures .kept, r .kept .1 .1 .1 .1 .0 ∙ p .inv .1, omega (arith, r .ensures .fits, p .inv .1))
 
 same-length : tie.Need-same-length Inv-loop μ-loop
-same-length c = c .before .loop .inv .0 .long ∙ sym (c .before .before .before .before .before .before .before .before .before .before .pre .1 .long)
+same-length c = search needs
 
 same-length-2 : tie.Need-same-length-2 Inv-loop μ-loop
-same-length-2 c = c .before .loop .inv .1 ∙ c .before .before .before .before .before .reach-shores .kept .1 .1 .1 .1 .0
+same-length-2 c = search needs
 
 returns : tie.Need-returns Inv-loop μ-loop
-returns c = c .before .loop .inv .0
+returns c = search needs
 
 pub wade-spec : {M : Type 1} → statement M
 wade-spec =
