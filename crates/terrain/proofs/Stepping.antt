@@ -5,7 +5,7 @@ use mathlib.Core.Bool.{Bool, true, false, cond, _&&_, true≢false}
 use Prim.Native.Nat.{ℕ, suc, _+_, _-_, _*_, _^_, _≤_, _<_}
 use native.Mathlib.Omega.{arith}
 use lib.ListN.{length, getD, set}
-use lib.IntN.{ℤ, pos, negsuc, natAbs}
+use lib.IntN.{pos, negsuc, natAbs}
 use lib.Signed.{ltZ, nonNeg}
 use lib.Dec.{T, ltb, eqb}
 use mir.Syntax.{w32, w64}
@@ -15,18 +15,12 @@ use Rattle.laws.specs.Lists.{Agrees}
 use Rattle.laws.specs.Settle.{startOf}
 use Rattle.laws.proofs.Lists.{in-list, agrees-tab}
 use Rattle.laws.proofs.Settle.{relax-lower, relax-pass, loose-one, kept-active, store-kept, start-kept}
-use Rattle.terrain.specs.Cells.{neighbour, Ready}
-use Rattle.terrain.specs.Filled.{lowestOf, filledLevels}
+use Rattle.terrain.specs.Cells.{neighbour}
+use Rattle.terrain.specs.Filled.{lowestOf}
 use Rattle.terrain.specs.Flat.{farSteps, flatAt, nearestOf, flatStepping, Within, StepsKept}
 use Rattle.terrain.specs.Levels.{Levels, startOn, startAt, Reached, StepsLoose, LooseSteps, LoweredSteps}
 use Rattle.terrain.proofs.Neighbours.{across, across-small, neighbour-back}
-use Rattle.terrain.proofs.Interior.{ready-sized}
-use Rattle.terrain.proofs.Filling.{filled-long, filled-small}
 use Rattle.terrain.proofs.Flats.{flat-valid, flat-lowest, within-beside, flat-rule}
-
--- the filled levels are a grid that the functions may assume
-pub filled-levels : (rows cols : ℕ) (ground : List ℤ) → Ready rows cols ground → Levels rows cols (filledLevels rows cols ground)
-filled-levels rows cols ground r = record { sized = ready-sized r; long = filled-long rows cols ground r; capped = (λ x. omega (arith, filled-small rows cols ground r x)) }
 
 -- an entry that is not below 0 casts to an index
 pub entry-casts : (n : ℕ) → ltZ (toZ w32 n) (pos 0) ≡ false → T (nonNeg (toZ w32 n)) × Fits w64 (natAbs (toZ w32 n))
