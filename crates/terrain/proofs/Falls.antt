@@ -21,7 +21,7 @@ use Rattle.laws.proofs.Settle.{kept-active}
 use Rattle.terrain.specs.Cells.{neighbour, codeOf, cardinal, validAt, rimAt}
 use Rattle.terrain.specs.Flat.{hasLower, flatAt, flatSteps, flatStepping, Walk, there, on, walked, Within, StepsKept}
 use Rattle.terrain.specs.Direction.{steepOf, steepAt, steepestAt, steepSide, nearerAt, nearerSide, directionAt, directionsOf}
-use Rattle.terrain.specs.Levels.{dropOf, Steeper, fallIn, downAt}
+use Rattle.terrain.specs.Levels.{Levels, dropOf, Steeper, fallIn, downAt}
 use Rattle.terrain.specs.declared.direction.Fall.{Fall}
 use Rattle.terrain.proofs.Flats.{flat-valid, flat-inland, flat-is, steps-kept}
 use Rattle.terrain.proofs.Directions.{lower-steepest}
@@ -70,13 +70,13 @@ steep-is k w d e = rw e (go (cardinal k))
     go false = rw one-mul
 
 -- the fall that the code keeps, and the one that it takes
-pub steeper-kept : (k d w : ℕ) (a : Fall) → w ≡ cond (cardinal k) 2 1 → w * d * d ≤ a .steepness → Steeper k d a a
-steeper-kept k d w a e h =
+pub steeper-kept : {k d w : ℕ} {a : Fall} → w ≡ cond (cardinal k) 2 1 → w * d * d ≤ a .steepness → Steeper k d a a
+steeper-kept {k} {d} {w} {a} e h =
     let q = steep-is k w d e in
     record { code = sym (ap (λ (b : Bool). cond b (a .code) (codeOf k)) (le-leb (steepOf k d) (a .steepness) (omega arith))); steepness = omega arith }
 
-pub steeper-new : (k d w : ℕ) (a r : Fall) → w ≡ cond (cardinal k) 2 1 → a .steepness < w * d * d → r .code ≡ codeOf k → r .steepness ≡ w * d * d → Steeper k d a r
-steeper-new k d w a r e h c s =
+pub steeper-new : {k d w : ℕ} {a r : Fall} → w ≡ cond (cardinal k) 2 1 → a .steepness < w * d * d → r .code ≡ codeOf k → r .steepness ≡ w * d * d → Steeper k d a r
+steeper-new {k} {d} {w} {a} e h c s =
     let q = steep-is k w d e in
     record { code = c ∙ sym (ap (λ (b : Bool). cond b (a .code) (codeOf k)) (lt-leb (steepOf k d) (a .steepness) (omega arith))); steepness = omega arith }
 
@@ -109,11 +109,7 @@ module _ (rows cols : ℕ) (lv : List ℕ) (x : ℕ) where
       go true = refl
       go false = flat (cardinal k)
 
-  -- before the first side, and at each side: the fall stays, or it is the new side's
-  pub fall-none : (a : Fall) → a .code ≡ 0 → a .steepness ≡ 0 → FallTo rows cols lv x 0 a
-  unfolding fallIn greatestTo
-  fall-none a c s = record { code = c; steepness = s }
-
+  -- at the next side the fall stays, or it is the new side's
   fall-kept : (k : ℕ) → steep k ≤ greatestTo k steep → fallIn rows cols lv x (k + 1) ≡ fallIn rows cols lv x k
   unfolding fallIn
   fall-kept k h =
@@ -127,26 +123,32 @@ module _ (rows cols : ℕ) (lv : List ℕ) (x : ℕ) where
   unfolding fallIn
   fall-new k h = simp (lt-ltb 0 (greatestTo (k + 1) steep) (omega (arith, greatest-more k steep))) (ap codeOf (first-new steep k h))
 
-  pub fall-more : (k d : ℕ) (a r : Fall) → FallTo rows cols lv x k a → d ≡ dropOf (getD lv x 0) (getD lv (neighbour rows cols x k) 0) → Steeper k d a r → FallTo rows cols lv x (k + 1) r
-  fall-more k d a r p e s =
+module _ {rows cols : ℕ} {lv : List ℕ} {x : ℕ} where
+  pub fall-none : {a : Fall} → a .code ≡ 0 → a .steepness ≡ 0 → FallTo rows cols lv x 0 a
+  unfolding fallIn greatestTo
+  fall-none c s = record { code = c; steepness = s }
+
+  pub fall-more : {k d : ℕ} {a r : Fall} → FallTo rows cols lv x k a → d ≡ dropOf (getD lv x 0) (getD lv (neighbour rows cols x k) 0) → Steeper k d a r → FallTo rows cols lv x (k + 1) r
+  fall-more {k} {d} {a} p e s =
       record {
-        code = s .code ∙ go (steepOf k d) (steep-drop k d e) (decLe (steepOf k d) (a .steepness));
-        steepness = omega (arith, s .steepness, p .steepness, steep-drop k d e, greatest-more k steep);
+        code = s .code ∙ go (steepOf k d) (steep-drop rows cols lv x k d e) (decLe (steepOf k d) (a .steepness));
+        steepness = omega (arith, s .steepness, p .steepness, steep-drop rows cols lv x k d e, greatest-more k (steepAt rows cols lv x));
       }
     where
-      go : (m : ℕ) → m ≡ steep k → Dec (m ≤ a .steepness) → cond (leb m (a .steepness)) (a .code) (codeOf k) ≡ fallIn rows cols lv x (k + 1)
-      go m q (yes h) = rw (le-leb m (a .steepness) h) (p .code ∙ sym (fall-kept k (omega (arith, p .steepness))))
-      go m q (no h) = rw (lt-leb m (a .steepness) (omega arith)) (sym (fall-new k (omega (arith, p .steepness))))
+      go : (m : ℕ) → m ≡ steepAt rows cols lv x k → Dec (m ≤ a .steepness) → cond (leb m (a .steepness)) (a .code) (codeOf k) ≡ fallIn rows cols lv x (k + 1)
+      go m q (yes h) = rw (le-leb m (a .steepness) h) (p .code ∙ sym (fall-kept rows cols lv x k (omega (arith, p .steepness))))
+      go m q (no h) = rw (lt-leb m (a .steepness) (omega arith)) (sym (fall-new rows cols lv x k (omega (arith, p .steepness))))
 
+module _ (rows cols : ℕ) (lv : List ℕ) (x : ℕ) where
   -- the code that is written before the flats are
-  pub down-is : (code r : ℕ) → code ≡ fallIn rows cols lv x 8 → r ≡ cond (ltb 0 (getD lv x 0)) code 255 → r ≡ downAt rows cols lv x
+  pub down-is : {code r : ℕ} → code ≡ fallIn rows cols lv x 8 → r ≡ cond (ltb 0 (getD lv x 0)) code 255 → r ≡ downAt rows cols lv x
   unfolding downAt
-  down-is code r e q = q ∙ ap (λ (m : ℕ). cond (ltb 0 (getD lv x 0)) m 255) e
+  down-is e q = q ∙ ap (λ (m : ℕ). cond (ltb 0 (getD lv x 0)) m 255) e
 
   -- at all eight sides it is the definition's
   fall-is : fallIn rows cols lv x 8 ≡ cond (hasLower rows cols lv x) (codeOf (steepSide rows cols lv x)) 0
   unfolding fallIn steepSide steepestAt
-  fall-is = ap (λ (b : Bool). cond b (codeOf (firstOf (λ j. eqb (steep j) (greatestTo 8 steep)) 8)) 0) (sym (lower-steepest rows cols lv x))
+  fall-is = ap (λ (b : Bool). cond b (codeOf (firstOf (λ j. eqb (steepAt rows cols lv x j) (steepestAt rows cols lv x)) 8)) 0) (sym (lower-steepest rows cols lv x))
 
   -- ---- the codes of the sides passed
 
@@ -181,17 +183,24 @@ code-down true false true down along n = refl
 code-down true false false down along n = absurd (n refl refl refl)
 code-down false lower rim down along n = refl
 
-module _ (rows cols : ℕ) (lv st : List ℕ) where
-  pub point-none : (dir : List ℕ) → dir ≡ tab (rows * cols) (downAt rows cols lv) → Pointing rows cols lv st dir 0
-  point-none dir e =
+pub down-long : (rows cols : ℕ) (lv : List ℕ) {dir : List ℕ} → dir ≡ tab (rows * cols) (downAt rows cols lv) → length dir ≡ rows * cols
+down-long rows cols lv e = ap length e ∙ length-tab (rows * cols) (downAt rows cols lv)
+
+-- the flat steps as a caller hands them
+pub given-kept : {rows cols : ℕ} {lv st : List ℕ} → Levels rows cols lv → st ≡ flatSteps rows cols lv → StepsKept rows cols lv st
+given-kept {rows} {cols} {lv} l e = subst (StepsKept rows cols lv) (sym e) (steps-kept rows cols lv (l .long))
+
+module _ {rows cols : ℕ} {lv st : List ℕ} where
+  pub point-none : {dir : List ℕ} → dir ≡ tab (rows * cols) (downAt rows cols lv) → Pointing rows cols lv st dir 0
+  point-none e =
       record {
-        long = ap length e ∙ length-tab (rows * cols) (downAt rows cols lv);
+        long = down-long rows cols lv e;
         done = (λ j h. absurd (omega arith));
         rest = (λ y l h. ap (λ (d : List ℕ). getD d y 255) e ∙ getD-tab (rows * cols) (downAt rows cols lv) 255 y h);
       }
 
   module _ (kept : StepsKept rows cols lv st) where
-    -- a flat cell's steps are not 0, for the walk that they stand for has one at least
+    -- a flat cell's steps are not 0: the walk that they stand for has a step
     steps-some : (x : ℕ) → flatAt rows cols lv x ≡ true → 0 < getD st x 0
     steps-some x e = elim (decLt 0 (getD st x 0)) [ yes h ↦ h | no f ↦ absurd (let w = kept .stands x e (omega arith) in omega (arith, w .1, some (w .0) e)) ]
       where
@@ -214,29 +223,26 @@ module _ (rows cols : ℕ) (lv st : List ℕ) where
         (λ v l r. omega (arith, steps-some x (flat-is rows cols lv x (ltb-true 0 (getD lv x 0) v) l r)))
         ∙ ap (λ (m : ℕ). cond (validAt lv x) m 255) (sym (fall-is rows cols lv x))
 
-    module _ (dir dir′ : List ℕ) (x : ℕ) (p : Pointing rows cols lv st dir x) (l : x < rows * cols) where
-      pub point-flat : (code : ℕ) → 0 < getD st x 0 → code ≡ codeOf (nearerSide rows cols lv st x) → dir′ ≡ set dir x code → Pointing rows cols lv st dir′ (x + 1)
-      point-flat code h q e =
-          subst (λ (d : List ℕ). Pointing rows cols lv st d (x + 1)) (sym e)
-          (record {
-            long = length-set dir x code ∙ p .long;
-            done = agrees-more (directionAt rows cols lv st) 255 dir x code (omega (arith, p .long)) (p .done) (q ∙ sym (direction-flat x h));
-            rest = (λ y g h. getD-set-other dir x y code 255 (λ r. omega arith) ∙ p .rest y (omega arith) h);
-          })
+  module _ {dir dir′ : List ℕ} {x : ℕ} (p : Pointing rows cols lv st dir x) (kept : StepsKept rows cols lv st) (l : x < rows * cols) where
+    -- a flat cell gets its code, and any other keeps it
+    pub point-flat : {code : ℕ} → 0 < getD st x 0 → code ≡ codeOf (nearerSide rows cols lv st x) → dir′ ≡ set dir x code → Pointing rows cols lv st dir′ (x + 1)
+    point-flat {code} h q e =
+        subst (λ (d : List ℕ). Pointing rows cols lv st d (x + 1)) (sym e)
+        (record {
+          long = length-set dir x code ∙ p .long;
+          done = agrees-more (directionAt rows cols lv st) 255 dir x code (omega (arith, p .long)) (p .done) (q ∙ sym (direction-flat kept x h));
+          rest = (λ y g h. getD-set-other dir x y code 255 (λ r. omega arith) ∙ p .rest y (omega arith) h);
+        })
 
-      pub point-kept : getD st x 0 ≤ 0 → dir′ ≡ dir → Pointing rows cols lv st dir′ (x + 1)
-      point-kept h e =
-          subst (λ (d : List ℕ). Pointing rows cols lv st d (x + 1)) (sym e)
-          (record {
-            long = p .long;
-            done = below-more (λ (j : ℕ). getD dir j 255 ≡ directionAt rows cols lv st j) x (p .done) (p .rest x (omega arith) l ∙ sym (direction-down x h));
-            rest = (λ y g h. p .rest y (omega arith) h);
-          })
+    pub point-kept : getD st x 0 ≤ 0 → dir′ ≡ dir → Pointing rows cols lv st dir′ (x + 1)
+    point-kept h e =
+        subst (λ (d : List ℕ). Pointing rows cols lv st d (x + 1)) (sym e)
+        (record {
+          long = p .long;
+          done = below-more (λ (j : ℕ). getD dir j 255 ≡ directionAt rows cols lv st j) x (p .done) (p .rest x (omega arith) l ∙ sym (direction-down kept x h));
+          rest = (λ y g h. p .rest y (omega arith) h);
+        })
 
-  pub point-all : (dir : List ℕ) → st ≡ flatSteps rows cols lv → Pointing rows cols lv st dir (rows * cols) → dir ≡ directionsOf rows cols lv
+  pub point-all : {dir : List ℕ} → st ≡ flatSteps rows cols lv → Pointing rows cols lv st dir (rows * cols) → dir ≡ directionsOf rows cols lv
   unfolding directionsOf
-  point-all dir e p = agrees-tab (directionAt rows cols lv st) 255 dir (rows * cols) (p .long) (p .done) ∙ ap (λ (d : List ℕ). tab (rows * cols) (directionAt rows cols lv d)) e
-
--- the flat steps as a caller hands them
-pub given-kept : (rows cols : ℕ) (lv st : List ℕ) → length lv ≡ rows * cols → st ≡ flatSteps rows cols lv → StepsKept rows cols lv st
-given-kept rows cols lv st long e = subst (StepsKept rows cols lv) (sym e) (steps-kept rows cols lv long)
+  point-all {dir} e p = agrees-tab (directionAt rows cols lv st) 255 dir (rows * cols) (p .long) (p .done) ∙ ap (λ (d : List ℕ). tab (rows * cols) (directionAt rows cols lv d)) e

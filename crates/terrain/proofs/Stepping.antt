@@ -5,7 +5,7 @@ use mathlib.Core.Bool.{Bool, true, false, cond, _&&_, true≢false}
 use Prim.Native.Nat.{ℕ, suc, _+_, _-_, _*_, _^_, _≤_, _<_}
 use native.Mathlib.Omega.{arith}
 use lib.ListN.{length, getD, set}
-use lib.IntN.{ℤ, pos, negsuc, natAbs}
+use lib.IntN.{pos, negsuc, natAbs}
 use lib.Signed.{ltZ, nonNeg}
 use lib.Dec.{T, ltb, eqb}
 use mir.Syntax.{w32, w64}
@@ -15,18 +15,12 @@ use Rattle.laws.specs.Lists.{Agrees}
 use Rattle.laws.specs.Settle.{startOf}
 use Rattle.laws.proofs.Lists.{in-list, agrees-tab}
 use Rattle.laws.proofs.Settle.{relax-lower, relax-pass, loose-one, kept-active, store-kept, start-kept}
-use Rattle.terrain.specs.Cells.{neighbour, Ready}
-use Rattle.terrain.specs.Filled.{lowestOf, filledLevels}
+use Rattle.terrain.specs.Cells.{neighbour}
+use Rattle.terrain.specs.Filled.{lowestOf}
 use Rattle.terrain.specs.Flat.{farSteps, flatAt, nearestOf, flatStepping, Within, StepsKept}
 use Rattle.terrain.specs.Levels.{Levels, startOn, startAt, Reached, StepsLoose, LooseSteps, LoweredSteps}
 use Rattle.terrain.proofs.Neighbours.{across, across-small, neighbour-back}
-use Rattle.terrain.proofs.Interior.{ready-sized}
-use Rattle.terrain.proofs.Filling.{filled-long, filled-small}
 use Rattle.terrain.proofs.Flats.{flat-valid, flat-lowest, within-beside, flat-rule}
-
--- the filled levels are a grid that the functions may assume
-pub filled-levels : (rows cols : ℕ) (ground : List ℤ) → Ready rows cols ground → Levels rows cols (filledLevels rows cols ground)
-filled-levels rows cols ground r = record { sized = ready-sized r; long = filled-long rows cols ground r; capped = (λ x. omega (arith, filled-small rows cols ground r x)) }
 
 -- an entry that is not below 0 casts to an index
 pub entry-casts : (n : ℕ) → ltZ (toZ w32 n) (pos 0) ≡ false → T (nonNeg (toZ w32 n)) × Fits w64 (natAbs (toZ w32 n))
@@ -48,21 +42,21 @@ module _ {lv d : List ℕ} {v n y room e : ℕ} where
   pub reached-set : n < getD d y 0 → getD lv y 0 ≡ v → e ≤ room → Reached lv d (set d y n) v n y room e
   reached-set h q f = record { is = simp (lt-ltb n (getD d y 0) h, eq-eqb (getD lv y 0) v q); fits = f }
 
-module _ (rows cols : ℕ) (lv : List ℕ) (levels : Levels rows cols lv) where
+module _ {rows cols : ℕ} {lv : List ℕ} (levels : Levels rows cols lv) where
   -- ---- the start
 
   -- one cell, as the code tells, and all of them
-  pub start-is : (x low r : ℕ) → low ≡ lowestOf rows cols lv x 8 → r ≡ startOn (getD lv x 0) low → r ≡ startAt rows cols lv x
+  pub start-is : (x : ℕ) {low r : ℕ} → low ≡ lowestOf rows cols lv x 8 → r ≡ startOn (getD lv x 0) low → r ≡ startAt rows cols lv x
   unfolding startAt
-  start-is x low r e q = q ∙ ap (startOn (getD lv x 0)) e ∙ ap (λ (b : Bool). cond b farSteps 0) (sym (flat-lowest rows cols lv x (levels .capped x)))
+  start-is x e q = q ∙ ap (startOn (getD lv x 0)) e ∙ ap (λ (b : Bool). cond b farSteps 0) (sym (flat-lowest rows cols lv x (levels .capped x)))
 
-  pub start-all : (d : List ℕ) → length d ≡ rows * cols → Agrees (startAt rows cols lv) 0 d (rows * cols) → d ≡ startOf (flatStepping rows cols lv)
+  pub start-all : {d : List ℕ} → length d ≡ rows * cols → Agrees (startAt rows cols lv) 0 d (rows * cols) → d ≡ startOf (flatStepping rows cols lv)
   unfolding startAt
-  start-all d e s = agrees-tab (λ x. cond (flatAt rows cols lv x) farSteps 0) 0 d (rows * cols) e s
+  start-all {d} e s = agrees-tab (λ x. cond (flatAt rows cols lv x) farSteps 0) 0 d (rows * cols) e s
 
   -- far and 0 are steps to begin with
-  pub begun-kept : (d : List ℕ) → d ≡ startOf (flatStepping rows cols lv) → StepsKept rows cols lv d
-  begun-kept d e = subst (StepsKept rows cols lv) (sym e) (start-kept (flatStepping rows cols lv) (Within rows cols lv) (flat-rule rows cols lv (levels .long)))
+  pub begun-kept : {d : List ℕ} → d ≡ startOf (flatStepping rows cols lv) → StepsKept rows cols lv d
+  begun-kept e = subst (StepsKept rows cols lv) (sym e) (start-kept (flatStepping rows cols lv) (Within rows cols lv) (flat-rule rows cols lv (levels .long)))
 
   -- ---- what a queue lowers
 
@@ -71,8 +65,8 @@ module _ (rows cols : ℕ) (lv : List ℕ) (levels : Levels rows cols lv) where
   steps-flat d k y n h = kept-active (flatStepping rows cols lv) (Within rows cols lv) d k y (omega arith)
 
   -- a cell that is reached at steps that some walk has
-  reached-kept : (d d′ : List ℕ) (v n y room e : ℕ) → StepsKept rows cols lv d → Reached lv d d′ v n y room e → (n < getD d y 0 → getD lv y 0 ≡ v → Within rows cols lv y n) → StepsKept rows cols lv d′
-  reached-kept d d′ v n y room e k r w = subst (StepsKept rows cols lv) (sym (r .is)) (go (ltb n (getD d y 0)) refl (eqb (getD lv y 0) v) refl)
+  reached-kept : {d d′ : List ℕ} {v n y room e : ℕ} → StepsKept rows cols lv d → Reached lv d d′ v n y room e → (n < getD d y 0 → getD lv y 0 ≡ v → Within rows cols lv y n) → StepsKept rows cols lv d′
+  reached-kept {d} {v = v} {n = n} {y = y} k r w = subst (StepsKept rows cols lv) (sym (r .is)) (go (ltb n (getD d y 0)) refl (eqb (getD lv y 0) v) refl)
     where
       go : (a : Bool) → ltb n (getD d y 0) ≡ a → (b : Bool) → eqb (getD lv y 0) v ≡ b → StepsKept rows cols lv (cond (a && b) (set d y n) d)
       go true p true q =
@@ -82,8 +76,8 @@ module _ (rows cols : ℕ) (lv : List ℕ) (levels : Levels rows cols lv) where
       go false p b q = k
 
   -- the neighbour at the side k of x is reached at one step more than x had
-  pub spread-kept : (d₀ d d′ : List ℕ) (x k v n y room e : ℕ) → StepsKept rows cols lv d₀ → StepsKept rows cols lv d → x < rows * cols → k < 8 → v ≡ getD lv x 0 → n ≡ getD d₀ x 0 + 1 → y ≡ neighbour rows cols x k → Reached lv d d′ v n y room e → StepsKept rows cols lv d′
-  spread-kept d₀ d d′ x k v n y room e k₀ kept l h ev en ey r = reached-kept d d′ v n y room e kept r beyond
+  pub spread-kept : (x k : ℕ) {d₀ d d′ : List ℕ} {v n y room e : ℕ} → StepsKept rows cols lv d₀ → StepsKept rows cols lv d → x < rows * cols → k < 8 → v ≡ getD lv x 0 → n ≡ getD d₀ x 0 + 1 → y ≡ neighbour rows cols x k → Reached lv d d′ v n y room e → StepsKept rows cols lv d′
+  spread-kept x k {d₀} {d} {v = v} {n = n} {y = y} k₀ kept l h ev en ey r = reached-kept kept r beyond
     where
       beyond : n < getD d y 0 → getD lv y 0 ≡ v → Within rows cols lv y n
       beyond less same =
@@ -93,9 +87,9 @@ module _ (rows cols : ℕ) (lv : List ℕ) (levels : Levels rows cols lv) where
           within-beside rows cols lv d₀ k₀ y (across k) n p (across-small k h) (ap (λ (z : ℕ). getD lv z 0) b ∙ sym (same ∙ ev)) (omega (arith, kept .capped y)) (omega arith)
 
   -- a cell beside one of its level that has 0 steps is reached at 1
-  pub shore-kept : (d d′ : List ℕ) (x near v room e : ℕ) → StepsKept rows cols lv d → near ≡ nearestOf rows cols lv d x 8 → near ≤ 0 → Reached lv d d′ v 1 x room e → StepsKept rows cols lv d′
-  shore-kept d d′ x near v room e k en h r =
-      reached-kept d d′ v 1 x room e k r
+  pub shore-kept : {d d′ : List ℕ} {x near v room e : ℕ} → StepsKept rows cols lv d → near ≡ nearestOf rows cols lv d x 8 → near ≤ 0 → Reached lv d d′ v 1 x room e → StepsKept rows cols lv d′
+  shore-kept {d} {x = x} k en h r =
+      reached-kept k r
       (λ less same.
       let o : nearestOf rows cols lv d x 8 + 1 ≡ 1 = omega arith in
       subst (Within rows cols lv x) o (flat-rule rows cols lv (levels .long) .fair d k x (steps-flat d k x 1 less) (omega arith)))
@@ -103,8 +97,8 @@ module _ (rows cols : ℕ) (lv : List ℕ) (levels : Levels rows cols lv) where
 -- ---- the search for cells that can be lowered
 
 -- one cell, as the code tells
-pub steps-loose : (rows cols : ℕ) (lv d : List ℕ) (x near m : ℕ) → near ≡ nearestOf rows cols lv d x 8 → LooseSteps (getD d x 0) near m → StepsLoose rows cols lv d x (x + 1) m
-steps-loose rows cols lv d x near m e o = loose-one (flatStepping rows cols lv) d x m (o .few) (λ q. omega (arith, o .still q))
+pub steps-loose : (rows cols : ℕ) (lv d : List ℕ) (x : ℕ) {near m : ℕ} → near ≡ nearestOf rows cols lv d x 8 → LooseSteps (getD d x 0) near m → StepsLoose rows cols lv d x (x + 1) m
+steps-loose rows cols lv d x {m = m} e o = loose-one (flatStepping rows cols lv) d x m (o .few) (λ q. omega (arith, o .still q))
 
 -- ---- lowering one cell
 

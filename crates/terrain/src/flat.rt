@@ -8,7 +8,7 @@ ghost use lib.ListN.{length, getD};
 ghost use lib.Dec.{eqb};
 ghost use Rattle.laws.specs.Lists.{Agrees};
 ghost use Rattle.laws.specs.Settle.{startOf, Sweeping};
-ghost use Rattle.terrain.specs.Inside.{Sized, Inside, RunsTo};
+ghost use Rattle.terrain.specs.Inside.{Inside, RunsTo};
 ghost use Rattle.terrain.specs.Flat.{farSteps, nearestOf, flatStepping, flatSteps, Within, StepsKept, StepsStill};
 ghost use Rattle.terrain.specs.Levels.{Levels, startOn, startAt, Reached, Spread, StepsLoose, LooseSteps, LoweredSteps};
 use crate::cells::beside;

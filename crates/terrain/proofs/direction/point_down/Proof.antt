@@ -56,7 +56,7 @@ loop-again c =
       simp length-set (r .kept .1 .1 .0 ∙ p .inv .0),
       omega (arith, e .ensures .within),
       agrees-more (downAt (s .args .rows) (s .args .columns) (s .args .level .now)) 255 (r .last .1 .1 .0) (e .result) (c .downhill .result) (omega (arith, e .ensures .within, r .kept .1 .1 .0, p .inv .0, s .pre .1)) (r .ensures (s .args .rows) (e .ensures) (p .inv .2))
-          (down-is (s .args .rows) (s .args .columns) (s .args .level .now) (e .result) _ _ (c .before .steepest-near .ensures) (c .downhill .ensures)),
+          (down-is (s .args .rows) (s .args .columns) (s .args .level .now) (e .result) (c .before .steepest-near .ensures) (c .downhill .ensures)),
     )
 
 same-length : tie.Need-same-length Inv-loop μ-loop

@@ -6,7 +6,7 @@ use Prim.Native.Nat.{ℕ, _≤_, _<_, _*_, _-_}
 use native.Mathlib.Omega.{arith}
 use borrow.Author.Count.{below-more}
 use Rattle.terrain.specs.Direction.{nearerAt}
-use Rattle.terrain.proofs.Falls.{NoneNearer, nearer-none, nearer-found, Pointing, point-none, point-flat, point-kept, point-all, given-kept}
+use Rattle.terrain.proofs.Falls.{NoneNearer, nearer-none, nearer-found, Pointing, point-none, point-flat, point-kept, point-all, given-kept, down-long}
 use borrow.Author.Needs.{needs}
 use Rattle.terrain.proofs.direction.point_flats.Statement.{statement}
 use Rattle.terrain.proofs.direction.point_flats.Tie as tie
@@ -24,13 +24,13 @@ abbrev μ-loop : tie.MeasureT-loop
 μ-loop rows columns level steps direction₀ x₀ direction x = rows * columns - x
 
 loop-holds : tie.Need-loop-holds Inv-loop2 μ-loop2 Inv-loop μ-loop
-loop-holds c = let s = c .before .before .before in (point-none (s .args .rows) (s .args .columns) (s .args .level .now) (s .args .steps .now) (s .args .direction .now) (s .pre .2), omega arith)
+loop-holds c = (point-none (c .before .before .before .pre .2), omega arith)
 
 mul-if1 : tie.Need-mul-if1 Inv-loop2 μ-loop2 Inv-loop μ-loop
 mul-if1 c = search needs
 
 shared-slice-read-if1 : tie.Need-shared-slice-read-if1 Inv-loop2 μ-loop2 Inv-loop μ-loop
-shared-slice-read-if1 c = let s = c .before .before .before .before .before .before in omega (arith, c .before .before .loop .inv .0 .long, given-kept (s .args .rows) (s .args .columns) (s .args .level .now) (s .args .steps .now) (s .pre .0 .long) (s .pre .1) .long)
+shared-slice-read-if1 c = let s = c .before .before .before .before .before .before in omega (arith, c .before .before .loop .inv .0 .long, given-kept (s .pre .0) (s .pre .1) .long)
 
 is-inside-requires : tie.Need-is-inside-requires Inv-loop2 μ-loop2 Inv-loop μ-loop
 is-inside-requires c κs = search needs
@@ -45,7 +45,7 @@ is-nearer-requires : tie.Need-is-nearer-requires Inv-loop2 μ-loop2 Inv-loop μ-
 is-nearer-requires c κs =
     let s = c .before .before .before .before .before .before .before .before .before .before .before in
     let p = c .before .before .before .before .before .before .before .loop in
-    let k = given-kept (s .args .rows) (s .args .columns) (s .args .level .now) (s .args .steps .now) (s .pre .0 .long) (s .pre .1) in
+    let k = given-kept (s .pre .0) (s .pre .1) in
     (omega (arith, p .inv .0 .long, s .pre .0 .long), omega (arith, p .inv .0 .long, k .long), k .capped)
 
 code-of-requires : tie.Need-code-of-requires Inv-loop2 μ-loop2 Inv-loop μ-loop
@@ -77,29 +77,29 @@ loop-again c =
     let s = c .before .before .before .before .before .before .before in
     let a = s .args in
     let p = c .before .before .before .loop in
-    let k = given-kept (a .rows) (a .columns) (a .level .now) (a .steps .now) (s .pre .0 .long) (s .pre .1) in
+    let k = given-kept (s .pre .0) (s .pre .1) in
     let l : p .x < a .rows * a .columns = omega (arith, p .inv .0 .long) in (
       ⊎-elim
-          (λ w. point-flat (a .rows) (a .columns) (a .level .now) (a .steps .now) k (p .direction) (c .if1 .direction) (p .x) (p .inv .0) l (w .3 .code) (w .0 .taken)
+          (λ w. point-flat (p .inv .0) k l (w .0 .taken)
           (⊎-elim
           (λ v. v .1 ∙ nearer-none (a .rows) (a .columns) (a .level .now) (p .x) (a .steps .now) (w .2 .k) (w .2 .inv .1) (v .0 .taken))
           (λ v. v .5 ∙ v .4 .ensures ∙ nearer-found (a .rows) (a .columns) (a .level .now) (p .x) (a .steps .now) (w .2 .k) (w .2 .inv .1) (v .0 .left) (cc))
           (w .3 .came))
           (w .4))
-          (λ w. point-kept (a .rows) (a .columns) (a .level .now) (a .steps .now) k (p .direction) (c .if1 .direction) (p .x) (p .inv .0) l (w .0 .left) (w .1))
+          (λ w. point-kept (p .inv .0) k l (w .0 .left) (w .1))
           (c .if1 .came),
       omega arith,
     )
 
 same-length : tie.Need-same-length Inv-loop2 μ-loop2 Inv-loop μ-loop
-same-length c = let s = c .before .before .before .before .before in c .before .loop .inv .0 .long ∙ sym (point-none (s .args .rows) (s .args .columns) (s .args .level .now) (s .args .steps .now) (s .args .direction .now) (s .pre .2) .long)
+same-length c = let s = c .before .before .before .before .before in c .before .loop .inv .0 .long ∙ sym (down-long (s .args .rows) (s .args .columns) (s .args .level .now) (s .pre .2))
 
 returns : tie.Need-returns Inv-loop2 μ-loop2 Inv-loop μ-loop
 returns c =
     let s = c .before .before .before .before .before in
     let p = c .before .loop in
     let e : p .x ≡ s .args .rows * s .args .columns = omega (arith, p .inv .0 .long) in
-    point-all (s .args .rows) (s .args .columns) (s .args .level .now) (s .args .steps .now) (p .direction) (s .pre .1) (rw e at (p .inv .0))
+    point-all (s .pre .1) (rw e at (p .inv .0))
 
 pub point-flats-spec : {M : Type 1} → statement M
 point-flats-spec =

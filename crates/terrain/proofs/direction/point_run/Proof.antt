@@ -50,7 +50,7 @@ loop-again c =
       omega arith,
       omega arith,
       λ rows r g. agrees-more (downAt rows (s .args .columns) (s .args .level .now)) 255 (p .direction) (p .x) (c .downhill .result) (omega (arith, s .pre .2 .within, s .pre .3, p .inv .0)) (p .inv .3 rows r g)
-          (down-is rows (s .args .columns) (s .args .level .now) (p .x) _ _ (c .before .steepest-inside .ensures rows (r .inside (p .x) (omega arith) (omega arith))) (c .downhill .ensures)),
+          (down-is rows (s .args .columns) (s .args .level .now) (p .x) (c .before .steepest-inside .ensures rows (r .inside (p .x) (omega arith) (omega arith))) (c .downhill .ensures)),
     )
 
 same-length : tie.Need-same-length Inv-loop μ-loop

@@ -25,7 +25,7 @@ shared-slice-read-v : tie.Need-shared-slice-read-v Inv-loop μ-loop
 shared-slice-read-v c = search needs
 
 loop-holds : tie.Need-loop-holds Inv-loop μ-loop
-loop-holds c = (omega arith, λ rows i. fall-none _ _ _ _ _ refl refl)
+loop-holds c = (omega arith, λ rows i. fall-none refl refl)
 
 beside-requires : tie.Need-beside-requires Inv-loop μ-loop
 beside-requires c κs = let s = c .before .before .before .before in inside-beside (s .pre .0) _ _ _ (s .pre .1 .sized) (s .pre .2) (omega arith)
@@ -58,7 +58,7 @@ loop-again c =
       λ rows i.
           let n = c .before .before .before .beside .ensures ∙ inside-is rows (a .columns) (a .x) (p .k) i (omega arith) in
           let e : c .before .drop-of .result ≡ dropOf (getD (a .level .now) (a .x) 0) (getD (a .level .now) (neighbour rows (a .columns) (a .x) (p .k)) 0) = cc n in
-          fall-more rows (a .columns) (a .level .now) (a .x) (p .k) (c .before .drop-of .result) (p .fall) (c .or .result) (p .inv .1 rows i) e (c .or .ensures),
+          fall-more (p .inv .1 rows i) e (c .or .ensures),
     )
 
 returns : tie.Need-returns Inv-loop μ-loop

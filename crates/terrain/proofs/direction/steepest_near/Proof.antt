@@ -23,7 +23,7 @@ shared-slice-read-v : tie.Need-shared-slice-read-v Inv-loop μ-loop
 shared-slice-read-v c = search needs
 
 loop-holds : tie.Need-loop-holds Inv-loop μ-loop
-loop-holds c = (omega arith, fall-none _ _ _ _ _ refl refl)
+loop-holds c = (omega arith, fall-none refl refl)
 
 near-requires : tie.Need-near-requires Inv-loop μ-loop
 near-requires c κs = search needs
@@ -50,7 +50,7 @@ loop-again c =
     let a = c .before .before .before .before .before .before .before .before .args in
     let p = c .before .before .before .before .before .loop in
     let e : c .before .drop-of .result ≡ dropOf (getD (a .level .now) (a .x) 0) (getD (a .level .now) (neighbour (a .rows) (a .columns) (a .x) (p .k)) 0) = cc in
-    (omega arith, fall-more (a .rows) (a .columns) (a .level .now) (a .x) (p .k) (c .before .drop-of .result) (p .fall) (c .or .result) (p .inv .1) e (c .or .ensures))
+    (omega arith, fall-more (p .inv .1) e (c .or .ensures))
 
 returns : tie.Need-returns Inv-loop μ-loop
 returns c =

@@ -58,9 +58,9 @@ loop-again c =
     let p = c .before .before .before .before .before .before .loop in
     let e = c .before .before .before .before .run-end in (
       omega (arith, e .ensures .within),
-      loose-join (flatStepping (a .rows) (a .columns) (a .level .now)) (a .steps .now) 0 (e .result) _ _ _
-          (loose-join (flatStepping (a .rows) (a .columns) (a .level .now)) (a .steps .now) 0 (p .x) (e .result) (p .sum) _ (p .inv .1) (c .before .before .before .loose-run .ensures (a .rows) (e .ensures)))
-          (steps-loose (a .rows) (a .columns) (a .level .now) (a .steps .now) (e .result) _ _ (c .before .nearest-near .ensures) (c .loose .ensures)),
+      loose-join (flatStepping (a .rows) (a .columns) (a .level .now))
+          (loose-join (flatStepping (a .rows) (a .columns) (a .level .now)) (p .inv .1) (c .before .before .before .loose-run .ensures (a .rows) (e .ensures)))
+          (steps-loose (a .rows) (a .columns) (a .level .now) (a .steps .now) (e .result) (c .before .nearest-near .ensures) (c .loose .ensures)),
     )
 
 returns : tie.Need-returns Inv-loop μ-loop

@@ -49,8 +49,8 @@ loop-again c =
     let a = c .before .before .before .before .before .before .before .args in let p = c .before .before .before .before .loop in (
       omega arith,
       omega arith,
-      λ rows r. loose-join (flatStepping rows (a .columns) (a .level .now)) (a .steps .now) (a .from) (p .x) _ (p .sum) _ (p .inv .2 rows r)
-          (steps-loose rows (a .columns) (a .level .now) (a .steps .now) (p .x) _ _ (c .before .nearest-inside .ensures rows (r .inside (p .x) (omega arith) (omega arith))) (c .loose .ensures)),
+      λ rows r. loose-join (flatStepping rows (a .columns) (a .level .now)) (p .inv .2 rows r)
+          (steps-loose rows (a .columns) (a .level .now) (a .steps .now) (p .x) (c .before .nearest-inside .ensures rows (r .inside (p .x) (omega arith) (omega arith))) (c .loose .ensures)),
     )
 
 returns : tie.Need-returns Inv-loop μ-loop

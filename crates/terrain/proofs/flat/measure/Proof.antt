@@ -8,7 +8,7 @@ start-requires : tie.Need-start-requires
 start-requires c κs = search needs
 
 wade-requires : tie.Need-wade-requires
-wade-requires c κs = let s = c .before .before .before .before .before .before .before .before in (s .pre .0, begun-kept (s .args .rows) (s .args .columns) (s .args .level .now) (s .pre .0) _ (c .before .before .before .before .start .ensures))
+wade-requires c κs = let s = c .before .before .before .before .before .before .before .before in (s .pre .0, begun-kept (s .pre .0) (c .before .before .before .before .start .ensures))
 
 settle-requires : tie.Need-settle-requires
 settle-requires c κs = search needs

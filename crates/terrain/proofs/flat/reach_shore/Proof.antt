@@ -41,7 +41,7 @@ returns-3 : tie.Need-returns-3
 returns-3 c =
     let s = c .before .before .before .before .before .before .before .before .before .before .before .before .before .before in
     let r = c .before .before .before .reach in
-    record { kept = shore-kept (s .args .rows) (s .args .columns) (s .args .level .now) (s .pre .0) _ _ (s .args .x) (c .before .before .before .before .before .before .before .before .nearest .result) _ _ _ (s .pre .1) (c .before .before .before .before .before .before .before .before .nearest .ensures) (c .before .before .before .before .before .before .before .if2 .left) (r .ensures); fits = r .ensures .fits }
+    record { kept = shore-kept (s .pre .0) (s .pre .1) (c .before .before .before .before .before .before .before .before .nearest .ensures) (c .before .before .before .before .before .before .before .if2 .left) (r .ensures); fits = r .ensures .fits }
 
 pub reach-shore-spec : {M : Type 1} → statement M
 reach-shore-spec =

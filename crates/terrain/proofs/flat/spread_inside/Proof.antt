@@ -43,7 +43,7 @@ loop-again c =
       r .kept .1 .1 .0 ∙ p .inv .1,
       omega (arith, r .ensures .fits, p .inv .1),
       omega arith,
-      λ rows l i k. spread-kept rows (a .columns) (a .level .now) l (a .steps .now) (p .steps) _ (a .x) (p .k) (a .v) (a .d) _ _ _ k (p .inv .4 rows l i k) (omega (arith, i .down)) (omega arith) (s .pre .5) (s .pre .6)
+      λ rows l i k. spread-kept l (a .x) (p .k) k (p .inv .4 rows l i k) (omega (arith, i .down)) (omega arith) (s .pre .5) (s .pre .6)
           (c .before .before .before .before .beside .ensures ∙ inside-is rows (a .columns) (a .x) (p .k) i (omega arith)) (r .ensures),
     )
 

@@ -35,7 +35,7 @@ loop-again c =
     let s = c .before .before .before .before .before .before .before .before .before .before .before in
     let p = c .before .before .before .before .before .before .before .before .loop in
     let r = c .before .before .before .reach in (
-      spread-kept (s .args .rows) (s .args .columns) (s .args .level .now) (s .pre .0) (s .args .steps .now) (p .steps) _ (s .args .x) (p .k) (s .args .v) (s .args .d) _ _ _ (s .pre .1) (p .inv .0) (s .pre .3) (omega arith) (s .pre .4) (s .pre .5) (c .before .before .before .before .near .ensures) (r .ensures),
+      spread-kept (s .pre .0) (s .args .x) (p .k) (s .pre .1) (p .inv .0) (s .pre .3) (omega arith) (s .pre .4) (s .pre .5) (c .before .before .before .before .near .ensures) (r .ensures),
       r .kept .1 .1 .0 ∙ p .inv .1,
       omega (arith, r .ensures .fits, p .inv .1),
       omega arith,

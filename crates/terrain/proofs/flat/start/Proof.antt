@@ -59,7 +59,7 @@ loop-again c =
       simp length-set (r .kept .1 .1 .0 ∙ p .inv .0),
       omega (arith, e .ensures .within),
       agrees-more (startAt (s .args .rows) (s .args .columns) (s .args .level .now)) 0 (r .last .1 .1 .0) (e .result) (c .start-steps .result) (omega (arith, e .ensures .within, r .kept .1 .1 .0, p .inv .0, s .pre .1)) (r .ensures (s .args .rows) (s .pre .0) (e .ensures) (p .inv .2))
-          (start-is (s .args .rows) (s .args .columns) (s .args .level .now) (s .pre .0) (e .result) _ _ (c .before .lowest-near .ensures) (c .start-steps .ensures)),
+          (start-is (s .pre .0) (e .result) (c .before .lowest-near .ensures) (c .start-steps .ensures)),
     )
 
 same-length : tie.Need-same-length Inv-loop μ-loop
@@ -70,7 +70,7 @@ returns c =
     let s = c .before .before .before .before in
     let p = c .before .loop in
     let e : p .x ≡ s .args .rows * s .args .columns = omega (arith, p .inv .0, s .pre .1) in
-    start-all (s .args .rows) (s .args .columns) (s .args .level .now) (s .pre .0) (p .steps) (p .inv .0 ∙ s .pre .1) (rw e at (p .inv .2))
+    start-all (s .pre .0) (p .inv .0 ∙ s .pre .1) (rw e at (p .inv .2))
 
 pub start-spec : {M : Type 1} → statement M
 start-spec =

@@ -53,7 +53,7 @@ loop-again c =
       omega arith,
       omega arith,
       λ rows l r g. agrees-more (startAt rows (s .args .columns) (s .args .level .now)) 0 (p .steps) (p .x) (c .start-steps .result) (omega (arith, s .pre .2 .within, s .pre .3, p .inv .0)) (p .inv .3 rows l r g)
-          (start-is rows (s .args .columns) (s .args .level .now) l (p .x) _ _ (c .before .lowest-inside .ensures rows (r .inside (p .x) (omega arith) (omega arith))) (c .start-steps .ensures)),
+          (start-is l (p .x) (c .before .lowest-inside .ensures rows (r .inside (p .x) (omega arith) (omega arith))) (c .start-steps .ensures)),
     )
 
 same-length : tie.Need-same-length Inv-loop μ-loop

@@ -16,13 +16,13 @@ mul-steepness-2 : tie.Need-mul-steepness-2
 mul-steepness-2 c = let s = c .before in omega (arith, steep-small (s .args .k) (c .weight .result) (s .args .drop) (c .weight .ensures) (s .pre .1))
 
 returns : tie.Need-returns
-returns c = let a = c .before .before .before .args in steeper-kept (a .k) (a .drop) (c .before .before .weight .result) (a .self) (c .before .before .weight .ensures) (c .if1 .taken)
+returns c = steeper-kept (c .before .before .weight .ensures) (c .if1 .taken)
 
 code-of-requires : tie.Need-code-of-requires
 code-of-requires c κs = search needs
 
 returns-2 : tie.Need-returns-2
-returns-2 c = let a = c .before .before .before .before .args in steeper-new (a .k) (a .drop) (c .before .before .before .weight .result) (a .self) _ (c .before .before .before .weight .ensures) (c .before .if1 .left) (c .code-of .ensures) refl
+returns-2 c = steeper-new (c .before .before .before .weight .ensures) (c .before .if1 .left) (c .code-of .ensures) refl
 
 pub or-spec : {M : Type 1} → statement M
 or-spec =
