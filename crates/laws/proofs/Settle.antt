@@ -26,22 +26,6 @@ module _ (w : Lowering) where
   pub start-at : (x : ℕ) → x < w .size → getD (startOf w) x 0 ≡ cond (w .active x) (w .far) 0
   start-at x h = getD-tab (w .size) (λ y. cond (w .active y) (w .far) 0) 0 x h
 
-  -- ---- a search for cells that an offer lowers
-
-  pub loose-none : (l : List ℕ) (a : ℕ) → Loose w l a a 0
-  loose-none l a = record { few = omega arith; still = (λ e x le lt. absurd (omega arith)) }
-
-  pub loose-one : (l : List ℕ) (b m : ℕ) → m ≤ 1 → (m ≡ 0 → getD l b 0 ≤ w .offer l b) → Loose w l b (b + 1) m
-  loose-one l b m h s =
-      record { few = omega arith; still = (λ e x le lt. let q : b ≡ x = omega arith in subst (λ (y : ℕ). getD l y 0 ≤ w .offer l y) q (s e)) }
-
-  pub loose-join : {l : List ℕ} {a b c n m : ℕ} → Loose w l a b n → Loose w l b c m → Loose w l a c (n + m)
-  loose-join {b = b} s t =
-      record {
-        few = omega (arith, s .few, t .few);
-        still = (λ e x le lt. elim (decLt x b) [ yes h ↦ s .still (omega arith) x le h | no f ↦ t .still (omega arith) x (omega arith) lt ]);
-      }
-
 module _ (w : Lowering) (P : ℕ → ℕ → Type 0) where
   -- a cell that stands above 0 is active
   pub kept-active : (l : List ℕ) → Kept w P l → (x : ℕ) → 0 < getD l x 0 → w .active x ≡ true
@@ -200,7 +184,7 @@ module _ (w : Lowering) (P : ℕ → ℕ → Type 0) where
 
     -- a search that finds none in the whole list
     pub loose-still : (l : List ℕ) (n : ℕ) → Loose w l 0 (w .size) n → n ≡ 0 → Still w l
-    loose-still l n s e x a = s .still e x (omega arith) (rule .within x a)
+    loose-still l n s e x a = s .all e x (omega arith) (rule .within x a)
 
     -- ---- sweeps until one lowers nothing
 

@@ -17,7 +17,8 @@ use Rattle.laws.specs.Sums.{sumTo, when}
 use Rattle.laws.specs.Settle.{startOf}
 use Rattle.laws.proofs.Sums.{sum-ext}
 use Rattle.laws.proofs.Lists.{in-list}
-use Rattle.laws.proofs.Settle.{loose-one, kept-active, store-kept, start-kept, eased-none, eased-then}
+use Rattle.laws.proofs.Search.{failing-one}
+use Rattle.laws.proofs.Settle.{kept-active, store-kept, start-kept, eased-none, eased-then}
 use Rattle.terrain.specs.Quantities.{Fine}
 use Rattle.terrain.specs.Cells.{neighbour, levelOf, heightOf, levelsOf, validAt, Ready}
 use Rattle.terrain.specs.Filled.{top, lowestOf, filling, filledLevels, filledOf, Stands}
@@ -147,7 +148,7 @@ module _ {rows cols : ℕ} {ground : List ℤ} (ready : Ready rows cols ground) 
 
 -- one cell, as the code tells
 pub cell-loose : (rows cols : ℕ) (ground : List ℤ) (l : List ℕ) (b m v u low : ℕ) → v ≡ getD l b 0 → u ≡ getD (levelsOf ground) b 0 → low ≡ lowestOf rows cols l b 8 → LooseCell v u low m → FillLoose rows cols ground l b (b + 1) m
-cell-loose rows cols ground l b m v u low p q r o = loose-one (filling rows cols (levelsOf ground)) l b m (o .few) (λ e. omega (arith, o .still e))
+cell-loose rows cols ground l b m v u low p q r o = failing-one _ b m (o .few) (λ e. omega (arith, o .still e))
 
 -- ---- valid cells and filled heights
 

@@ -14,7 +14,8 @@ use borrow.Author.Tests.{ltb-true, lt-ltb, le-ltb, eqb-true, eq-eqb, ne-eqb}
 use Rattle.laws.specs.Lists.{Agrees}
 use Rattle.laws.specs.Settle.{startOf}
 use Rattle.laws.proofs.Lists.{in-list, agrees-tab}
-use Rattle.laws.proofs.Settle.{relax-lower, relax-pass, loose-one, kept-active, store-kept, start-kept}
+use Rattle.laws.proofs.Search.{failing-one}
+use Rattle.laws.proofs.Settle.{relax-lower, relax-pass, kept-active, store-kept, start-kept}
 use Rattle.terrain.specs.Cells.{neighbour}
 use Rattle.terrain.specs.Filled.{lowestOf}
 use Rattle.terrain.specs.Flat.{farSteps, flatAt, nearestOf, flatStepping, Within, StepsKept}
@@ -98,7 +99,7 @@ module _ {rows cols : ℕ} {lv : List ℕ} (levels : Levels rows cols lv) where
 
 -- one cell, as the code tells
 pub steps-loose : (rows cols : ℕ) (lv d : List ℕ) (x : ℕ) {near m : ℕ} → near ≡ nearestOf rows cols lv d x 8 → LooseSteps (getD d x 0) near m → StepsLoose rows cols lv d x (x + 1) m
-steps-loose rows cols lv d x {m = m} e o = loose-one (flatStepping rows cols lv) d x m (o .few) (λ q. omega (arith, o .still q))
+steps-loose rows cols lv d x {m = m} e o = failing-one _ x m (o .few) (λ q. omega (arith, o .still q))
 
 -- ---- lowering one cell
 

@@ -3,7 +3,8 @@ use Prim.Native.Nat.{_-_, _*_, _≤_}
 use mathlib.Core.Path.{_≡_, refl}
 use native.Mathlib.Omega.{arith}
 use lib.ListN.{length}
-use Rattle.laws.proofs.Settle.{loose-none, loose-join, loose-still}
+use Rattle.laws.proofs.Search.{failing-none, failing-join}
+use Rattle.laws.proofs.Settle.{loose-still}
 use Rattle.terrain.specs.Flood.{FillLoose}
 use Rattle.terrain.proofs.Interior.{ready-sized}
 use Rattle.terrain.proofs.Filling.{filling-rule}
@@ -19,7 +20,7 @@ abbrev μ-loop : tie.MeasureT-loop
 μ-loop rows columns ground level sum₀ x₀ sum x = length level - x
 
 loop-holds : tie.Need-loop-holds Inv-loop μ-loop
-loop-holds c = (omega arith, loose-none _ _ 0)
+loop-holds c = (omega arith, failing-none _ 0)
 
 run-end-requires : tie.Need-run-end-requires Inv-loop μ-loop
 run-end-requires c κs = let s = c .before .before .before in (ready-sized (s .pre .0), omega (arith, s .pre .1))
@@ -68,7 +69,7 @@ loop-again c =
     let p = c .before .before .before .before .before .before .before .loop in
     let e = c .before .before .before .before .before .run-end in (
       omega (arith, e .ensures .within, s .pre .1),
-      loose-join _ (loose-join _ (p .inv .1) (c .before .before .before .before .loose-run .ensures (s .args .rows) (e .ensures))) (cell-loose (s .args .rows) (s .args .columns) (s .args .ground .now) (s .args .level .now) (e .result) _ _ _ _ refl (c .before .before .ground-level .ensures) (c .before .lowest-near .ensures) (c .loose .ensures)),
+      failing-join (failing-join (p .inv .1) (c .before .before .before .before .loose-run .ensures (s .args .rows) (e .ensures))) (cell-loose (s .args .rows) (s .args .columns) (s .args .ground .now) (s .args .level .now) (e .result) _ _ _ _ refl (c .before .before .ground-level .ensures) (c .before .lowest-near .ensures) (c .loose .ensures)),
     )
 
 returns : tie.Need-returns Inv-loop μ-loop

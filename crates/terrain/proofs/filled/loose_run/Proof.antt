@@ -2,7 +2,7 @@
 use mathlib.Core.Path.{_≡_, refl, subst}
 use Prim.Native.Nat.{ℕ, _-_, _≤_}
 use native.Mathlib.Omega.{arith}
-use Rattle.laws.proofs.Settle.{loose-none, loose-join}
+use Rattle.laws.proofs.Search.{failing-none, failing-join}
 use Rattle.terrain.specs.Inside.{RunsTo}
 use Rattle.terrain.specs.Flood.{FillLoose}
 use Rattle.terrain.proofs.Interior.{ready-sized}
@@ -18,7 +18,7 @@ abbrev μ-loop : tie.MeasureT-loop
 μ-loop columns ground level from to sum₀ x₀ sum x = to - x
 
 loop-holds : tie.Need-loop-holds Inv-loop μ-loop
-loop-holds c = let s = c .before in (omega arith, s .pre .3 .from, λ rows t. loose-none _ _ _)
+loop-holds c = let s = c .before in (omega arith, s .pre .3 .from, λ rows t. failing-none _ _)
 
 mul-loose : tie.Need-mul-loose Inv-loop μ-loop
 mul-loose c = search needs
@@ -56,7 +56,7 @@ loop-again c =
     let p = c .before .before .before .before .before .loop in (
       omega arith,
       omega arith,
-      λ rows t. loose-join _ (p .inv .2 rows t) (cell-loose rows (s .args .columns) (s .args .ground .now) (s .args .level .now) (p .x) _ _ _ _ refl (c .before .before .ground-level .ensures) (c .before .lowest-inside .ensures rows (t .inside (p .x) (omega arith) (omega arith))) (c .loose .ensures)),
+      λ rows t. failing-join (p .inv .2 rows t) (cell-loose rows (s .args .columns) (s .args .ground .now) (s .args .level .now) (p .x) _ _ _ _ refl (c .before .before .ground-level .ensures) (c .before .lowest-inside .ensures rows (t .inside (p .x) (omega arith) (omega arith))) (c .loose .ensures)),
     )
 
 returns : tie.Need-returns Inv-loop μ-loop

@@ -2,7 +2,8 @@
 use mathlib.Core.Path.{_≡_}
 use Prim.Native.Nat.{_≤_, _*_, _-_}
 use native.Mathlib.Omega.{arith}
-use Rattle.laws.proofs.Settle.{loose-none, loose-join, loose-still}
+use Rattle.laws.proofs.Search.{failing-none, failing-join}
+use Rattle.laws.proofs.Settle.{loose-still}
 use Rattle.terrain.specs.Flat.{flatStepping, Within}
 use Rattle.terrain.specs.Levels.{StepsLoose}
 use Rattle.terrain.proofs.Flats.{nearest-far, flat-rule}
@@ -18,7 +19,7 @@ abbrev μ-loop : tie.MeasureT-loop
 μ-loop rows columns level steps sum₀ x₀ sum x = rows * columns - x
 
 loop-holds : tie.Need-loop-holds Inv-loop μ-loop
-loop-holds c = let a = c .before .before .args in (omega arith, loose-none (flatStepping (a .rows) (a .columns) (a .level .now)) (a .steps .now) 0)
+loop-holds c = (omega arith, failing-none _ 0)
 
 run-end-requires : tie.Need-run-end-requires Inv-loop μ-loop
 run-end-requires c κs = search needs
@@ -58,8 +59,8 @@ loop-again c =
     let p = c .before .before .before .before .before .before .loop in
     let e = c .before .before .before .before .run-end in (
       omega (arith, e .ensures .within),
-      loose-join (flatStepping (a .rows) (a .columns) (a .level .now))
-          (loose-join (flatStepping (a .rows) (a .columns) (a .level .now)) (p .inv .1) (c .before .before .before .loose-run .ensures (a .rows) (e .ensures)))
+      failing-join
+          (failing-join (p .inv .1) (c .before .before .before .loose-run .ensures (a .rows) (e .ensures)))
           (steps-loose (a .rows) (a .columns) (a .level .now) (a .steps .now) (e .result) (c .before .nearest-near .ensures) (c .loose .ensures)),
     )
 

@@ -2,9 +2,8 @@
 use mathlib.Core.Path.{_≡_}
 use Prim.Native.Nat.{ℕ, _≤_, _-_}
 use native.Mathlib.Omega.{arith}
-use Rattle.laws.proofs.Settle.{loose-none, loose-join}
+use Rattle.laws.proofs.Search.{failing-none, failing-join}
 use Rattle.terrain.specs.Inside.{RunsTo}
-use Rattle.terrain.specs.Flat.{flatStepping}
 use Rattle.terrain.specs.Levels.{StepsLoose}
 use Rattle.terrain.proofs.Flats.{nearest-far}
 use Rattle.terrain.proofs.Stepping.{steps-loose}
@@ -19,7 +18,7 @@ abbrev μ-loop : tie.MeasureT-loop
 μ-loop columns level steps from to sum₀ x₀ sum x = to - x
 
 loop-holds : tie.Need-loop-holds Inv-loop μ-loop
-loop-holds c = let a = c .before .before .args in (omega arith, c .before .before .pre .2 .from, λ rows r. loose-none (flatStepping rows (a .columns) (a .level .now)) (a .steps .now) (a .from))
+loop-holds c = let a = c .before .before .args in (omega arith, c .before .before .pre .2 .from, λ rows r. failing-none _ (a .from))
 
 mul-loose : tie.Need-mul-loose Inv-loop μ-loop
 mul-loose c = search needs
@@ -49,7 +48,7 @@ loop-again c =
     let a = c .before .before .before .before .before .before .before .args in let p = c .before .before .before .before .loop in (
       omega arith,
       omega arith,
-      λ rows r. loose-join (flatStepping rows (a .columns) (a .level .now)) (p .inv .2 rows r)
+      λ rows r. failing-join (p .inv .2 rows r)
           (steps-loose rows (a .columns) (a .level .now) (a .steps .now) (p .x) (c .before .nearest-inside .ensures rows (r .inside (p .x) (omega arith) (omega arith))) (c .loose .ensures)),
     )
 
