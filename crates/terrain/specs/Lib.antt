@@ -10,4 +10,5 @@ pub mod Answers
 pub mod Inside
 pub mod Flood
 pub mod Directed
+pub mod Relief
 pub mod Levels

@@ -15,6 +15,7 @@ ghost use lib.ListN.{length};
 ghost use Rattle.terrain.specs.Quantities.{sizeAccepted, heightAccepted};
 ghost use Rattle.terrain.specs.Cells.{Ready};
 ghost use Rattle.terrain.specs.Drainage.{Drainage};
+ghost use Rattle.terrain.specs.Relief.{Relief};
 ghost use Rattle.terrain.specs.Answers.{told, lent, refusal, accepted, Long, firstBad, answerOf, gridsOf, answer, after};
 use text::NO_DATA;
 use text::Refusal;
@@ -71,7 +72,27 @@ fn refused(number: u32, place: usize) -> Answer
     })
 }
 
-// Works out the grids from a good ground.
+// Works out filled heights and directions, and the number of valid cells; `count` and `workspace` are scratch.
+fn shape(
+    rows: usize,
+    columns: usize,
+    ground: &[i32],
+    filled: &mut [i32],
+    direction: &mut [u8],
+    count: &mut [u32],
+    workspace: &mut [u32],
+) -> u32
+    requires { ⌜ Ready rows columns (now ground) × Long (rows * columns) (now ground) (lent (now filled) (now direction) (now count) (now workspace)) ⌝ }
+    ensures { λ r. ⌜ Relief rows columns (now (ground .entry)) (now (filled .exit)) (now (direction .exit)) r ⌝ }
+{
+    filled::fill(rows, columns, ground, workspace, count);
+    flat::measure(rows, columns, workspace, count, filled);
+    direction::point(rows, columns, workspace, count, direction);
+    filled::write_heights(workspace, filled);
+    filled::valid_cells(workspace)
+}
+
+// Works out every grid from a good ground.
 fn survey(
     rows: usize,
     columns: usize,
@@ -84,11 +105,7 @@ fn survey(
     requires { ⌜ Ready rows columns (now ground) × Long (rows * columns) (now ground) (lent (now filled) (now direction) (now count) (now workspace)) ⌝ }
     ensures { λ r. ⌜ (told r ≡ answerOf rows columns (now (ground .entry)) accepted) × (lent (now (filled .exit)) (now (direction .exit)) (now (count .exit)) (now (workspace .exit)) ≡ gridsOf rows columns (now (ground .entry)) (lent (now (filled .entry)) (now (direction .entry)) (now (count .entry)) (now (workspace .entry))) accepted) ⌝ }
 {
-    filled::fill(rows, columns, ground, workspace, count);
-    flat::measure(rows, columns, workspace, count, filled);
-    direction::point(rows, columns, workspace, count, direction);
-    filled::write_heights(workspace, filled);
-    let valid = filled::valid_cells(workspace);
+    let valid = shape(rows, columns, ground, filled, direction, count, workspace);
     trail::count_flow(rows, columns, direction, count, workspace);
     let longest = trail::longest_trail(rows, columns, direction, workspace);
     Answer::Accepted {
