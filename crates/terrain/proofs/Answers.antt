@@ -1,34 +1,27 @@
 -- The verdict of the map call: its cases, what an accepted grid is, and that an accepted call's grids are a drainage. Assumes nothing.
-use mathlib.Core.Path.{_≡_, refl, sym, ap, subst, _∙_}
+use mathlib.Core.Path.{_≡_, refl, sym, ap, ap₂, subst, subst₂, _∙_}
 use mathlib.Core.List.{List}
+use mathlib.Core.Logic.{⊎-elim}
 use mathlib.Core.Bool.{Bool, true, false, cond, not, _&&_}
 use Prim.Native.Nat.{ℕ, _*_, _≤_, _<_}
 use native.Mathlib.Omega.{arith}
 use lib.ListN.{length, getD}
 use lib.IntN.{ℤ, pos}
 use lib.Dec.{ltb, leb, eqb}
-use borrow.Author.Tests.{leb-true, ltb-false, eqb-true, not-false}
-use Rattle.laws.proofs.Tests.{and-both}
+use borrow.Author.Tests.{leb-true, ltb-false, lt-ltb, le-ltb, eqb-true, eq-eqb, not-false}
+use Rattle.laws.proofs.Tests.{two, and-both, and-false-left, and-false-right}
 use Rattle.laws.proofs.Lists.{getD-any}
 use Rattle.laws.proofs.First.{first-before}
 use Rattle.terrain.specs.Quantities.{noData, sizeAccepted, heightAccepted, Fine}
 use Rattle.terrain.specs.Cells.{Ready}
 use Rattle.terrain.specs.Drainage.{Drainage}
-use Rattle.terrain.specs.Answers.{Grids, Verdict, accepted, refused, allLong, firstBad, judge, answerOf, gridsOf, answer, after}
+use Rattle.terrain.specs.Answers.{Grids, Answer, Long, refusal, Verdict, accepted, refused, allLong, firstBad, judge, answerOf, gridsOf, answer, after}
 use Rattle.terrain.proofs.Neighbours.{area-small, accepted-fine}
 use Rattle.terrain.proofs.Drainage.{drainage}
 
 pub size-is : (n : ℕ) → sizeAccepted n ≡ true → (1 ≤ n) × (n ≤ 1024)
 unfolding sizeAccepted
 size-is n e = let w = and-both (leb 1 n) (leb n 1024) e in (leb-true 1 n (w .0), leb-true n 1024 (w .1))
-
--- every lent grid has n cells
-pub record Long (n : ℕ) (ground : List ℤ) (g : Grids) : Type 0 where
-  pub ground-long : length ground ≡ n
-  pub filled-long : length (g .filled) ≡ n
-  pub direction-long : length (g .direction) ≡ n
-  pub count-long : length (g .count) ≡ n
-  pub workspace-long : length (g .workspace) ≡ n
 
 pub long-is : (n : ℕ) (ground : List ℤ) (g : Grids) → allLong n ground g ≡ true → Long n ground g
 unfolding allLong
@@ -44,6 +37,16 @@ long-is n ground g e =
       count-long = eqb-true (length (g .count)) n (c .1);
       workspace-long = eqb-true (length (g .workspace)) n (d .1);
     }
+
+pub is-long : (n : ℕ) (ground : List ℤ) (g : Grids) → Long n ground g → allLong n ground g ≡ true
+unfolding allLong
+is-long n ground g l =
+    ap₂ _&&_
+    (ap₂ _&&_ (ap₂ _&&_ (ap₂ _&&_ (eq-eqb (length ground) n (l .ground-long)) (eq-eqb (length (g .filled)) n (l .filled-long))) (eq-eqb (length (g .direction)) n (l .direction-long))) (eq-eqb (length (g .count)) n (l .count-long)))
+    (eq-eqb (length (g .workspace)) n (l .workspace-long))
+
+pub not-long : (n : ℕ) (ground : List ℤ) (g : Grids) → (Long n ground g → ⊥) → allLong n ground g ≡ false
+not-long n ground g d = ⊎-elim (λ e. absurd (d (long-is n ground g e))) (λ e. e) (two (allLong n ground g))
 
 -- the verdict by its three tests
 abbrev verdict : Bool → Bool → Bool → ℕ → Verdict
@@ -137,3 +140,50 @@ module _ (rows cols : ℕ) (ground : List ℤ) (g : Grids) where
     where
       Whole : Verdict → Type 0
       Whole v = Drainage rows cols ground (gridsOf rows cols ground g v .filled) (gridsOf rows cols ground g v .direction) (gridsOf rows cols ground g v .count) (answerOf rows cols ground v .valids)
+
+  -- ---- the whole promise, from the answer and the grids
+
+  abbrev pub Promised : Answer → Grids → Type 0
+  Promised a h = (a ≡ answer rows cols ground g) × ((h ≡ after rows cols ground g) × (a .number ≡ 0 → Drainage rows cols ground (h .filled) (h .direction) (h .count) (a .valids)))
+
+  promised : (a : Answer) (h : Grids) → a ≡ answer rows cols ground g → h ≡ after rows cols ground g → Promised a h
+  promised a h p q =
+      (p, (q, λ e. subst₂ (λ (a : Answer) (h : Grids). Drainage rows cols ground (h .filled) (h .direction) (h .count) (a .valids)) (sym p) (sym q) (accepted-drainage (ap (λ (a : Answer). a .number) (sym p) ∙ e))))
+
+  -- a refusal changes no lent grid
+  refuses : (a : Answer) (n p : ℕ) → a ≡ refusal n p → judge rows cols ground g ≡ refused n p → Promised a g
+  unfolding answer after answerOf gridsOf
+  refuses a n p e j = promised a g (e ∙ sym (ap (answerOf rows cols ground) j)) (sym (ap (gridsOf rows cols ground g) j))
+
+  -- ---- the same from the tests that the code makes, in their order
+
+  pub refuses-rows : (a : Answer) → a ≡ refusal 1 0 → sizeAccepted rows ≡ false → Promised a g
+  refuses-rows a e r = refuses a 1 0 e (judge-size (sym (and-false-left (sizeAccepted rows) (sizeAccepted cols) r)))
+
+  pub refuses-cols : (a : Answer) → a ≡ refusal 1 0 → sizeAccepted cols ≡ false → Promised a g
+  refuses-cols a e c = refuses a 1 0 e (judge-size (sym (and-false-right (sizeAccepted rows) (sizeAccepted cols) c)))
+
+  module _ (r : sizeAccepted rows ≡ true) (c : sizeAccepted cols ≡ true) where
+    pub area-few : rows * cols ≤ 1048576
+    area-few = area-small rows cols (size-is rows r .1) (size-is cols c .1)
+
+    pub refuses-length : (a : Answer) → a ≡ refusal 2 0 → (Long (rows * cols) ground g → ⊥) → Promised a g
+    refuses-length a e d = refuses a 2 0 e (judge-long (ap₂ _&&_ r c) (not-long (rows * cols) ground g d))
+
+    module _ (long : Long (rows * cols) ground g) (p : ℕ) (first : p ≡ firstBad (length ground) ground) where
+      bad-is : p ≡ firstBad (rows * cols) ground
+      bad-is = first ∙ ap (λ (n : ℕ). firstBad n ground) (long .ground-long)
+
+      pub refuses-height : (a : Answer) → a ≡ refusal 5 p → p < rows * cols → Promised a g
+      refuses-height a e h =
+          refuses a 5 bad (e ∙ ap (refusal 5) bad-is) (judge-bad (ap₂ _&&_ r c) (is-long (rows * cols) ground g long) (lt-ltb bad (rows * cols) (omega (arith, bad-is))))
+
+      judge-accepts : rows * cols ≤ p → judge rows cols ground g ≡ accepted
+      judge-accepts h = judge-good (ap₂ _&&_ r c) (is-long (rows * cols) ground g long) (le-ltb bad (rows * cols) (omega (arith, bad-is)))
+
+      pub ready : rows * cols ≤ p → Ready rows cols ground
+      ready h = accepted-ready (judge-accepts h)
+
+      pub accepts : (a : Answer) (h : Grids) → rows * cols ≤ p → a ≡ answerOf rows cols ground accepted → h ≡ gridsOf rows cols ground g accepted → Promised a h
+      unfolding answer after
+      accepts a h l e f = let j = judge-accepts l in promised a h (e ∙ sym (ap (answerOf rows cols ground) j)) (f ∙ sym (ap (gridsOf rows cols ground g) j))

@@ -1,25 +1,27 @@
 -- Counts as the code works them out: the cell that a cell points at, what its neighbours bring, comparisons of counts with that, and that only the counts of the
 -- definition pass them all. Assumes nothing.
-use mathlib.Core.Path.{_≡_, refl, sym, ap, ap₂, subst, _∙_}
+use mathlib.Core.Path.{_≡_, refl, sym, ap, ap₂, _∙_}
 use mathlib.Core.List.{List}
 use mathlib.Core.Logic.{⊎-elim}
 use mathlib.Core.Bool.{Bool, true, false, cond, not, true≢false}
 use Prim.Native.Nat.{ℕ, zero, suc, _+_, _-_, _*_, _≤_, _<_}
 use native.Mathlib.Omega.{arith}
-use native.Mathlib.Decide.{decLt, ℕ-discrete}
+use native.Mathlib.Decide.{decLt}
 use lib.Count.{trailingZeros, trailing-of-zero}
 use lib.ListN.{length, getD, List·getD-eq-default}
 use lib.Seq.{ext-getD}
 use lib.Dec.{eqb}
 use borrow.Author.Tests.{le-ltb, eqb-true, ne-eqb}
 use Rattle.laws.specs.Sums.{sumTo, when}
+use Rattle.laws.specs.Search.{Failing}
 use Rattle.laws.specs.Raise.{Under, Rule}
 use Rattle.laws.proofs.Tests.{two}
+use Rattle.laws.proofs.Search.{failing-one}
 use Rattle.laws.proofs.Lists.{getD-any}
 use Rattle.laws.proofs.Sums.{sum-none, sum-more, sum-zero, when-yes, when-no, when-under}
 use Rattle.terrain.specs.Cells.{neighbour, codeOf, sideOf}
 use Rattle.terrain.specs.Trail.{mappedAt, flowsAt, nextAt, stepsIn, intoAt, countAt, countsOf, countOffer}
-use Rattle.terrain.specs.Directed.{Directed, Counts, Compared, receiverOf, backOf}
+use Rattle.terrain.specs.Directed.{Directed, Counts, Counted, receiverOf, backOf}
 use Rattle.terrain.proofs.Neighbours.{each-side, across, across-small, side-none, code-some}
 use Rattle.terrain.proofs.Trails.{Falls, is-mapped, mapped-in, flows-code, code-next, flows-mapped, steps-le, into-flows, into-above, into-code, offer-le, counts-long, counts-at, count-le, count-fix, count-rule}
 
@@ -148,47 +150,31 @@ module _ (rows cols : ℕ) (dir : List ℕ) (d : Directed rows cols dir) where
 
   -- ---- counts that are all what is brought
 
-  pub compared-none : (l : List ℕ) (a : ℕ) → Compared rows cols dir l a a 0
-  compared-none l a = record { ordered = omega arith; few = omega arith; same = (λ e y h k. absurd (omega arith)) }
-
-  pub compared-more : (l : List ℕ) (a b m w s : ℕ) → Compared rows cols dir l a b m → s ≡ countOffer rows cols dir l b → w ≡ when (not (eqb (getD l b 0) s)) 1 → Compared rows cols dir l a (b + 1) (m + w)
-  compared-more l a b m w s c e q =
-      record {
-        ordered = omega (arith, c .ordered);
-        few = omega (arith, c .few, q, when-under (not (eqb (getD l b 0) s)) 1);
-        same = (λ z y h k. elim (ℕ-discrete y b) [ yes i ↦ subst (λ (j : ℕ). getD l j 0 ≡ countOffer rows cols dir l j) (sym i) (here (omega arith) ∙ e) | no f ↦ c .same (omega arith) y h (omega arith) ]);
-      }
+  -- one comparison, of a count with the sum that was gathered
+  pub counted-one : (l : List ℕ) (x s m : ℕ) → s ≡ countOffer rows cols dir l x → m ≡ when (not (eqb (getD l x 0) s)) 1 → Failing (Counted rows cols dir l) x (x + 1) m
+  counted-one l x s m e q = failing-one (Counted rows cols dir l) x m (omega (arith, q, when-under (not (eqb (getD l x 0) s)) 1)) (λ z. same z ∙ e)
     where
-      here : w ≡ 0 → getD l b 0 ≡ s
-      here z = ⊎-elim (λ t. eqb-true (getD l b 0) s t) (λ t. absurd (omega (arith, q, when-yes 1 (ap not t)))) (two (eqb (getD l b 0) s))
+      same : m ≡ 0 → getD l x 0 ≡ s
+      same z = ⊎-elim (λ t. eqb-true (getD l x 0) s t) (λ t. absurd (omega (arith, q, when-yes 1 (ap not t)))) (two (eqb (getD l x 0) s))
 
-  pub compared-join : (l : List ℕ) (a b c m k : ℕ) → Compared rows cols dir l a b m → Compared rows cols dir l b c k → Compared rows cols dir l a c (m + k)
-  compared-join l a b c m k p q =
-      record {
-        ordered = omega (arith, p .ordered, q .ordered);
-        few = omega (arith, p .few, q .few);
-        same = (λ z y h i. elim (decLt y b) [ yes lt ↦ p .same (omega arith) y h lt | no f ↦ q .same (omega arith) y (omega arith) i ]);
-      }
-
-  counts-below : (l : List ℕ) → Compared rows cols dir l 0 (rows * cols) 0 → (m x : ℕ) → rows * cols - rank x < m → x < rows * cols → getD l x 0 ≡ getD (countsOf rows cols dir) x 0
+  counts-below : (l : List ℕ) → ((x : ℕ) → x < rows * cols → Counted rows cols dir l x) → (m x : ℕ) → rows * cols - rank x < m → x < rows * cols → getD l x 0 ≡ getD (countsOf rows cols dir) x 0
   counts-below l c zero x h i = absurd (omega arith)
   counts-below l c (suc m) x h i =
       let F = countsOf rows cols dir in
       let same : (k : ℕ) → into x k ≡ true → getD l (nb x k) 0 ≡ getD F (nb x k) 0 = (λ k e. counts-below l c m (nb x k) (omega (arith, into-above rows cols dir rank directed-falls rank-le x k e, rank-le (nb x k))) (mapped-in rows cols dir (d .long) (nb x k) (flows-mapped rows cols dir (nb x k) (into-flows rows cols dir rank directed-falls rank-le x k e .0)))) in
       omega (
         arith,
-        c .same refl x (omega arith) i,
+        c x i,
         offer-le rows cols dir rank directed-falls rank-le l F x (λ k e. omega (arith, same k e)),
         offer-le rows cols dir rank directed-falls rank-le F l x (λ k e. omega (arith, same k e)),
         count-fix rows cols dir rank directed-falls rank-le x i,
       )
 
   -- the counts of the definition are the only ones
-  pub counts-only : (l : List ℕ) (others : ℕ) → length l ≡ rows * cols → Compared rows cols dir l 0 (rows * cols) others → others < 1 → l ≡ countsOf rows cols dir
-  counts-only l others e c h =
-      let z : others ≡ 0 = omega arith in
+  pub counts-only : (l : List ℕ) (n : ℕ) → length l ≡ rows * cols → Failing (Counted rows cols dir l) 0 (rows * cols) n → n < 1 → l ≡ countsOf rows cols dir
+  counts-only l n e c h =
       ext-getD 0 l (countsOf rows cols dir) (e ∙ sym (counts-long rows cols dir rank directed-falls rank-le))
-      (λ x i. counts-below l (subst (Compared rows cols dir l 0 (rows * cols)) z c) (suc (rows * cols - rank x)) x (omega arith) (omega arith))
+      (λ x i. counts-below l (λ y k. c .all (omega arith) y (omega arith) k) (suc (rows * cols - rank x)) x (omega arith) (omega arith))
 
   -- ---- counts on the way up
 

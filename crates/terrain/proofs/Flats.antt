@@ -11,7 +11,7 @@ use lib.ListN.{length, getD}
 use lib.IntN.{ℤ}
 use lib.Dec.{ltb, leb, eqb}
 use borrow.Author.Tests.{ltb-true, lt-ltb, le-ltb, le-leb, lt-leb, eq-eqb, ne-eqb}
-use Rattle.laws.specs.Settle.{Kept, Still, Rule}
+use Rattle.laws.specs.Settle.{Rule}
 use Rattle.laws.proofs.Tests.{two, and-both}
 use Rattle.laws.proofs.Lists.{in-list}
 use Rattle.laws.proofs.First.{some-is, none-at}
@@ -20,7 +20,7 @@ use Rattle.laws.proofs.Settle.{settled-done, done-is}
 use Rattle.terrain.specs.Cells.{neighbour, validAt, rimAt, levelsOf, Ready}
 use Rattle.terrain.specs.Surfaces.{Run, last, step, NeverRises}
 use Rattle.terrain.specs.Filled.{top, lowestOf, filledLevels, filledOf}
-use Rattle.terrain.specs.Flat.{farSteps, lowerAt, hasLower, flatAt, seenAt, nearestOf, flatStepping, flatSteps, Walk, there, on, walked, Within}
+use Rattle.terrain.specs.Flat.{farSteps, lowerAt, hasLower, flatAt, seenAt, nearestOf, flatStepping, flatSteps, Walk, there, on, walked, Within, StepsKept, StepsStill}
 use Rattle.terrain.specs.Drainage.{surfaceOf}
 use Rattle.terrain.proofs.Neighbours.{rim-open, inland-valid, level-le, none-level, level-valid}
 use Rattle.terrain.proofs.Filling.{lowest-le, lowest-is, filled-long, filled-clear, filled-some, filled-above, level-filled}
@@ -55,13 +55,16 @@ module _ (rows cols : ℕ) (lv : List ℕ) where
   pub is-lower : (x k : ℕ) → 0 < getD lv (neighbour rows cols x k) 0 → getD lv (neighbour rows cols x k) 0 < getD lv x 0 → lowerAt rows cols lv x k ≡ true
   is-lower x k p l = simp (lt-ltb 0 (getD lv (nb x k) 0) p, lt-ltb (getD lv (nb x k) 0) (getD lv x 0) l)
 
+  pub flat-inland : (x : ℕ) → flatAt rows cols lv x ≡ true → (hasLower rows cols lv x ≡ false) × (rimAt rows cols lv x ≡ false)
+  unfolding flatAt
+  flat-inland x e = nor (hasLower rows cols lv x) (rimAt rows cols lv x) (and-both (validAt lv x) (not (hasLower rows cols lv x || rimAt rows cols lv x)) e .1)
+
   pub flat-high : (x k : ℕ) → flatAt rows cols lv x ≡ true → k < 8 → getD lv x 0 ≤ getD lv (neighbour rows cols x k) 0
-  unfolding flatAt hasLower
+  unfolding hasLower
   flat-high x k e h =
-      let w = and-both (validAt lv x) (not (hasLower rows cols lv x || rimAt rows cols lv x)) e in
-      let n = nor (hasLower rows cols lv x) (rimAt rows cols lv x) (w .1) in
+      let n = flat-inland x e in
       elim (decLt (getD lv (nb x k) 0) (getD lv x 0))
-      [ yes l ↦ absurd (true≢false (sym (is-lower x k (inland-valid rows cols lv x k (ltb-true 0 (getD lv x 0) (w .0)) (n .1) h) l) ∙ none-at (lowerAt rows cols lv x) 8 k (n .0) h)) | no f ↦ omega arith ]
+      [ yes l ↦ absurd (true≢false (sym (is-lower x k (inland-valid rows cols lv x k (flat-valid x e) (n .1) h) l) ∙ none-at (lowerAt rows cols lv x) 8 k (n .0) h)) | no f ↦ omega arith ]
 
   pub low-not-flat : (x k : ℕ) → k < 8 → getD lv (neighbour rows cols x k) 0 < getD lv x 0 → flatAt rows cols lv x ≡ false
   low-not-flat x k h l = ⊎-elim (λ e. absurd (omega (arith, flat-high x k e h))) (λ e. e) (two (flatAt rows cols lv x))
@@ -129,14 +132,8 @@ module _ (rows cols : ℕ) (lv : List ℕ) where
 
   -- ---- the rule
 
-  abbrev pub StepsKept : List ℕ → Type 0
-  StepsKept = Kept (flatStepping rows cols lv) (Within rows cols lv)
-
-  abbrev pub StepsStill : List ℕ → Type 0
-  StepsStill = Still (flatStepping rows cols lv)
-
   -- a flat cell beside one of its level that can stand at d's steps can stand at one more
-  pub within-beside : (d : List ℕ) → StepsKept d → (x k v : ℕ) → 0 < getD lv x 0 → k < 8 → getD lv (neighbour rows cols x k) 0 ≡ getD lv x 0 → getD d (neighbour rows cols x k) 0 < farSteps → getD d (neighbour rows cols x k) 0 + 1 ≤ v → Within rows cols lv x v
+  pub within-beside : (d : List ℕ) → StepsKept rows cols lv d → (x k v : ℕ) → 0 < getD lv x 0 → k < 8 → getD lv (neighbour rows cols x k) 0 ≡ getD lv x 0 → getD d (neighbour rows cols x k) 0 < farSteps → getD d (neighbour rows cols x k) 0 + 1 ≤ v → Within rows cols lv x v
   within-beside d kept x k v p h e l le =
       ⊎-elim
       (λ f. let w = kept .stands (nb x k) f l in (on x k p h e (w .0), omega (arith, w .1)))
@@ -144,7 +141,7 @@ module _ (rows cols : ℕ) (lv : List ℕ) where
       (two (flatAt rows cols lv (nb x k)))
 
   -- no walk is shorter than a list that no offer lowers says
-  pub walk-least : (d : List ℕ) → StepsKept d → StepsStill d → {x : ℕ} (w : Walk rows cols lv x) → getD d x 0 ≤ walked rows cols lv w
+  pub walk-least : (d : List ℕ) → StepsKept rows cols lv d → StepsStill rows cols lv d → {x : ℕ} (w : Walk rows cols lv x) → getD d x 0 ≤ walked rows cols lv w
   walk-least d k s (there x v h) = omega (arith, k .clear x h)
   walk-least d k s (on x j v h e w) =
       ⊎-elim (λ q. omega (arith, s x q, nearest-le d x j 8 h, seen-same d x j e, walk-least d k s w)) (λ q. omega (arith, k .clear x q)) (two (flatAt rows cols lv x))
@@ -159,20 +156,20 @@ module _ (rows cols : ℕ) (lv : List ℕ) where
         }
 
     -- the definition, and any list like it
-    pub steps-kept : StepsKept (flatSteps rows cols lv)
+    pub steps-kept : StepsKept rows cols lv (flatSteps rows cols lv)
     unfolding flatSteps
     steps-kept = settled-done (flatStepping rows cols lv) (Within rows cols lv) flat-rule .0
 
-    pub steps-still : StepsStill (flatSteps rows cols lv)
+    pub steps-still : StepsStill rows cols lv (flatSteps rows cols lv)
     unfolding flatSteps
     steps-still = settled-done (flatStepping rows cols lv) (Within rows cols lv) flat-rule .1
 
-    pub steps-are : (d : List ℕ) → StepsKept d → StepsStill d → d ≡ flatSteps rows cols lv
+    pub steps-are : (d : List ℕ) → StepsKept rows cols lv d → StepsStill rows cols lv d → d ≡ flatSteps rows cols lv
     unfolding flatSteps
     steps-are d k s = done-is (flatStepping rows cols lv) (Within rows cols lv) flat-rule d k s
 
     -- along a walk every number of steps up to the first cell's is some cell's
-    hit : (d : List ℕ) → StepsKept d → StepsStill d → {x : ℕ} (w : Walk rows cols lv x) (b : ℕ) → b ≤ getD d x 0 → (y : ℕ) × (y < rows * cols) × (getD d y 0 ≡ b)
+    hit : (d : List ℕ) → StepsKept rows cols lv d → StepsStill rows cols lv d → {x : ℕ} (w : Walk rows cols lv x) (b : ℕ) → b ≤ getD d x 0 → (y : ℕ) × (y < rows * cols) × (getD d y 0 ≡ b)
     hit d k s (there x v h) b le = (x, omega (arith, in-list lv x v), omega (arith, k .clear x h))
     hit d k s (on x j v h e w) b le =
         elim (ℕ-discrete b (getD d x 0)) [
@@ -181,7 +178,7 @@ module _ (rows cols : ℕ) (lv : List ℕ) where
         ]
 
     -- so there are fewer steps than cells
-    pub steps-few : (d : List ℕ) → StepsKept d → StepsStill d → {x : ℕ} → Walk rows cols lv x → getD d x 0 < rows * cols
+    pub steps-few : (d : List ℕ) → StepsKept rows cols lv d → StepsStill rows cols lv d → {x : ℕ} → Walk rows cols lv x → getD d x 0 < rows * cols
     steps-few d k s {x} w =
         pigeon (rows * cols) (suc (getD d x 0)) (λ b. cell b (decLe b (getD d x 0)))
         (record {

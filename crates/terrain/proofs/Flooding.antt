@@ -1,6 +1,6 @@
 -- Laws of the flood and of the search for cells that can be lowered: what each step of the code does to the levels. Assumes nothing.
 use mathlib.Core.Path.{_≡_, refl, sym, ap, subst, _∙_}
-use mathlib.Core.List.{List}
+use mathlib.Core.List.{List, map}
 use mathlib.Core.Bool.{Bool, true, false, cond}
 use Prim.Native.Nat.{ℕ, _+_, _*_, _≤_, _<_, min, max}
 use native.Mathlib.Omega.{arith}
@@ -12,15 +12,17 @@ use lib.Dec.{ltb}
 use mir.Syntax.{w32}
 use mir.Val.{SFits, toZ, ofZ}
 use mir.Facts.{toZ-ofZ, toZ-pos}
-use borrow.Author.Tests.{ltb-true, ltb-false, lt-ltb, le-ltb}
+use borrow.Author.Tests.{ltb-true, lt-ltb, le-ltb}
 use Rattle.laws.specs.Sums.{sumTo, when}
+use Rattle.laws.specs.Settle.{startOf}
 use Rattle.laws.proofs.Sums.{sum-ext}
 use Rattle.laws.proofs.Lists.{in-list}
-use Rattle.laws.proofs.Settle.{kept-active, store-kept, start-kept}
+use Rattle.laws.proofs.Search.{failing-one}
+use Rattle.laws.proofs.Settle.{kept-active, store-kept, start-kept, eased-none, eased-then}
 use Rattle.terrain.specs.Quantities.{Fine}
 use Rattle.terrain.specs.Cells.{neighbour, levelOf, heightOf, levelsOf, validAt, Ready}
-use Rattle.terrain.specs.Filled.{top, lowestOf, filling, filledLevels, Stands}
-use Rattle.terrain.specs.Flood.{Flooding, startsOf, reachedOf, rimReachedOf, FillKept, FillStill, FillEased, offerAt, Loose, LooseIn}
+use Rattle.terrain.specs.Filled.{top, lowestOf, filling, filledLevels, filledOf, Stands}
+use Rattle.terrain.specs.Flood.{Flooding, reachedOf, rimReachedOf, FillKept, FillEased, LooseCell, FillLoose}
 use Rattle.terrain.specs.Trail.{validsOf}
 use Rattle.terrain.specs.Answers.{validOf}
 use Rattle.terrain.proofs.Neighbours.{sum-level, level-fine, fine-fits, difference-height, height-mag, level-top}
@@ -28,7 +30,7 @@ use Rattle.terrain.proofs.Filling.{lowest-is, stands-beside, stands-acr
 
 -- ---- heights and levels in words of 32 bits
 
-pub sum-word : (z : ℤ) → Fine z → toZ w32 (ofZ w32 z) +ℤ pos 999900 ≡ pos (levelOf z)
+sum-word : (z : ℤ) → Fine z → toZ w32 (ofZ w32 z) +ℤ pos 999900 ≡ pos (levelOf z)
 sum-word z f = ap (λ (y : ℤ). y +ℤ pos 999900) (toZ-ofZ (fine-fits z f)) ∙ sum-level z f
 
 pub sum-fits : (z : ℤ) → Fine z → SFits w32 (toZ w32 (ofZ w32 z) +ℤ pos 999900)
@@ -37,24 +39,42 @@ sum-fits z f = subst (SFits w32) (sym (sum-word z f)) (record { sfits = omega (a
 pub level-word : (z : ℤ) → Fine z → toZ w32 (ofZ w32 (toZ w32 (ofZ w32 z) +ℤ pos 999900)) ≡ pos (levelOf z)
 level-word z f = toZ-ofZ (sum-fits z f) ∙ sum-word z f
 
-pub difference-word : (v : ℕ) → v < 2000000 → toZ w32 v -ℤ pos 999900 ≡ heightOf v
+difference-word : (v : ℕ) → v < top → toZ w32 v -ℤ pos 999900 ≡ heightOf v
 difference-word v h = ap (λ (z : ℤ). z -ℤ pos 999900) (toZ-pos w32 {n = v} (omega arith)) ∙ difference-height v
 
-pub difference-fits : (v : ℕ) → v < 2000000 → SFits w32 (toZ w32 v -ℤ pos 999900)
-difference-fits v h = subst (SFits w32) (sym (difference-word v h)) (record { sfits = height-mag v h })
+pub difference-fits : (v : ℕ) → v < top → SFits w32 (toZ w32 v -ℤ pos 999900)
+difference-fits v h = subst (SFits w32) (sym (difference-word v h)) (record { sfits = height-mag v (omega arith) })
 
-pub height-word : (v : ℕ) → v < 2000000 → toZ w32 (ofZ w32 (toZ w32 v -ℤ pos 999900)) ≡ heightOf v
+pub height-word : (v : ℕ) → v < top → toZ w32 (ofZ w32 (toZ w32 v -ℤ pos 999900)) ≡ heightOf v
 height-word v h = toZ-ofZ (difference-fits v h) ∙ difference-word v h
 
+-- what reading the ground's level at a cell asks
+pub ground-read : {rows cols : ℕ} {ground : List ℤ} → Ready rows cols ground → (x : ℕ) → x < rows * cols → (x < length ground) × Fine (getD ground x (pos 0))
+ground-read r x h = (omega (arith, r .long), r .fine x (omega (arith, r .long)))
+
+-- ---- the flood's loops
+
+-- the levels l and the links s came from l₀ and s₀ by steps of the flood
+pub record Flooded (rows cols : ℕ) (ground : List ℤ) (l₀ s₀ l s : List ℕ) : Type 0 where
+  pub eased : FillEased rows cols ground l₀ l
+  pub links-long : length s ≡ length s₀
+
+module _ {rows cols : ℕ} {ground : List ℤ} where
+  pub flooded-none : {l s : List ℕ} → Flooded rows cols ground l s l s
+  flooded-none {l} = record { eased = eased-none (filling rows cols (levelsOf ground)) (Stands rows cols ground) l; links-long = refl }
+
+  pub flooded-then : {l₀ s₀ l s m : List ℕ} (t : List ℕ) → Flooded rows cols ground l₀ s₀ l s → FillEased rows cols ground l m → length t ≡ length s → Flooded rows cols ground l₀ s₀ m t
+  flooded-then t f e q = record { eased = eased-then (filling rows cols (levelsOf ground)) (Stands rows cols ground) (f .eased) e; links-long = q ∙ f .links-long }
+
+  -- the grids serve as before
+  pub flooded-on : {l₀ s₀ l s : List ℕ} → Flooding rows cols ground l₀ s₀ → Flooded rows cols ground l₀ s₀ l s → Flooding rows cols ground l s
+  flooded-on f d = record { ready = f .ready; level-long = d .eased .long ∙ f .level-long; links-long = d .links-long ∙ f .links-long }
+
+  -- only a cell of the grid can be at the top
+  pub flooding-in : {l s : List ℕ} → Flooding rows cols ground l s → (y : ℕ) → top ≤ getD l y 0 → y < rows * cols
+  flooding-in {l} f y h = omega (arith, in-list l y (omega arith), f .level-long)
+
 -- ---- reaching a cell
-
--- only a cell of the grid can be at the top
-pub flooding-in : {rows cols : ℕ} {ground : List ℤ} {level links : List ℕ} → Flooding rows cols ground level links → (y : ℕ) → top ≤ getD level y 0 → y < rows * cols
-flooding-in {level = level} f y h = omega (arith, in-list level y (omega arith), f .level-long)
-
--- the same grids later on
-pub flooding-on : {rows cols : ℕ} {ground : List ℤ} {l₀ s₀ : List ℕ} → Flooding rows cols ground l₀ s₀ → (l s : List ℕ) → length l ≡ length l₀ → length s ≡ length s₀ → Flooding rows cols ground l s
-flooding-on f l s e q = record { ready = f .ready; level-long = e ∙ f .level-long; links-long = q ∙ f .links-long }
 
 -- a cell that was reached before stays, any other comes down
 pub reached-before : (g l : List ℕ) (h y : ℕ) → getD l y 0 < top → l ≡ reachedOf g l h y
@@ -81,12 +101,12 @@ pub rim-reached : (g l m : List ℕ) (low x : ℕ) → low ≤ 0 → m ≡ reach
 unfolding rimReachedOf
 rim-reached g l m low x h e = rw (le-ltb 0 low h) e
 
-module _ (rows cols : ℕ) (ground : List ℤ) (ready : Ready rows cols ground) where
+module _ {rows cols : ℕ} {ground : List ℤ} (ready : Ready rows cols ground) where
   abbrev g : List ℕ
   g = levelsOf ground
 
-  pub starts-kept : (l : List ℕ) (n : ℕ) → n ≡ rows * cols → l ≡ startsOf n (levelsOf ground) → FillKept rows cols ground l
-  starts-kept l n e q = subst (FillKept rows cols ground) (sym (q ∙ ap (λ (m : ℕ). startsOf m g) e)) (start-kept (filling rows cols g) (Stands rows cols ground) (filling-rule rows cols ground ready))
+  pub starts-kept : (l : List ℕ) → l ≡ startOf (filling rows cols (levelsOf ground)) → FillKept rows cols ground l
+  starts-kept l e = subst (FillKept rows cols ground) (sym e) (start-kept (filling rows cols g) (Stands rows cols ground) (filling-rule rows cols ground ready))
 
   -- a cell that is reached from a level that it can stand at can stand where it comes down to
   reached-kept : (l : List ℕ) → FillKept rows cols ground l → (h y : ℕ) → h ≤ top → (0 < getD g y 0 → h < top → Stands rows cols ground y (max (getD g y 0) h)) → FillKept rows cols ground (reachedOf g l h y)
@@ -126,37 +146,30 @@ module _ (rows cols : ℕ) (ground : List ℤ) (ready : Ready rows cols ground) 
 
 -- ---- the search for cells that can be lowered
 
-module _ (rows cols : ℕ) (ground : List ℤ) (l : List ℕ) where
-  pub loose-none : (a : ℕ) → LooseIn rows cols ground l a a 0
-  loose-none a = record { few = omega arith; still = (λ e x le lt. absurd (omega arith)) }
+-- one cell, as the code tells
+pub cell-loose : (rows cols : ℕ) (ground : List ℤ) (l : List ℕ) (b m v u low : ℕ) → v ≡ getD l b 0 → u ≡ getD (levelsOf ground) b 0 → low ≡ lowestOf rows cols l b 8 → LooseCell v u low m → FillLoose rows cols ground l b (b + 1) m
+cell-loose rows cols ground l b m v u low p q r o = failing-one _ b m (o .few) (λ e. omega (arith, o .still e))
 
-  pub loose-join : (a b c n m : ℕ) → LooseIn rows cols ground l a b n → LooseIn rows cols ground l b c m → LooseIn rows cols ground l a c (n + m)
-  loose-join a b c n m s t =
-      record {
-        few = omega (arith, s .few, t .few);
-        still = (λ e x le lt. elim (decLt x b) [ yes h ↦ s .still (omega arith) x le h | no f ↦ t .still (omega arith) x (omega arith) lt ]);
-      }
-
-  pub loose-one : (b m v u low : ℕ) → v ≡ getD l b 0 → u ≡ getD (levelsOf ground) b 0 → low ≡ lowestOf rows cols l b 8 → Loose v u low m → LooseIn rows cols ground l b (b + 1) m
-  loose-one b m v u low p q r o =
-      record {
-        few = omega (arith, o .few);
-        still = (λ e x le lt. let s : b ≡ x = omega arith in subst (λ (y : ℕ). getD l y 0 ≤ offerAt rows cols ground l y) s (omega (arith, o .still e)));
-      }
-
-  pub loose-still : Ready rows cols ground → (n : ℕ) → LooseIn rows cols ground l 0 (rows * cols) n → n ≡ 0 → FillStill rows cols ground l
-  loose-still ready n s e x a = s .still e x (omega arith) (filling-rule rows cols ground ready .within x a)
-
--- ---- valid cells
+-- ---- valid cells and filled heights
 
 -- as the code counts one
 pub valid-one : (v : ℕ) → min v 1 ≡ when (ltb 0 v) 1
 unfolding when
 valid-one v = elim (decLt 0 v) [ yes h ↦ rw (lt-ltb 0 v h) (omega arith) | no f ↦ rw (le-ltb 0 v (omega arith)) (omega arith) ]
 
--- the filled levels have the ground's valid cells
-pub filled-valids : (rows cols : ℕ) (ground : List ℤ) → Ready rows cols ground → (n : ℕ) → n ≡ rows * cols → sumTo n (λ x. when (validAt (filledLevels rows cols ground) x) 1) ≡ validOf rows cols ground
-unfolding validOf validsOf
-filled-valids rows cols ground ready n e =
-    ap (λ (m : ℕ). sumTo m (λ x. when (validAt (filledLevels rows cols ground) x) 1)) e
-    ∙ sum-ext (rows * cols) (λ x. when (validAt (filledLevels rows cols ground) x) 1) (λ x. when (validAt (levelsOf ground) x) 1) (λ x h. ap (λ (t : Bool). when t 1) (filled-valid rows cols ground ready x))
+pub valids-counted : (rows cols : ℕ) (lv : List ℕ) (n : ℕ) → n ≡ rows * cols → sumTo n (λ x. when (validAt lv x) 1) ≡ validsOf rows cols lv
+unfolding validsOf
+valids-counted rows cols lv n e = ap (λ (m : ℕ). sumTo m (λ x. when (validAt lv x) 1)) e
+
+module _ {rows cols : ℕ} {ground : List ℤ} (ready : Ready rows cols ground) where
+  -- the filled levels have the ground's valid cells
+  pub filled-valids : validsOf rows cols (filledLevels rows cols ground) ≡ validOf rows cols ground
+  unfolding validOf validsOf
+  filled-valids =
+      sum-ext (rows * cols) (λ x. when (validAt (filledLevels rows cols ground) x) 1) (λ x. when (validAt (levelsOf ground) x) 1)
+      (λ x h. ap (λ (t : Bool). when t 1) (filled-valid rows cols ground ready x))
+
+  -- and their heights are the filled heights
+  pub filled-heights : map heightOf (filledLevels rows cols ground) ≡ filledOf rows cols ground
+  unfolding filledOf
+  filled-heights = refl

@@ -8,8 +8,12 @@ pub mod Counting
 pub mod Following
 pub mod Drainage
 pub mod Answers
+pub mod Accepted
 pub mod Interior
 pub mod Flooding
+pub mod Stepping
+pub mod Falls
+pub mod Surveying
 pub mod Fields
 pub mod Cutoffs
 pub mod Lengths

@@ -18,7 +18,7 @@ use Rattle.laws.specs.First.{firstOf}
 use Rattle.laws.proofs.First.{first-holds, some-is, some-yes}
 use Rattle.laws.proofs.Lists.{getD-any}
 use Rattle.laws.proofs.Tests.{and-both}
-use Rattle.terrain.specs.Quantities.{noData, isNoData, inRange, heightAccepted, Fine}
+use Rattle.terrain.specs.Quantities.{noData, heightAccepted, Fine}
 use Rattle.terrain.specs.Cells.{rowSteps, colSteps, cellAt, neighbour, codeOf, sideOf, Valid, levelOf, heightOf, levelsOf, validAt, rimAt, Ready}
 use Rattle.terrain.specs.Surfaces.{maxZ}
 
@@ -280,7 +280,7 @@ fine-fits (negsuc n) h = record { sfits = omega arith }
 
 -- an accepted height is fine
 pub accepted-fine : (z : ℤ) → heightAccepted z ≡ true → Fine z
-unfolding heightAccepted isNoData inRange
+unfolding heightAccepted
 accepted-fine (pos n) e = leb-true n 900000 e
 accepted-fine (negsuc n) e = go (leb 999899 n) (leb n 999899) refl (leb n 49999) refl e
   where

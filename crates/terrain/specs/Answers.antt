@@ -1,4 +1,5 @@
 -- Document 01, "Numbers of refusal": what the map call answers, and what each lent grid holds afterwards. Assumes nothing.
+use mathlib.Core.Path.{_≡_}
 use mathlib.Core.List.{List}
 use mathlib.Core.Bool.{Bool, not, cond, _&&_}
 use Prim.Native.Nat.{ℕ, _*_}
@@ -11,6 +12,8 @@ use Rattle.terrain.specs.Cells.{levelsOf}
 use Rattle.terrain.specs.Filled.{filledLevels, filledOf}
 use Rattle.terrain.specs.Direction.{directionsOf}
 use Rattle.terrain.specs.Trail.{validsOf, countsOf, longestOf}
+use Rattle.terrain.specs.declared.Answer as Enum
+use Rattle.terrain.specs.declared.Answer.the-variants.{Accepted, Refused}
 
 -- the grids that a call is lent to write
 pub record Grids : Type 0 where
@@ -25,6 +28,22 @@ pub record Answer : Type 0 where
   pub valids : ℕ
   pub longest : ℕ
 
+abbrev pub lent : List ℤ → List ℕ → List ℕ → List ℕ → Grids
+lent filled direction count workspace = record { filled = filled; direction = direction; count = count; workspace = workspace }
+
+-- "An accepted call has number and place 0."
+abbrev pub acceptance : ℕ → ℕ → Answer
+acceptance valids longest = record { number = 0; place = 0; valids = valids; longest = longest }
+
+-- "A refusal returns number and place with every other number 0."
+abbrev pub refusal : ℕ → ℕ → Answer
+refusal number place = record { number = number; place = place; valids = 0; longest = 0 }
+
+-- the number and the values of each case of the enum
+abbrev pub told : Enum.Answer → Answer
+told (Accepted valid longest) = acceptance valid longest
+told (Refused f) = refusal (f .number) (f .place)
+
 pub data Verdict : Type 0 where
   accepted : Verdict
   refused : ℕ → ℕ → Verdict
@@ -33,6 +52,14 @@ pub data Verdict : Type 0 where
 unfoldable pub allLong : ℕ → List ℤ → Grids → Bool
 allLong n ground g =
     eqb (length ground) n && eqb (length (g .filled)) n && eqb (length (g .direction)) n && eqb (length (g .count)) n && eqb (length (g .workspace)) n
+
+-- the same as facts
+pub record Long (n : ℕ) (ground : List ℤ) (g : Grids) : Type 0 where
+  pub ground-long : length ground ≡ n
+  pub filled-long : length (g .filled) ≡ n
+  pub direction-long : length (g .direction) ≡ n
+  pub count-long : length (g .count) ≡ n
+  pub workspace-long : length (g .workspace) ≡ n
 
 -- the first cell whose height is out of range and not NoData; n where there is none
 unfoldable pub firstBad : ℕ → List ℤ → ℕ
@@ -66,17 +93,15 @@ unfoldable pub longestTrail : ℕ → ℕ → List ℤ → ℕ
 unfolding longestOf directionOf
 longestTrail rows cols ground = let dir = directionOf rows cols ground in longestOf rows cols dir
 
--- "A refusal returns number and place with every other number 0. An accepted call has number and place 0."
 unfoldable pub answerOf : ℕ → ℕ → List ℤ → Verdict → Answer
 unfolding validOf longestTrail
-answerOf rows cols ground accepted = record { number = 0; place = 0; valids = validOf rows cols ground; longest = longestTrail rows cols ground }
-answerOf rows cols ground (refused number place) = record { number = number; place = place; valids = 0; longest = 0 }
+answerOf rows cols ground accepted = acceptance (validOf rows cols ground) (longestTrail rows cols ground)
+answerOf rows cols ground (refused number place) = refusal number place
 
 -- "A refusal changes no lent grid. The workspace holds zeros after success and is untouched by a refusal."
 unfoldable pub gridsOf : ℕ → ℕ → List ℤ → Grids → Verdict → Grids
 unfolding filledOf directionOf countOf
-gridsOf rows cols ground g accepted =
-    record { filled = filledOf rows cols ground; direction = directionOf rows cols ground; count = countOf rows cols ground; workspace = replicate (rows * cols) 0 }
+gridsOf rows cols ground g accepted = lent (filledOf rows cols ground) (directionOf rows cols ground) (countOf rows cols ground) (replicate (rows * cols) 0)
 gridsOf rows cols ground g (refused number place) = g
 
 -- the whole of the map call

@@ -34,11 +34,9 @@ pub record Counts (rows cols : ℕ) (count : List ℕ) : Type 0 where
   pub long : length count ≡ rows * cols
   pub small : (y : ℕ) → getD count y 0 ≤ rows * cols
 
--- how many of the cells from a to b - 1 have another count than their inflows bring: if none, then each has that
-pub record Compared (rows cols : ℕ) (dir count : List ℕ) (a b others : ℕ) : Type 0 where
-  pub ordered : a ≤ b
-  pub few : a + others ≤ b
-  pub same : others ≡ 0 → (y : ℕ) → a ≤ y → y < b → getD count y 0 ≡ countOffer rows cols dir count y
+-- the cell x counts what its inflows bring
+abbrev pub Counted : ℕ → ℕ → List ℕ → List ℕ → ℕ → Type 0
+Counted rows cols dir count x = getD count x 0 ≡ countOffer rows cols dir count x
 
 -- ---- the cells of trails
 

@@ -13,3 +13,5 @@ pub mod Length
 pub mod Flood
 pub mod Directed
 pub mod Measure
+pub mod Relief
+pub mod Levels

@@ -5,7 +5,7 @@
 //     3 SW   2 S   1 SE
 ghost use mathlib.Core.Path.{_≡_};
 ghost use mathlib.Core.Bool.{true};
-ghost use Prim.Native.Nat.{_+_, _*_, _≤_, _<_, min, max};
+ghost use Prim.Native.Nat.{_+_, _*_, _<_, min, max};
 ghost use lib.ListN.{length, getD, replicate};
 ghost use Rattle.terrain.specs.Cells.{rowSteps, colSteps, cellAt, neighbour};
 ghost use Rattle.terrain.specs.Inside.{Sized, Inside, RunsTo, besideOf, Beside};

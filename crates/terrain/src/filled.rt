@@ -4,17 +4,17 @@
 ghost use mathlib.Core.Path.{_≡_};
 ghost use mathlib.Core.Bool.{cond};
 ghost use mathlib.Core.List.{map};
-ghost use Prim.Native.Nat.{ℕ, _*_, _≤_, _<_, max};
+ghost use Prim.Native.Nat.{ℕ, _*_, _≤_, _<_};
 ghost use lib.ListN.{length, getD};
 ghost use lib.IntN.{pos};
 ghost use lib.Dec.{ltb};
-ghost use Rattle.laws.specs.Sums.{sumTo, when};
-ghost use Rattle.laws.specs.Settle.{relaxedOf, Sweeping};
+ghost use Rattle.laws.specs.Settle.{startOf};
 ghost use Rattle.terrain.specs.Quantities.{Fine};
-ghost use Rattle.terrain.specs.Cells.{levelsOf, heightOf, validAt, Ready};
+ghost use Rattle.terrain.specs.Cells.{levelsOf, heightOf, Ready};
 ghost use Rattle.terrain.specs.Inside.{Sized, Inside, RunsTo};
-ghost use Rattle.terrain.specs.Filled.{top, lowestOf, filling, filledLevels, Stands};
-ghost use Rattle.terrain.specs.Flood.{Flooding, Lowered, startsOf, reachedOf, rimReachedOf, FillKept, FillStill, FillEased, Loose, LooseIn};
+ghost use Rattle.terrain.specs.Filled.{top, lowestOf, filling, filledLevels};
+ghost use Rattle.terrain.specs.Trail.{validsOf};
+ghost use Rattle.terrain.specs.Flood.{Flooding, reachedOf, rimReachedOf, LooseCell, FillKept, FillStill, FillEased, FillSweeping, FillLoose, Lowered};
 use crate::cells::beside;
 use crate::cells::is_inside;
 use crate::cells::larger;
@@ -28,7 +28,7 @@ use crate::queue::pop;
 use crate::queue::push;
 
 // Above every level: the flood has not come here yet.
-pub(crate) const UNREACHED: u32 = 1900000;
+const UNREACHED: u32 = 1900000;
 
 // More than any band: no band is being emptied.
 const NO_BAND: usize = 1024;
@@ -43,7 +43,7 @@ fn ground_level(ground: &[i32], x: usize) -> u32
 
 // The height of a level.
 fn height_of(level: u32) -> i32
-    requires { ⌜ level < 2000000 ⌝ }
+    requires { ⌜ level < top ⌝ }
     ensures { λ r. ⌜ r ≡ heightOf level ⌝ }
 {
     level as i32 - 999900
@@ -87,7 +87,7 @@ fn start_level(g: u32) -> u32
 // Sets every level to where it starts from.
 fn start(ground: &[i32], level: &mut [u32])
     requires { ⌜ ((rows : ℕ) × (columns : ℕ) × Ready rows columns (now ground) × (length (now level) ≡ rows * columns)) ⌝ }
-    ensures { λ r. ⌜ now (level .exit) ≡ startsOf (length (now (level .entry))) (levelsOf (now (ground .entry))) ⌝ }
+    ensures { λ r. ⌜ ((rows columns : ℕ) → length (now (level .entry)) ≡ rows * columns → now (level .exit) ≡ startOf (filling rows columns (levelsOf (now (ground .entry))))) ⌝ }
 {
     let mut x: usize = 0;
     while x < level.len() {
@@ -316,7 +316,7 @@ fn flood(rows: usize, columns: usize, ground: &[i32], level: &mut [u32], links: 
 
 // 1 if a level can be lowered to what the ground and the lowest level beside it allow; else 0.
 fn loose(v: u32, ground: u32, low: u32) -> u32
-    ensures { λ r. ⌜ Loose v ground low r ⌝ }
+    ensures { λ r. ⌜ LooseCell v ground low r ⌝ }
 {
     if larger(ground, low) < v { 1 } else { 0 }
 }
@@ -324,7 +324,7 @@ fn loose(v: u32, ground: u32, low: u32) -> u32
 // How many cells can be lowered in a run of cells that are inside.
 fn loose_run(columns: usize, ground: &[i32], level: &[u32], from: usize, to: usize) -> u32
     requires { ⌜ ((rows : ℕ) × Ready rows columns (now ground) × (length (now level) ≡ rows * columns) × RunsTo rows columns from to) ⌝ }
-    ensures { λ r. ⌜ ((rows : ℕ) → RunsTo rows columns from to → LooseIn rows columns (now (ground .entry)) (now (level .entry)) from to r) ⌝ }
+    ensures { λ r. ⌜ ((rows : ℕ) → RunsTo rows columns from to → FillLoose rows columns (now (ground .entry)) (now (level .entry)) from to r) ⌝ }
 {
     let mut sum: u32 = 0;
     let mut x = from;
@@ -378,7 +378,7 @@ fn lower(rows: usize, columns: usize, ground: &[i32], level: &mut [u32], x: usiz
 // Lowers every cell once. True if some cell was lowered.
 fn sweep(rows: usize, columns: usize, ground: &[i32], level: &mut [u32]) -> bool
     requires { ⌜ Ready rows columns (now ground) × (length (now level) ≡ rows * columns) ⌝ }
-    ensures { λ r. ⌜ Sweeping (filling rows columns (levelsOf (now (ground .entry)))) (Stands rows columns (now (ground .entry))) (now (level .entry)) (now (level .exit)) (length (now (level .entry))) r ⌝ }
+    ensures { λ r. ⌜ FillSweeping rows columns (now (ground .entry)) (now (level .entry)) (now (level .exit)) (length (now (level .entry))) r ⌝ }
 {
     let mut lowered = false;
     let mut x: usize = 0;
@@ -420,7 +420,7 @@ pub(crate) fn fill(
 
 // Writes the height of each level.
 pub(crate) fn write_heights(level: &[u32], filled: &mut [i32])
-    requires { ⌜ (length (now level) ≡ length (now filled)) × ((x : ℕ) → getD (now level) x 0 < 2000000) ⌝ }
+    requires { ⌜ (length (now level) ≡ length (now filled)) × ((x : ℕ) → getD (now level) x 0 < top) ⌝ }
     ensures { λ r. ⌜ now (filled .exit) ≡ map heightOf (now (level .entry)) ⌝ }
 {
     let mut x: usize = 0;
@@ -433,7 +433,7 @@ pub(crate) fn write_heights(level: &[u32], filled: &mut [i32])
 // The number of cells that have data.
 pub(crate) fn valid_cells(level: &[u32]) -> u32
     requires { ⌜ length (now level) ≤ 1048576 ⌝ }
-    ensures { λ r. ⌜ r ≡ sumTo (length (now (level .entry))) (λ x. when (validAt (now (level .entry)) x) 1) ⌝ }
+    ensures { λ r. ⌜ ((rows columns : ℕ) → length (now (level .entry)) ≡ rows * columns → r ≡ validsOf rows columns (now (level .entry))) ⌝ }
 {
     let mut valid: u32 = 0;
     let mut x: usize = 0;

@@ -1,6 +1,16 @@
 // Steps over flats: the fewest steps over cells of equal level to a cell with a lower neighbour or to a rim cell, breadth
 // first from those (as in Barnes, Lehman and Mulla 2014, "An efficient assignment of drainage direction over flat surfaces").
 // Every store lowers a cell's steps to one more than those of a neighbour of equal level.
+ghost use mathlib.Core.Path.{_≡_};
+ghost use mathlib.Core.Bool.{cond};
+ghost use Prim.Native.Nat.{ℕ, _+_, _*_, _≤_, _<_};
+ghost use lib.ListN.{length, getD};
+ghost use lib.Dec.{eqb};
+ghost use Rattle.laws.specs.Lists.{Agrees};
+ghost use Rattle.laws.specs.Settle.{startOf, Sweeping};
+ghost use Rattle.terrain.specs.Inside.{Inside, RunsTo};
+ghost use Rattle.terrain.specs.Flat.{farSteps, nearestOf, flatStepping, flatSteps, Within, StepsKept, StepsStill};
+ghost use Rattle.terrain.specs.Levels.{Levels, startOn, startAt, Reached, Spread, StepsLoose, LooseSteps, LoweredSteps};
 use crate::cells::beside;
 use crate::cells::is_inside;
 use crate::cells::near;
@@ -14,7 +24,9 @@ use crate::filled::lowest_near;
 const FAR: u32 = 2000000;
 
 // The steps that a cell starts from: far if it has data and nothing beside it is lower, else 0.
-fn start_steps(v: u32, low: u32) -> u32 {
+fn start_steps(v: u32, low: u32) -> u32
+    ensures { λ r. ⌜ r ≡ startOn v low ⌝ }
+{
     if v < 1 {
         return 0;
     }
@@ -22,7 +34,10 @@ fn start_steps(v: u32, low: u32) -> u32 {
 }
 
 // Sets the steps of a run of cells that are inside to where they start from.
-fn start_run(columns: usize, level: &[u32], steps: &mut [u32], from: usize, to: usize) {
+fn start_run(columns: usize, level: &[u32], steps: &mut [u32], from: usize, to: usize)
+    requires { ⌜ ((rows : ℕ) × Levels rows columns (now level) × RunsTo rows columns from to × (length (now steps) ≡ rows * columns)) ⌝ }
+    ensures { λ r. ⌜ ((rows : ℕ) → Levels rows columns (now (level .entry)) → RunsTo rows columns from to → Agrees (startAt rows columns (now (level .entry))) 0 (now (steps .entry)) from → Agrees (startAt rows columns (now (level .entry))) 0 (now (steps .exit)) to) ⌝ }
+{
     let mut x = from;
     while x < to {
         steps[x] = start_steps(level[x], lowest_inside(columns, level, x));
@@ -31,7 +46,10 @@ fn start_run(columns: usize, level: &[u32], steps: &mut [u32], from: usize, to: 
 }
 
 // Sets every cell's steps to where they start from.
-fn start(rows: usize, columns: usize, level: &[u32], steps: &mut [u32]) {
+fn start(rows: usize, columns: usize, level: &[u32], steps: &mut [u32])
+    requires { ⌜ Levels rows columns (now level) × (length (now steps) ≡ rows * columns) ⌝ }
+    ensures { λ r. ⌜ now (steps .exit) ≡ startOf (flatStepping rows columns (now (level .entry))) ⌝ }
+{
     let mut x: usize = 0;
     while x < steps.len() {
         let end = run_end(rows, columns, x);
@@ -42,12 +60,17 @@ fn start(rows: usize, columns: usize, level: &[u32], steps: &mut [u32]) {
 }
 
 // The steps of a cell of level w, as a cell of level v sees them: far unless the levels are equal.
-fn seen(v: u32, w: u32, steps: u32) -> u32 {
+fn seen(v: u32, w: u32, steps: u32) -> u32
+    ensures { λ r. ⌜ r ≡ cond (eqb w v) steps farSteps ⌝ }
+{
     if w == v { steps } else { FAR }
 }
 
 // The fewest steps beside a cell x that is inside, among the cells of its level.
-fn nearest_inside(columns: usize, level: &[u32], steps: &[u32], x: usize) -> u32 {
+fn nearest_inside(columns: usize, level: &[u32], steps: &[u32], x: usize) -> u32
+    requires { ⌜ ((rows : ℕ) × Levels rows columns (now level) × Inside rows columns x × (length (now steps) ≡ rows * columns)) ⌝ }
+    ensures { λ r. ⌜ ((rows : ℕ) → Inside rows columns x → r ≡ nearestOf rows columns (now (level .entry)) (now (steps .entry)) x 8) ⌝ }
+{
     let v = level[x];
     let mut low: u32 = FAR;
     let mut k: usize = 0;
@@ -60,7 +83,10 @@ fn nearest_inside(columns: usize, level: &[u32], steps: &[u32], x: usize) -> u32
 }
 
 // The same beside any cell x.
-fn nearest_near(rows: usize, columns: usize, level: &[u32], steps: &[u32], x: usize) -> u32 {
+fn nearest_near(rows: usize, columns: usize, level: &[u32], steps: &[u32], x: usize) -> u32
+    requires { ⌜ Levels rows columns (now level) × (length (now steps) ≡ rows * columns) × (x < rows * columns) ⌝ }
+    ensures { λ r. ⌜ r ≡ nearestOf rows columns (now (level .entry)) (now (steps .entry)) x 8 ⌝ }
+{
     let v = level[x];
     let mut low: u32 = FAR;
     let mut k: usize = 0;
@@ -85,7 +111,10 @@ fn cell_in(queue: &[i32], at: usize) -> usize {
 }
 
 // Adds the cell x to a queue of `end` entries, if there is room. The number of entries.
-fn append(queue: &mut [i32], end: usize, x: usize) -> usize {
+fn append(queue: &mut [i32], end: usize, x: usize) -> usize
+    requires { ⌜ (end ≤ length (now queue)) × (x < 1048576) ⌝ }
+    ensures { λ r. ⌜ r ≤ length (now (queue .entry)) ⌝ }
+{
     if queue.len() <= end {
         return end;
     }
@@ -102,7 +131,10 @@ fn reach(
     v: u32,
     d: u32,
     y: usize,
-) -> usize {
+) -> usize
+    requires { ⌜ (length (now level) ≡ length (now steps)) × (length (now steps) ≤ 1048576) × (end ≤ length (now queue)) ⌝ }
+    ensures { λ r. ⌜ Reached (now (level .entry)) (now (steps .entry)) (now (steps .exit)) v d y (length (now (queue .entry))) r ⌝ }
+{
     if value_at(steps, y) <= d {
         return end;
     }
@@ -114,7 +146,10 @@ fn reach(
 }
 
 // The fewest steps beside the cell x among the cells of its level.
-fn nearest(rows: usize, columns: usize, level: &[u32], steps: &[u32], x: usize) -> u32 {
+fn nearest(rows: usize, columns: usize, level: &[u32], steps: &[u32], x: usize) -> u32
+    requires { ⌜ Levels rows columns (now level) × (length (now steps) ≡ rows * columns) × (x < rows * columns) ⌝ }
+    ensures { λ r. ⌜ r ≡ nearestOf rows columns (now (level .entry)) (now (steps .entry)) x 8 ⌝ }
+{
     if is_inside(rows, columns, x) {
         return nearest_inside(columns, level, steps, x);
     }
@@ -130,7 +165,10 @@ fn reach_shore(
     queue: &mut [i32],
     end: usize,
     x: usize,
-) -> usize {
+) -> usize
+    requires { ⌜ Levels rows columns (now level) × StepsKept rows columns (now level) (now steps) × (end ≤ length (now queue)) × (x < rows * columns) ⌝ }
+    ensures { λ r. ⌜ Spread rows columns (now (level .entry)) (now (steps .exit)) (length (now (queue .entry))) r ⌝ }
+{
     if steps[x] < FAR {
         return end;
     }
@@ -147,7 +185,10 @@ fn reach_shores(
     level: &[u32],
     steps: &mut [u32],
     queue: &mut [i32],
-) -> usize {
+) -> usize
+    requires { ⌜ Levels rows columns (now level) × StepsKept rows columns (now level) (now steps) ⌝ }
+    ensures { λ r. ⌜ Spread rows columns (now (level .entry)) (now (steps .exit)) (length (now (queue .entry))) r ⌝ }
+{
     let mut end: usize = 0;
     let mut x: usize = 0;
     while x < steps.len() {
@@ -167,7 +208,10 @@ fn spread_inside(
     v: u32,
     d: u32,
     x: usize,
-) -> usize {
+) -> usize
+    requires { ⌜ ((rows : ℕ) × Levels rows columns (now level) × Inside rows columns x × StepsKept rows columns (now level) (now steps) × (end ≤ length (now queue)) × (v ≡ getD (now level) x 0) × (d ≡ getD (now steps) x 0 + 1)) ⌝ }
+    ensures { λ r. ⌜ ((rows : ℕ) → Levels rows columns (now (level .entry)) → Inside rows columns x → StepsKept rows columns (now (level .entry)) (now (steps .entry)) → Spread rows columns (now (level .entry)) (now (steps .exit)) (length (now (queue .entry))) r) ⌝ }
+{
     let mut last = end;
     let mut k: usize = 0;
     while k < 8 {
@@ -188,7 +232,10 @@ fn spread_near(
     v: u32,
     d: u32,
     x: usize,
-) -> usize {
+) -> usize
+    requires { ⌜ Levels rows columns (now level) × StepsKept rows columns (now level) (now steps) × (end ≤ length (now queue)) × (x < rows * columns) × (v ≡ getD (now level) x 0) × (d ≡ getD (now steps) x 0 + 1) ⌝ }
+    ensures { λ r. ⌜ Spread rows columns (now (level .entry)) (now (steps .exit)) (length (now (queue .entry))) r ⌝ }
+{
     let mut last = end;
     let mut k: usize = 0;
     while k < 8 {
@@ -207,7 +254,10 @@ fn spread(
     queue: &mut [i32],
     end: usize,
     x: usize,
-) -> usize {
+) -> usize
+    requires { ⌜ Levels rows columns (now level) × StepsKept rows columns (now level) (now steps) × (end ≤ length (now queue)) ⌝ }
+    ensures { λ r. ⌜ Spread rows columns (now (level .entry)) (now (steps .exit)) (length (now (queue .entry))) r ⌝ }
+{
     if steps.len() <= x {
         return end;
     }
@@ -220,7 +270,10 @@ fn spread(
 }
 
 // Spreads from where the flats end inwards, the nearest cells first.
-fn wade(rows: usize, columns: usize, level: &[u32], steps: &mut [u32], queue: &mut [i32]) {
+fn wade(rows: usize, columns: usize, level: &[u32], steps: &mut [u32], queue: &mut [i32])
+    requires { ⌜ Levels rows columns (now level) × StepsKept rows columns (now level) (now steps) ⌝ }
+    ensures { λ r. ⌜ StepsKept rows columns (now (level .entry)) (now (steps .exit)) ⌝ }
+{
     let mut end = reach_shores(rows, columns, level, steps, queue);
     let mut at: usize = 0;
     while at < end {
@@ -231,12 +284,18 @@ fn wade(rows: usize, columns: usize, level: &[u32], steps: &mut [u32], queue: &m
 }
 
 // 1 if a cell's steps can be lowered to one more than the fewest beside it; else 0.
-fn loose(steps: u32, fewest: u32) -> u32 {
+fn loose(steps: u32, fewest: u32) -> u32
+    requires { ⌜ fewest ≤ farSteps ⌝ }
+    ensures { λ r. ⌜ LooseSteps steps fewest r ⌝ }
+{
     if fewest + 1 < steps { 1 } else { 0 }
 }
 
 // How many cells' steps can be lowered in a run of cells that are inside.
-fn loose_run(columns: usize, level: &[u32], steps: &[u32], from: usize, to: usize) -> u32 {
+fn loose_run(columns: usize, level: &[u32], steps: &[u32], from: usize, to: usize) -> u32
+    requires { ⌜ ((rows : ℕ) × Levels rows columns (now level) × RunsTo rows columns from to × (length (now steps) ≡ rows * columns)) ⌝ }
+    ensures { λ r. ⌜ ((rows : ℕ) → RunsTo rows columns from to → StepsLoose rows columns (now (level .entry)) (now (steps .entry)) from to r) ⌝ }
+{
     let mut sum: u32 = 0;
     let mut x = from;
     while x < to {
@@ -247,7 +306,10 @@ fn loose_run(columns: usize, level: &[u32], steps: &[u32], from: usize, to: usiz
 }
 
 // How many cells' steps can be lowered.
-fn loose_cells(rows: usize, columns: usize, level: &[u32], steps: &[u32]) -> u32 {
+fn loose_cells(rows: usize, columns: usize, level: &[u32], steps: &[u32]) -> u32
+    requires { ⌜ Levels rows columns (now level) × (length (now steps) ≡ rows * columns) ⌝ }
+    ensures { λ r. ⌜ (r ≡ 0 → StepsStill rows columns (now (level .entry)) (now (steps .entry))) ⌝ }
+{
     let mut sum: u32 = 0;
     let mut x: usize = 0;
     while x < steps.len() {
@@ -260,7 +322,10 @@ fn loose_cells(rows: usize, columns: usize, level: &[u32], steps: &[u32]) -> u32
 }
 
 // Lowers the steps of the cell x to what its neighbours allow. True if they were more.
-fn lower(rows: usize, columns: usize, level: &[u32], steps: &mut [u32], x: usize) -> bool {
+fn lower(rows: usize, columns: usize, level: &[u32], steps: &mut [u32], x: usize) -> bool
+    requires { ⌜ Levels rows columns (now level) × (length (now steps) ≡ rows * columns) × (x < rows * columns) ⌝ }
+    ensures { λ r. ⌜ LoweredSteps rows columns (now (level .entry)) (now (steps .entry)) (now (steps .exit)) x r ⌝ }
+{
     let d = nearest_near(rows, columns, level, steps, x) + 1;
     if steps[x] <= d {
         return false;
@@ -270,7 +335,10 @@ fn lower(rows: usize, columns: usize, level: &[u32], steps: &mut [u32], x: usize
 }
 
 // Lowers the steps of every cell once. True if some were lowered.
-fn sweep(rows: usize, columns: usize, level: &[u32], steps: &mut [u32]) -> bool {
+fn sweep(rows: usize, columns: usize, level: &[u32], steps: &mut [u32]) -> bool
+    requires { ⌜ Levels rows columns (now level) × (length (now steps) ≡ rows * columns) ⌝ }
+    ensures { λ r. ⌜ Sweeping (flatStepping rows columns (now (level .entry))) (Within rows columns (now (level .entry))) (now (steps .entry)) (now (steps .exit)) (length (now (steps .entry))) r ⌝ }
+{
     let mut lowered = false;
     let mut x: usize = 0;
     while x < steps.len() {
@@ -283,7 +351,10 @@ fn sweep(rows: usize, columns: usize, level: &[u32], steps: &mut [u32]) -> bool 
 }
 
 // Lowers until no cell's steps can be lowered.
-fn settle(rows: usize, columns: usize, level: &[u32], steps: &mut [u32]) {
+fn settle(rows: usize, columns: usize, level: &[u32], steps: &mut [u32])
+    requires { ⌜ Levels rows columns (now level) × StepsKept rows columns (now level) (now steps) ⌝ }
+    ensures { λ r. ⌜ now (steps .exit) ≡ flatSteps rows columns (now (level .entry)) ⌝ }
+{
     let mut again = 0 < loose_cells(rows, columns, level, steps);
     while again {
         again = sweep(rows, columns, level, steps);
@@ -297,7 +368,10 @@ pub(crate) fn measure(
     level: &[u32],
     steps: &mut [u32],
     queue: &mut [i32],
-) {
+)
+    requires { ⌜ Levels rows columns (now level) × (length (now steps) ≡ rows * columns) ⌝ }
+    ensures { λ r. ⌜ now (steps .exit) ≡ flatSteps rows columns (now (level .entry)) ⌝ }
+{
     start(rows, columns, level, steps);
     wade(rows, columns, level, steps, queue);
     settle(rows, columns, level, steps);

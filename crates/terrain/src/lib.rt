@@ -9,14 +9,16 @@ mod flat;
 mod queue;
 mod trail;
 
-// Document 01, "Quantities": a NoData cell's height, in cm.
-pub const NO_DATA: i32 = -999900;
-
-// Document 01, "Numbers of refusal": the number and the place.
-pub struct Refusal {
-    pub number: u32,
-    pub place: usize,
-}
+ghost use mathlib.Core.Path.{_≡_};
+ghost use Prim.Native.Nat.{_*_};
+ghost use lib.ListN.{length};
+ghost use Rattle.terrain.specs.Quantities.{sizeAccepted, heightAccepted};
+ghost use Rattle.terrain.specs.Cells.{Ready};
+ghost use Rattle.terrain.specs.Drainage.{Drainage};
+ghost use Rattle.terrain.specs.Relief.{Relief};
+ghost use Rattle.terrain.specs.Answers.{told, lent, refusal, accepted, Long, firstBad, answerOf, gridsOf, answer, after};
+use text::NO_DATA;
+use text::Refusal;
 
 // The answer of the map call: the number of valid cells and the steps of the longest trail, or why there is no map.
 pub enum Answer {
@@ -25,7 +27,9 @@ pub enum Answer {
 }
 
 // Whether a number of rows or columns is accepted.
-fn is_size(n: usize) -> bool {
+fn is_size(n: usize) -> bool
+    ensures { λ r. ⌜ r ≡ sizeAccepted n ⌝ }
+{
     if n < 1 {
         return false;
     }
@@ -33,7 +37,9 @@ fn is_size(n: usize) -> bool {
 }
 
 // Whether a height is accepted.
-fn is_height(h: i32) -> bool {
+fn is_height(h: i32) -> bool
+    ensures { λ r. ⌜ r ≡ heightAccepted h ⌝ }
+{
     if h == NO_DATA {
         return true;
     }
@@ -44,7 +50,9 @@ fn is_height(h: i32) -> bool {
 }
 
 // The first cell whose height is not accepted; the number of cells where there is none.
-fn first_bad(ground: &[i32]) -> usize {
+fn first_bad(ground: &[i32]) -> usize
+    ensures { λ r. ⌜ r ≡ firstBad (length (now (ground .entry))) (now (ground .entry)) ⌝ }
+{
     let mut x: usize = 0;
     while x < ground.len() {
         if !is_height(ground[x]) {
@@ -55,14 +63,36 @@ fn first_bad(ground: &[i32]) -> usize {
     x
 }
 
-fn refused(number: u32, place: usize) -> Answer {
+fn refused(number: u32, place: usize) -> Answer
+    ensures { λ r. ⌜ told r ≡ refusal number place ⌝ }
+{
     Answer::Refused(Refusal {
         number: number,
         place: place,
     })
 }
 
-// Works out the grids from a good ground.
+// Works out filled heights and directions, and the number of valid cells; `count` and `workspace` are scratch.
+fn shape(
+    rows: usize,
+    columns: usize,
+    ground: &[i32],
+    filled: &mut [i32],
+    direction: &mut [u8],
+    count: &mut [u32],
+    workspace: &mut [u32],
+) -> u32
+    requires { ⌜ Ready rows columns (now ground) × Long (rows * columns) (now ground) (lent (now filled) (now direction) (now count) (now workspace)) ⌝ }
+    ensures { λ r. ⌜ Relief rows columns (now (ground .entry)) (now (filled .exit)) (now (direction .exit)) r ⌝ }
+{
+    filled::fill(rows, columns, ground, workspace, count);
+    flat::measure(rows, columns, workspace, count, filled);
+    direction::point(rows, columns, workspace, count, direction);
+    filled::write_heights(workspace, filled);
+    filled::valid_cells(workspace)
+}
+
+// Works out every grid from a good ground.
 fn survey(
     rows: usize,
     columns: usize,
@@ -71,12 +101,11 @@ fn survey(
     direction: &mut [u8],
     count: &mut [u32],
     workspace: &mut [u32],
-) -> Answer {
-    filled::fill(rows, columns, ground, workspace, count);
-    flat::measure(rows, columns, workspace, count, filled);
-    direction::point(rows, columns, workspace, count, direction);
-    filled::write_heights(workspace, filled);
-    let valid = filled::valid_cells(workspace);
+) -> Answer
+    requires { ⌜ Ready rows columns (now ground) × Long (rows * columns) (now ground) (lent (now filled) (now direction) (now count) (now workspace)) ⌝ }
+    ensures { λ r. ⌜ (told r ≡ answerOf rows columns (now (ground .entry)) accepted) × (lent (now (filled .exit)) (now (direction .exit)) (now (count .exit)) (now (workspace .exit)) ≡ gridsOf rows columns (now (ground .entry)) (lent (now (filled .entry)) (now (direction .entry)) (now (count .entry)) (now (workspace .entry))) accepted) ⌝ }
+{
+    let valid = shape(rows, columns, ground, filled, direction, count, workspace);
     trail::count_flow(rows, columns, direction, count, workspace);
     let longest = trail::longest_trail(rows, columns, direction, workspace);
     Answer::Accepted {
@@ -95,7 +124,11 @@ pub fn map(
     direction: &mut [u8],
     count: &mut [u32],
     workspace: &mut [u32],
-) -> Answer {
+) -> Answer
+    ensures answers { λ r. ⌜ told r ≡ answer rows columns (now (ground .entry)) (lent (now (filled .entry)) (now (direction .entry)) (now (count .entry)) (now (workspace .entry))) ⌝ }
+    ensures leaves { λ _. ⌜ lent (now (filled .exit)) (now (direction .exit)) (now (count .exit)) (now (workspace .exit)) ≡ after rows columns (now (ground .entry)) (lent (now (filled .entry)) (now (direction .entry)) (now (count .entry)) (now (workspace .entry))) ⌝ }
+    ensures drains { λ r. ⌜ (told r .number ≡ 0 → Drainage rows columns (now (ground .entry)) (now (filled .exit)) (now (direction .exit)) (now (count .exit)) (told r .valids)) ⌝ }
+{
     if !is_size(rows) {
         return refused(1, 0);
     }

@@ -7,10 +7,11 @@ ghost use Prim.Native.Nat.{ℕ, _*_, _≤_, _<_};
 ghost use lib.ListN.{length, getD, replicate};
 ghost use lib.Dec.{ltb, eqb};
 ghost use Rattle.laws.specs.Sums.{greatestTo, when};
+ghost use Rattle.laws.specs.Search.{Failing};
 ghost use Rattle.laws.specs.Raise.{raisedOf, Under, Sweeping};
 ghost use Rattle.terrain.specs.Trail.{mappedAt, countsOf, longestOf, countOffer};
 ghost use Rattle.terrain.specs.Inside.{Inside};
-ghost use Rattle.terrain.specs.Directed.{Directed, Counts, Compared, Known, receiverOf, backOf, cellsOf};
+ghost use Rattle.terrain.specs.Directed.{Directed, Counts, Counted, Known, receiverOf, backOf, cellsOf};
 use crate::cells::beside;
 use crate::cells::clear;
 use crate::cells::larger;
@@ -224,7 +225,7 @@ fn loose_run(
     to: usize,
 ) -> u32
     requires { ⌜ Directed rows columns (now direction) × Counts rows columns (now count) × (from ≤ to) × ((y : ℕ) → from ≤ y → y < to → Inside rows columns y) ⌝ }
-    ensures { λ r. ⌜ Compared rows columns (now (direction .entry)) (now (count .entry)) from to r ⌝ }
+    ensures { λ r. ⌜ Failing (Counted rows columns (now (direction .entry)) (now (count .entry))) from to r ⌝ }
 {
     let mut sum: u32 = 0;
     let mut x = from;
@@ -241,7 +242,7 @@ fn loose_run(
 // How many counts are not what is gathered.
 fn loose_cells(rows: usize, columns: usize, direction: &[u8], count: &[u32]) -> u32
     requires { ⌜ Directed rows columns (now direction) × Counts rows columns (now count) ⌝ }
-    ensures { λ r. ⌜ Compared rows columns (now (direction .entry)) (now (count .entry)) 0 (rows * columns) r ⌝ }
+    ensures { λ r. ⌜ Failing (Counted rows columns (now (direction .entry)) (now (count .entry))) 0 (rows * columns) r ⌝ }
 {
     let mut sum: u32 = 0;
     let mut x: usize = 0;

@@ -11,7 +11,9 @@ flood-requires : tie.Need-flood-requires
 flood-requires c κs = search needs
 
 settle-requires : tie.Need-settle-requires
-settle-requires c κs = let s = c .before .before .before .before .before .before .before .before .before .before .before .before .before .before in (s .pre .ready, c .before .before .before .before .before .flood .ensures .kept (starts-kept (s .args .rows) (s .args .columns) (s .args .ground .now) (s .pre .ready) _ _ (s .pre .level-long) (c .before .before .before .before .before .before .before .before .before .before .start .ensures)))
+settle-requires c κs =
+    let s = c .before .before .before .before .before .before .before .before .before .before .before .before .before .before in
+    (s .pre .ready, c .before .before .before .before .before .flood .ensures .kept (starts-kept (s .pre .ready) _ (c .before .before .before .before .before .before .before .before .before .before .start .ensures (s .args .rows) (s .args .columns) (s .pre .level-long))))
 
 same-length : tie.Need-same-length
 same-length c = search needs

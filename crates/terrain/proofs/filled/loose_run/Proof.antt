@@ -1,23 +1,24 @@
 -- `terrain::filled::loose_run` meets its contract. Assumes nothing.
 use mathlib.Core.Path.{_≡_, refl, subst}
-use Prim.Native.Nat.{ℕ, _+_, _-_, _≤_}
+use Prim.Native.Nat.{ℕ, _-_, _≤_}
 use native.Mathlib.Omega.{arith}
+use Rattle.laws.proofs.Search.{failing-none, failing-join}
 use Rattle.terrain.specs.Inside.{RunsTo}
-use Rattle.terrain.specs.Flood.{LooseIn}
+use Rattle.terrain.specs.Flood.{FillLoose}
 use Rattle.terrain.proofs.Interior.{ready-sized}
-use Rattle.terrain.proofs.Flooding.{loose-none, loose-join, loose-one}
+use Rattle.terrain.proofs.Flooding.{ground-read, cell-loose}
 use borrow.Author.Needs.{needs}
 use Rattle.terrain.proofs.filled.loose_run.Statement.{statement}
 use Rattle.terrain.proofs.filled.loose_run.Tie as tie
 
 abbrev Inv-loop : tie.InvT-loop
-Inv-loop columns ground level from to sum₀ x₀ sum x = (from ≤ x) × (x ≤ to) × ((rows : ℕ) → RunsTo rows columns from to → LooseIn rows columns ground level from x sum)
+Inv-loop columns ground level from to sum₀ x₀ sum x = (from ≤ x) × (x ≤ to) × ((rows : ℕ) → RunsTo rows columns from to → FillLoose rows columns ground level from x sum)
 
 abbrev μ-loop : tie.MeasureT-loop
 μ-loop columns ground level from to sum₀ x₀ sum x = to - x
 
 loop-holds : tie.Need-loop-holds Inv-loop μ-loop
-loop-holds c = let s = c .before in (omega arith, s .pre .3 .from, λ rows t. loose-none rows (s .args .columns) (s .args .ground .now) (s .args .level .now) (s .args .from))
+loop-holds c = let s = c .before in (omega arith, s .pre .3 .from, λ rows t. failing-none _ _)
 
 mul-loose : tie.Need-mul-loose Inv-loop μ-loop
 mul-loose c = search needs
@@ -26,10 +27,7 @@ shared-slice-read-loose : tie.Need-shared-slice-read-loose Inv-loop μ-loop
 shared-slice-read-loose c = search needs
 
 ground-level-requires : tie.Need-ground-level-requires Inv-loop μ-loop
-ground-level-requires c κs =
-    let s = c .before .before .before .before in
-    let p = c .before .before .loop in
-    (omega (arith, s .pre .1 .long, s .pre .3 .within), s .pre .1 .fine (p .x) (omega (arith, s .pre .1 .long, s .pre .3 .within)))
+ground-level-requires c κs = let s = c .before .before .before .before in ground-read (s .pre .1) (c .before .before .loop .x) (omega (arith, s .pre .3 .within))
 
 lowest-inside-requires : tie.Need-lowest-inside-requires Inv-loop μ-loop
 lowest-inside-requires c κs =
@@ -55,12 +53,10 @@ loop-less c = search needs
 loop-again : tie.Need-loop-again Inv-loop μ-loop
 loop-again c =
     let s = c .before .before .before .before .before .before .before in
-    let p = c .before .before .before .before .before .loop in
-    let f = s .args in (
+    let p = c .before .before .before .before .before .loop in (
       omega arith,
       omega arith,
-      λ rows t. loose-join rows (f .columns) (f .ground .now) (f .level .now) (f .from) (p .x) (p .x + 1) (p .sum) _ (p .inv .2 rows t)
-          (loose-one rows (f .columns) (f .ground .now) (f .level .now) (p .x) _ _ _ _ refl (c .before .before .ground-level .ensures) (c .before .lowest-inside .ensures rows (t .inside (p .x) (omega arith) (omega arith))) (c .loose .ensures)),
+      λ rows t. failing-join (p .inv .2 rows t) (cell-loose rows (s .args .columns) (s .args .ground .now) (s .args .level .now) (p .x) _ _ _ _ refl (c .before .before .ground-level .ensures) (c .before .lowest-inside .ensures rows (t .inside (p .x) (omega arith) (omega arith))) (c .loose .ensures)),
     )
 
 returns : tie.Need-returns Inv-loop μ-loop
@@ -68,7 +64,7 @@ returns c =
     let f = c .before .before .before .args in
     let p = c .before .loop in
     let e : p .x ≡ f .to = omega arith in
-    λ rows t. subst (λ (y : ℕ). LooseIn rows (f .columns) (f .ground .now) (f .level .now) (f .from) y (p .sum)) e (p .inv .2 rows t)
+    λ rows t. subst (λ (y : ℕ). FillLoose rows (f .columns) (f .ground .now) (f .level .now) (f .from) y (p .sum)) e (p .inv .2 rows t)
 
 pub loose-run-spec : {M : Type 1} → statement M
 loose-run-spec =

@@ -1,16 +1,16 @@
 -- `terrain::filled::lower` meets its contract. Assumes nothing.
 use mathlib.Core.Path.{_≡_}
-use native.Mathlib.Omega.{arith}
 use Rattle.laws.proofs.Settle.{relax-lower, relax-pass}
 use Rattle.terrain.specs.Cells.{levelsOf}
 use Rattle.terrain.specs.Filled.{filling}
 use Rattle.terrain.specs.Flood.{offerAt}
+use Rattle.terrain.proofs.Flooding.{ground-read}
 use borrow.Author.Needs.{needs}
 use Rattle.terrain.proofs.filled.lower.Statement.{statement}
 use Rattle.terrain.proofs.filled.lower.Tie as tie
 
 ground-level-requires : tie.Need-ground-level-requires
-ground-level-requires c κs = let s = c .before in (omega (arith, s .pre .0 .long), s .pre .0 .fine (s .args .x) (omega (arith, s .pre .0 .long)))
+ground-level-requires c κs = let s = c .before in ground-read (s .pre .0) (s .args .x) (s .pre .2)
 
 lowest-near-requires : tie.Need-lowest-near-requires
 lowest-near-requires c κs = search needs

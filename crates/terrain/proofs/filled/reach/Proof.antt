@@ -4,7 +4,7 @@ use Prim.Native.Nat.{max}
 use native.Mathlib.Omega.{arith}
 use lib.ListN.{getD, set}
 use Rattle.terrain.specs.Cells.{levelsOf}
-use Rattle.terrain.proofs.Flooding.{flooding-in, reached-before, reached-now}
+use Rattle.terrain.proofs.Flooding.{ground-read, flooding-in, reached-before, reached-now}
 use borrow.Author.Needs.{needs}
 use Rattle.terrain.proofs.filled.reach.Statement.{statement}
 use Rattle.terrain.proofs.filled.reach.Tie as tie
@@ -21,9 +21,7 @@ returns c = let s = c .before .before .before .before .before in reached-before 
 ground-level-requires : tie.Need-ground-level-requires
 ground-level-requires c κs =
     let s = c .before .before .before .before .before in
-    let f = s .pre .2 in
-    let h = flooding-in f (s .args .y) (omega arith) in
-    (omega (arith, f .ready .long), f .ready .fine (s .args .y) (omega (arith, f .ready .long)))
+    ground-read (s .pre .2 .ready) (s .args .y) (flooding-in (s .pre .2) (s .args .y) (omega arith))
 
 larger-requires : tie.Need-larger-requires
 larger-requires c κs = search needs

@@ -9,7 +9,6 @@ use Rattle.laws.proofs.Settle.{settling-less, settling-more}
 use Rattle.terrain.specs.Cells.{levelsOf}
 use Rattle.terrain.specs.Filled.{filling, Stands}
 use Rattle.terrain.proofs.Filling.{filling-rule, filled-is}
-use borrow.Author.Needs.{needs}
 use Rattle.terrain.proofs.filled.settle.Statement.{statement}
 use Rattle.terrain.proofs.filled.settle.Tie as tie
 
@@ -31,25 +30,22 @@ sweep-requires c κs = let s = c .before .before .before .before .before .before
 loop-less : tie.Need-loop-less Inv-loop μ-loop
 loop-less c =
     let s = c .before .before .before .before .before .before .before .before .before in
-    let p = c .before .before .before .before .before .loop in
     let r = c .before .before .sweep in
-    settling-less (filling (s .args .rows) (s .args .columns) (levelsOf (s .args .ground .now))) (Stands (s .args .rows) (s .args .columns) (s .args .ground .now)) (filling-rule (s .args .rows) (s .args .columns) (s .args .ground .now) (s .pre .0)) (p .level) _ (r .result) (p .again) (c .before .before .before .before .loop-test .taken) (r .ensures)
+    settling-less _ _ (filling-rule _ _ _ (s .pre .0)) _ _ (r .result) (c .before .before .before .before .before .loop .again) (c .before .before .before .before .loop-test .taken) (r .ensures)
 
 loop-again : tie.Need-loop-again Inv-loop μ-loop
 loop-again c =
     let s = c .before .before .before .before .before .before .before .before .before in
-    let p = c .before .before .before .before .before .loop in
     let r = c .before .before .sweep in
-    settling-more (filling (s .args .rows) (s .args .columns) (levelsOf (s .args .ground .now))) (Stands (s .args .rows) (s .args .columns) (s .args .ground .now)) (filling-rule (s .args .rows) (s .args .columns) (s .args .ground .now) (s .pre .0)) (p .level) _ (r .result) (p .inv .kept) (r .ensures)
+    settling-more _ _ (filling-rule _ _ _ (s .pre .0)) _ _ (r .result) (c .before .before .before .before .before .loop .inv .kept) (r .ensures)
 
 same-length : tie.Need-same-length Inv-loop μ-loop
 same-length c = c .before .loop .inv .kept .long ∙ sym (c .before .before .before .before .before .pre .1 .long)
 
 returns : tie.Need-returns Inv-loop μ-loop
 returns c =
-    let s = c .before .before .before .before .before in
     let p = c .before .loop in
-    filled-is (s .args .rows) (s .args .columns) (s .args .ground .now) (s .pre .0) (p .level) (p .inv .kept) (p .inv .still (c .loop-test .left))
+    filled-is _ _ _ (c .before .before .before .before .before .pre .0) (p .level) (p .inv .kept) (p .inv .still (c .loop-test .left))
 
 pub settle-spec : {M : Type 1} → statement M
 settle-spec =

@@ -1,13 +1,14 @@
 -- `terrain::filled::start` meets its contract. Assumes nothing.
-use mathlib.Core.Path.{_≡_, refl}
+use mathlib.Core.Path.{_≡_, refl, _∙_}
 use mathlib.Core.Bool.{cond}
-use Prim.Native.Nat.{ℕ, _-_, _≤_}
+use Prim.Native.Nat.{ℕ, _-_, _*_, _≤_}
 use native.Mathlib.Omega.{arith}
 use lib.ListN.{length, length-set}
 use Rattle.laws.specs.Lists.{Agrees}
 use Rattle.laws.proofs.Lists.{agrees-none, agrees-more, agrees-tab}
 use Rattle.terrain.specs.Cells.{levelsOf, validAt}
 use Rattle.terrain.specs.Filled.{top}
+use Rattle.terrain.proofs.Flooding.{ground-read}
 use borrow.Author.Needs.{needs}
 use Rattle.terrain.proofs.filled.start.Statement.{statement}
 use Rattle.terrain.proofs.filled.start.Tie as tie
@@ -22,7 +23,7 @@ loop-holds : tie.Need-loop-holds Inv-loop μ-loop
 loop-holds c = (refl, omega arith, agrees-none (λ (i : ℕ). cond (validAt (levelsOf (c .before .args .ground .now)) i) top 0) 0 (c .before .args .level .now))
 
 ground-level-requires : tie.Need-ground-level-requires Inv-loop μ-loop
-ground-level-requires c κs = let s = c .before .before .before in (omega (arith, s .pre .2 .long, s .pre .3), s .pre .2 .fine (c .before .loop .x) (omega (arith, s .pre .2 .long, s .pre .3)))
+ground-level-requires c κs = let s = c .before .before .before in ground-read (s .pre .2) (c .before .loop .x) (omega (arith, s .pre .3))
 
 start-level-requires : tie.Need-start-level-requires Inv-loop μ-loop
 start-level-requires c κs = search needs
@@ -51,7 +52,7 @@ same-length c = c .before .loop .inv .0
 returns : tie.Need-returns Inv-loop μ-loop
 returns c =
     let p = c .before .loop in
-    agrees-tab (λ (i : ℕ). cond (validAt (levelsOf (c .before .before .before .args .ground .now)) i) top 0) 0 (p .level) _ (p .inv .0) (λ j h. p .inv .2 j (omega arith))
+    λ rows columns e. agrees-tab (λ (i : ℕ). cond (validAt (levelsOf (c .before .before .before .args .ground .now)) i) top 0) 0 (p .level) (rows * columns) (p .inv .0 ∙ e) (λ j h. p .inv .2 j (omega arith))
 
 pub start-spec : {M : Type 1} → statement M
 start-spec =

@@ -1,7 +1,6 @@
 -- `terrain::filled::start_level` meets its contract. Assumes nothing.
 use native.Mathlib.Omega.{arith}
 use borrow.Author.Tests.{lt-ltb, le-ltb}
-use borrow.Author.Needs.{needs}
 use Rattle.terrain.proofs.filled.start_level.Statement.{statement}
 use Rattle.terrain.proofs.filled.start_level.Tie as tie
 

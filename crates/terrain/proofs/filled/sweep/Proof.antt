@@ -4,27 +4,27 @@ use mathlib.Core.Logic.{⊎-elim}
 use Prim.Native.Nat.{_-_, _≤_}
 use native.Mathlib.Omega.{arith}
 use lib.ListN.{length}
-use Rattle.laws.specs.Settle.{Sweeping}
 use Rattle.laws.proofs.Tests.{or-set, or-keep}
 use Rattle.laws.proofs.Settle.{sweep-none, sweep-more}
-use Rattle.terrain.specs.Cells.{levelsOf}
-use Rattle.terrain.specs.Filled.{filling, Stands}
+use Rattle.terrain.specs.Flood.{FillSweeping}
 use Rattle.terrain.proofs.Filling.{filling-rule}
-use borrow.Author.Needs.{needs}
 use Rattle.terrain.proofs.filled.sweep.Statement.{statement}
 use Rattle.terrain.proofs.filled.sweep.Tie as tie
 
 abbrev Inv-loop : tie.InvT-loop
-Inv-loop rows columns ground level₀ lowered₀ x₀ level lowered x = Sweeping (filling rows columns (levelsOf ground)) (Stands rows columns ground) level₀ level x lowered × (x ≤ length level₀)
+Inv-loop rows columns ground level₀ lowered₀ x₀ level lowered x = FillSweeping rows columns ground level₀ level x lowered × (x ≤ length level₀)
 
 abbrev μ-loop : tie.MeasureT-loop
 μ-loop rows columns ground level₀ lowered₀ x₀ level lowered x = length level₀ - x
 
 loop-holds : tie.Need-loop-holds Inv-loop μ-loop
-loop-holds c = let s = c .before in (sweep-none (filling (s .args .rows) (s .args .columns) (levelsOf (s .args .ground .now))) (Stands (s .args .rows) (s .args .columns) (s .args .ground .now)) (filling-rule (s .args .rows) (s .args .columns) (s .args .ground .now) (s .pre .0)) (s .args .level .now), omega arith)
+loop-holds c = let s = c .before in (sweep-none _ _ (filling-rule _ _ _ (s .pre .0)) _, omega arith)
 
 lower-requires : tie.Need-lower-requires Inv-loop μ-loop
-lower-requires c κs = let s = c .before .before .before .before in let p = c .before .before .loop in (s .pre .0, omega (arith, p .inv .0 .eased .long, s .pre .1), omega (arith, p .inv .0 .eased .long, s .pre .1))
+lower-requires c κs =
+    let s = c .before .before .before .before in
+    let p = c .before .before .loop in
+    (s .pre .0, omega (arith, p .inv .0 .eased .long, s .pre .1), omega (arith, p .inv .0 .eased .long, s .pre .1))
 
 add-x : tie.Need-add-x Inv-loop μ-loop
 add-x c = let s = c .before .before .before .before .before .before .before .before in omega (arith, c .before .before .before .before .before .before .loop .inv .0 .eased .long, s .pre .1)
@@ -37,7 +37,7 @@ loop-again c =
     let s = c .before .before .before .before .before .before .before .before in
     let p = c .before .before .before .before .before .before .loop in
     let r = c .before .before .before .lower in (
-      sweep-more (filling (s .args .rows) (s .args .columns) (levelsOf (s .args .ground .now))) (Stands (s .args .rows) (s .args .columns) (s .args .ground .now)) (filling-rule (s .args .rows) (s .args .columns) (s .args .ground .now) (s .pre .0)) (s .args .level .now) (p .level) (p .x) (p .lowered) (c .if1 .lowered) (r .result) _ (p .inv .0) (r .ensures .told) (r .ensures .is)
+      sweep-more _ _ (filling-rule _ _ _ (s .pre .0)) _ _ (p .x) (p .lowered) (c .if1 .lowered) (r .result) _ (p .inv .0) (r .ensures .told) (r .ensures .is)
           (⊎-elim (λ w. or-set (p .lowered) (c .if1 .lowered) (r .result) (w .1) (w .0 .taken)) (λ w. or-keep (p .lowered) (c .if1 .lowered) (r .result) (w .1) (w .0 .left)) (c .if1 .came)),
       omega (arith, p .inv .0 .eased .long),
     )

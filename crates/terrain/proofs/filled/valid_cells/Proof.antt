@@ -1,12 +1,12 @@
 -- `terrain::filled::valid_cells` meets its contract. Assumes nothing.
-use mathlib.Core.Path.{_≡_, sym, ap, _∙_}
+use mathlib.Core.Path.{_≡_, sym, _∙_}
 use Prim.Native.Nat.{ℕ, _-_, _≤_}
 use native.Mathlib.Omega.{arith}
 use lib.ListN.{length, getD}
 use Rattle.laws.specs.Sums.{sumTo, when}
 use Rattle.laws.proofs.Sums.{sum-none, sum-more}
 use Rattle.terrain.specs.Cells.{validAt}
-use Rattle.terrain.proofs.Flooding.{valid-one}
+use Rattle.terrain.proofs.Flooding.{valid-one, valids-counted}
 use borrow.Author.Needs.{needs}
 use Rattle.terrain.proofs.filled.valid_cells.Statement.{statement}
 use Rattle.terrain.proofs.filled.valid_cells.Tie as tie
@@ -48,7 +48,7 @@ returns : tie.Need-returns Inv-loop μ-loop
 returns c =
     let p = c .before .loop in
     let e : p .x ≡ length (c .before .before .before .args .level .now) = omega arith in
-    p .inv .2 ∙ ap (λ (n : ℕ). sumTo n (λ (i : ℕ). when (validAt (c .before .before .before .args .level .now) i) 1)) e
+    λ rows columns q. p .inv .2 ∙ valids-counted rows columns (c .before .before .before .args .level .now) (p .x) (e ∙ q)
 
 pub valid-cells-spec : {M : Type 1} → statement M
 valid-cells-spec =

@@ -1,25 +1,27 @@
 -- `terrain::trail::loose_cells` meets its contract. Assumes nothing.
 use mathlib.Core.Path.{_≡_}
 use mathlib.Core.Bool.{not}
-use Prim.Native.Nat.{_+_, _*_, _≤_, _-_}
+use Prim.Native.Nat.{_*_, _≤_, _-_}
 use native.Mathlib.Omega.{arith}
 use lib.ListN.{getD}
 use lib.Dec.{eqb}
 use borrow.Author.Needs.{needs}
+use Rattle.laws.specs.Search.{Failing}
 use Rattle.laws.proofs.Sums.{when-under}
-use Rattle.terrain.specs.Directed.{Compared}
-use Rattle.terrain.proofs.Counting.{compared-none, compared-more, compared-join}
+use Rattle.laws.proofs.Search.{failing-none, failing-join}
+use Rattle.terrain.specs.Directed.{Counted}
+use Rattle.terrain.proofs.Counting.{counted-one}
 use Rattle.terrain.proofs.trail.loose_cells.Statement.{statement}
 use Rattle.terrain.proofs.trail.loose_cells.Tie as tie
 
 abbrev Inv-loop : tie.InvT-loop
-Inv-loop rows columns direction count sum₀ x₀ sum x = Compared rows columns direction count 0 x sum × (x ≤ rows * columns)
+Inv-loop rows columns direction count sum₀ x₀ sum x = (x ≤ rows * columns) × Failing (Counted rows columns direction count) 0 x sum
 
 abbrev μ-loop : tie.MeasureT-loop
 μ-loop rows columns direction count sum₀ x₀ sum x = rows * columns - x
 
 loop-holds : tie.Need-loop-holds Inv-loop μ-loop
-loop-holds c = let s = c .before .before in (compared-none (s .args .rows) (s .args .columns) (s .args .direction .now) (s .pre .0) (s .args .count .now) 0, omega arith)
+loop-holds c = let s = c .before .before in (omega arith, failing-none (Counted (s .args .rows) (s .args .columns) (s .args .direction .now) (s .args .count .now)) 0)
 
 run-end-requires : tie.Need-run-end-requires Inv-loop μ-loop
 run-end-requires c κs = (c .before .before .before .before .pre .0 .sized, omega arith)
@@ -56,16 +58,11 @@ loop-less c = omega arith
 loop-again : tie.Need-loop-again Inv-loop μ-loop
 loop-again c =
     let s = c .before .before .before .before .before .before .before .before .before in
-    let p = c .before .before .before .before .before .before .loop in
-    let run = c .before .before .before .loose-run in
-    let end = c .before .before .before .before .run-end in (
-      compared-more (s .args .rows) (s .args .columns) (s .args .direction .now) (s .pre .0) (s .args .count .now) 0 (end .result) (p .sum + run .result) (c .loose .result) (c .before .gathered-near .result)
-          (compared-join (s .args .rows) (s .args .columns) (s .args .direction .now) (s .pre .0) (s .args .count .now) 0 (p .x) (end .result) (p .sum) (run .result) (p .inv .0) (run .ensures)) (c .before .gathered-near .ensures) (c .loose .ensures),
-      omega arith,
-    )
+    let end = c .before .before .before .before .run-end in
+    (omega arith, failing-join (failing-join (c .before .before .before .before .before .before .loop .inv .1) (c .before .before .before .loose-run .ensures)) (counted-one (s .args .rows) (s .args .columns) (s .args .direction .now) (s .pre .0) (s .args .count .now) (end .result) (c .before .gathered-near .result) (c .loose .result) (c .before .gathered-near .ensures) (c .loose .ensures)))
 
 returns : tie.Need-returns Inv-loop μ-loop
-returns c = let p = c .before .loop in let s = c .before .before .before .before in let e : p .x ≡ s .args .rows * s .args .columns = omega arith in rw e at (p .inv .0)
+returns c = let p = c .before .loop in let s = c .before .before .before .before in let e : p .x ≡ s .args .rows * s .args .columns = omega arith in rw e at (p .inv .1)
 
 pub loose-cells-spec : {M : Type 1} → statement M
 loose-cells-spec =

@@ -1,0 +1,63 @@
+-- The parts of a survey: what each assumes of the grids that those before it leave, and that together they give what is promised. Assumes nothing.
+use mathlib.Core.Path.{_≡_, sym, ap, ap₂, subst, _∙_}
+use mathlib.Core.List.{List, map}
+use mathlib.Core.Bool.{Bool}
+use Prim.Native.Nat.{ℕ, _*_, _<_}
+use native.Mathlib.Omega.{arith}
+use lib.ListN.{getD, replicate}
+use lib.IntN.{ℤ}
+use Rattle.laws.specs.Sums.{when}
+use Rattle.laws.proofs.Sums.{sum-ext}
+use Rattle.terrain.specs.Cells.{heightOf, levelsOf, validAt, Ready}
+use Rattle.terrain.specs.Levels.{Levels}
+use Rattle.terrain.specs.Filled.{top, filledLevels, filledOf}
+use Rattle.terrain.specs.Direction.{directionsOf}
+use Rattle.terrain.specs.Trail.{validsOf, countsOf, longestOf}
+use Rattle.terrain.specs.Directed.{Directed}
+use Rattle.terrain.specs.Relief.{Relief}
+use Rattle.terrain.specs.Answers.{Grids, acceptance, lent, accepted, directionOf, countOf, validOf, longestTrail, answerOf, gridsOf}
+use Rattle.terrain.proofs.Interior.{ready-sized}
+use Rattle.terrain.proofs.Filling.{filled-long, filled-small, filled-valid}
+use Rattle.terrain.proofs.Trails.{rank-falls}
+use Rattle.terrain.proofs.Drainage.{potential, falls, stops-zero}
+
+module _ (rows cols : ℕ) (ground : List ℤ) (ready : Ready rows cols ground) where
+  abbrev lv : List ℕ
+  lv = filledLevels rows cols ground
+
+  -- ---- filled levels
+
+  pub relief-levels : {level : List ℕ} → level ≡ filledLevels rows cols ground → Levels rows cols level
+  relief-levels l =
+      subst (Levels rows cols) (sym l) (record { sized = ready-sized ready; long = filled-long rows cols ground ready; capped = (λ x. omega (arith, filled-small rows cols ground ready x)) })
+
+  pub relief-small : {level : List ℕ} → level ≡ filledLevels rows cols ground → (x : ℕ) → getD level x 0 < top
+  relief-small l x = omega (arith, ap (λ (m : List ℕ). getD m x 0) l, filled-small rows cols ground ready x)
+
+  -- the valid cells of the filled levels are those of the ground
+  valids-filled : validsOf rows cols (filledLevels rows cols ground) ≡ validOf rows cols ground
+  unfolding validOf validsOf
+  valids-filled = sum-ext (rows * cols) (λ x. when (validAt lv x) 1) (λ x. when (validAt (levelsOf ground) x) 1) (λ x h. ap (λ (b : Bool). when b 1) (filled-valid rows cols ground ready x))
+
+  pub relief : {level direction : List ℕ} {filled : List ℤ} {valid : ℕ} → level ≡ filledLevels rows cols ground → filled ≡ map heightOf level → direction ≡ directionsOf rows cols level → valid ≡ validsOf rows cols level → Relief rows cols ground filled direction valid
+  unfolding filledOf directionOf
+  relief l f d v = record { filled-is = f ∙ ap (map heightOf) l; direction-is = d ∙ ap (directionsOf rows cols) l; valid-is = v ∙ ap (validsOf rows cols) l ∙ valids-filled }
+
+  -- ---- directions
+
+  pub relief-directed : {direction : List ℕ} → direction ≡ directionOf rows cols ground → Directed rows cols direction
+  unfolding directionOf
+  relief-directed d =
+      let f = rank-falls rows cols (directionsOf rows cols lv) (potential rows cols ground ready) (falls rows cols ground ready) in
+      subst (Directed rows cols) (sym d) (record { sized = ready-sized ready; long = f .long; stops = stops-zero rows cols ground ready; stays = f .stays; less = f .less })
+
+-- ---- the answer and the grids
+
+module _ {rows cols : ℕ} {ground filled : List ℤ} {direction : List ℕ} {valid : ℕ} (r : Relief rows cols ground filled direction valid) where
+  pub survey-answer : {longest : ℕ} → longest ≡ longestOf rows cols direction → acceptance valid longest ≡ answerOf rows cols ground accepted
+  unfolding answerOf longestTrail
+  survey-answer l = ap₂ acceptance (r .valid-is) (l ∙ ap (longestOf rows cols) (r .direction-is))
+
+  pub survey-grids : (g : Grids) {count workspace : List ℕ} → count ≡ countsOf rows cols direction → workspace ≡ replicate (rows * cols) 0 → lent filled direction count workspace ≡ gridsOf rows cols ground g accepted
+  unfolding gridsOf countOf
+  survey-grids g c w = cc
