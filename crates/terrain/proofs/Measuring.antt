@@ -3,11 +3,12 @@ use mathlib.Core.Path.{_≡_, refl, sym, ap, ap₂, subst, _∙_}
 use mathlib.Core.List.{List}
 use mathlib.Core.Bool.{Bool, true, false, cond, not, _&&_, true≢false}
 use mathlib.Core.Logic.{⊎-elim}
-use Prim.Native.Nat.{ℕ, zero, suc, _+_, _-_, _*_, _/_, _≤_, _<_, min, max}
+use Prim.Native.Nat.{ℕ, zero, suc, _+_, _-_, _*_, _/_, _%_, _≤_, _<_, min, max}
 use native.Mathlib.Nat.{mul-le-mul}
 use native.Mathlib.Omega.{arith}
 use native.Mathlib.Decide.{decLt, ℕ-discrete}
-use lib.ListN.{length, getD, List·getD-eq-default}
+use lib.ListN.{length, getD, length-map, List·getD-eq-default}
+use lib.Seq.{ext-getD}
 use lib.IntN.{ℤ, pos, negsuc, natAbs, _-ℤ_}
 use lib.Signed.{_≤ℤ_, leZ, nonNeg}
 use lib.Count.{trailingZeros, trailing-of-zero}
@@ -19,17 +20,22 @@ use borrow.Author.Tests.{lt-ltb, le-ltb, leb-false, eqb-true, eq-eqb, ne-eqb}
 use Rattle.laws.specs.First.{firstOf, someOf}
 use Rattle.laws.specs.Sums.{greatestTo, when}
 use Rattle.laws.proofs.Tests.{two}
+use Rattle.laws.proofs.Lists.{getD-any}
 use Rattle.laws.proofs.First.{some-is, none-at}
 use Rattle.laws.proofs.Sums.{when-yes, when-no, when-ext, greatest-none, greatest-more, greatest-ge, greatest-le, greatest-ext}
 use Rattle.terrain.specs.declared.settings.Rules.{Rules}
-use Rattle.terrain.specs.Quantities.{Fine}
-use Rattle.terrain.specs.Cells.{neighbour, sideOf, cardinal, levelOf, levelsOf}
+use Rattle.terrain.specs.Quantities.{noData, Fine}
+use Rattle.terrain.specs.Cells.{neighbour, codeOf, sideOf, cardinal, levelOf, heightOf, levelsOf, Ready}
+use Rattle.terrain.specs.Surfaces.{greatest}
+use Rattle.terrain.specs.Filled.{filledLevels, filledOf}
 use Rattle.terrain.specs.Direction.{steepOf}
 use Rattle.terrain.specs.Trail.{mappedAt, flowsAt, nextAt, stepsIn, intoAt}
 use Rattle.terrain.specs.Directed.{Directed, backOf}
-use Rattle.terrain.specs.Length.{isChannel, largestOf, cutoffFor, isCut, startLength, stepOver, amountOf, steepnessAt, channelAt, cutoffAt, bringsAt, lengthFrom}
+use Rattle.terrain.specs.Length.{isChannel, largestOf, cutoffFor, isCut, startLength, stepOver, amountOf, steepnessAt, channelAt, cutoffAt, bringsAt, lengthFrom, lengthsOf, lengthOf}
+use Rattle.terrain.specs.Answers.{directionOf, countOf}
 use Rattle.terrain.specs.Measure.{steepest, AllFine, Charted, Bounded, cappedAt, Meeting, inflowOf, gatheredOf, settledOf}
-use Rattle.terrain.proofs.Neighbours.{each-side, across, across-small, side-none, side-leaves, level-fine, level-le, level-read, fine-fits}
+use Rattle.terrain.proofs.Neighbours.{each-side, across, across-small, side-none, side-leaves, level-fine, level-le, level-at, level-read, fine-fits, height-level, height-none}
+use Rattle.terrain.proofs.Filling.{greatest-fine, filled-long, filled-clear, filled-reached, filled-at, level-filled}
 use Rattle.terrain.proofs.Trails.{is-mapped, mapped-in, flows-mapped, steps-le, into-flows}
 use Rattle.terrain.proofs.Counting.{directed-falls, code-read, bit-of, into-read}
 use Rattle.terrain.proofs.Following.{most-less}
@@ -107,6 +113,10 @@ steep-small k d h = go (cardinal k)
 
 back-some : (k : ℕ) → k < 8 → 0 < backOf k
 back-some = each-side (λ k. 0 < backOf k) (omega arith) (omega arith) (omega arith) (omega arith) (omega arith) (omega arith) (omega arith) (omega arith)
+
+-- the code across the side k
+pub back-code : (k : ℕ) → k < 8 → codeOf ((k + 4) % 8) ≡ backOf k
+back-code = each-side (λ k. codeOf ((k + 4) % 8) ≡ backOf k) refl refl refl refl refl refl refl refl
 
 -- ---- what one inflow brings, test by test as the code makes it
 
@@ -358,3 +368,41 @@ module _ (rows cols side : ℕ) (rules : Rules) (lv dir count : List ℕ) (d : D
       flip (eqb (getD dir x 0) 255) (cond b 0 (cond (ltb gathered 1) startLength (gathered - 1)))
       ∙ ap₂ (λ (t : Bool) (v : ℕ). cond t v 0) (sym mapped-read) (ap₂ (λ (t : Bool) (v : ℕ). cond t 0 v) e settle)
       ∙ sym (from-is rows cols side rules lv dir count d (cappedAt l) x)
+
+-- ---- a ground's own filled heights, directions and counts
+
+module _ (rows cols : ℕ) (ground : List ℤ) (ready : Ready rows cols ground) where
+  -- a filled height is NoData, or the greatest height of a run
+  height-fine : (x : ℕ) → Fine (heightOf (getD (filledLevels rows cols ground) x 0))
+  height-fine x =
+      elim (decLt 0 (getD (levelsOf ground) x 0)) [
+        | yes v ↦
+            let r = filled-reached rows cols ground ready x v in
+            let fine = greatest-fine rows cols ground ready (r .0) in
+            subst Fine (sym (height-level (greatest rows cols ground (r .0)) fine) ∙ ap heightOf (r .1)) fine
+        | no f ↦ subst Fine (sym (ap heightOf (filled-clear rows cols ground ready x (omega arith)) ∙ height-none)) (omega arith)
+      ]
+
+  pub filled-fine : AllFine (filledOf rows cols ground)
+  filled-fine x h = subst Fine (sym (getD-any (filledOf rows cols ground) x (pos 0) noData h ∙ filled-at rows cols ground ready x)) (height-fine x)
+
+  filled-size : length (filledOf rows cols ground) ≡ rows * cols
+  unfolding filledOf
+  filled-size = length-map (filledLevels rows cols ground) heightOf ∙ filled-long rows cols ground ready
+
+  pub levels-filled : levelsOf (filledOf rows cols ground) ≡ filledLevels rows cols ground
+  unfolding levelsOf
+  levels-filled =
+      ext-getD 0 (levelsOf (filledOf rows cols ground)) (filledLevels rows cols ground)
+      (length-map (filledOf rows cols ground) levelOf ∙ filled-size ∙ sym (filled-long rows cols ground ready)) (λ x h. level-at (filledOf rows cols ground) x ∙ level-filled rows cols ground ready x)
+
+  pub filled-charted : {filled : List ℤ} {dir : List ℕ} → filled ≡ filledOf rows cols ground → Directed rows cols dir → Charted rows cols filled dir
+  filled-charted e d = record { directed = d; filled-long = ap length e ∙ filled-size; fine = subst AllFine (sym e) filled-fine }
+
+  length-is : (side : ℕ) (rules : Rules) → lengthOf rows cols side rules ground ≡ lengthsOf rows cols side rules (filledLevels rows cols ground) (directionOf rows cols ground) (countOf rows cols ground)
+  unfolding lengthOf directionOf countOf
+  length-is side rules = refl
+
+  -- what is measured on them are the lengths of the map
+  pub measured-is : {filled : List ℤ} {dir count : List ℕ} (side : ℕ) (rules : Rules) → filled ≡ filledOf rows cols ground → dir ≡ directionOf rows cols ground → count ≡ countOf rows cols ground → lengthsOf rows cols side rules (levelsOf filled) dir count ≡ lengthOf rows cols side rules ground
+  measured-is side rules e d c = rw (e, d, c, levels-filled) (sym (length-is side rules))

@@ -9,19 +9,18 @@ ghost use Rattle.laws.specs.Raise.{raisedOf, Under, Sweeping};
 ghost use Rattle.terrain.specs.Cells.{sideOf, levelsOf};
 ghost use Rattle.terrain.specs.Direction.{steepOf};
 ghost use Rattle.terrain.specs.Inside.{Inside, RunsTo};
-ghost use Rattle.terrain.specs.Directed.{Directed, backOf};
+ghost use Rattle.terrain.specs.Directed.{Directed};
 ghost use Rattle.terrain.specs.Length.{isChannel, cutoffFor, isCut, stepOver, amountOf, largestOf, steepnessAt, lengthsOf};
 ghost use Rattle.terrain.specs.Measure.{longest, steepest, AllFine, Charted, Bounded, Working, Meeting, inflowOf, gatheredOf, settledOf, lengthOffer, SettledIn};
 use crate::cells::beside;
 use crate::cells::larger;
 use crate::cells::near;
 use crate::cells::run_end;
+use crate::direction::NO_CODE;
+use crate::direction::code_of;
 use crate::settings::Rules;
 use crate::settings::Threshold;
 use std::num::wrapping_sub_u32;
-
-// The code of a NoData cell.
-const NO_CODE: u8 = 255;
 
 // A cell that has handed its length on.
 const TAKEN: u32 = 4294967295;
@@ -144,23 +143,6 @@ fn longer(a: u64, b: u64) -> u64
     if a < b { b } else { a }
 }
 
-// The code by which a neighbour at side k points back at the cell.
-fn back_of(k: usize) -> u8
-    requires { ⌜ k < 8 ⌝ }
-    ensures { λ r. ⌜ r ≡ backOf k ⌝ }
-{
-    match k {
-        0 => 16,
-        1 => 32,
-        2 => 64,
-        3 => 128,
-        4 => 1,
-        5 => 2,
-        6 => 4,
-        _ => 8,
-    }
-}
-
 // What is gathered at the cell x with its neighbour y at side k: one more than the greatest amount brought, 0 for none.
 fn gather(
     filled: &[i32],
@@ -176,7 +158,7 @@ fn gather(
     requires { ⌜ Meeting (now filled) (now direction) (now lengths) q x y k ⌝ }
     ensures { λ r. ⌜ r ≡ max gathered (inflowOf (levelsOf (now (filled .entry))) (now (direction .entry)) (now (lengths .entry)) n q x y k) ⌝ }
 {
-    if direction[y] != back_of(k) {
+    if direction[y] != code_of((k + 4) % 8) {
         return gathered;
     }
     let p = steep_of(k, drop_of(filled, y, x));

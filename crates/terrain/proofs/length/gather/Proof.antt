@@ -8,7 +8,7 @@ use Rattle.terrain.specs.Direction.{steepOf}
 use Rattle.terrain.specs.Length.{stepOver, amountOf}
 use Rattle.terrain.specs.Measure.{longest, cappedAt}
 use Rattle.terrain.proofs.Lengths.{step-le, amount-le}
-use Rattle.terrain.proofs.Measuring.{drop-small, steep-small, inflow-none, inflow-some}
+use Rattle.terrain.proofs.Measuring.{drop-small, steep-small, back-code, inflow-none, inflow-some}
 use borrow.Author.Needs.{needs}
 use Rattle.terrain.proofs.length.gather.Statement.{statement}
 use Rattle.terrain.proofs.length.gather.Tie as tie
@@ -16,13 +16,16 @@ use Rattle.terrain.proofs.length.gather.Tie as tie
 shared-slice-read-if1 : tie.Need-shared-slice-read-if1
 shared-slice-read-if1 c = search needs
 
-back-of-requires : tie.Need-back-of-requires
-back-of-requires c κs = search needs
+add-code-of : tie.Need-add-code-of
+add-code-of c = search needs
+
+code-of-requires : tie.Need-code-of-requires
+code-of-requires c κs = search needs
 
 returns : tie.Need-returns
 returns c =
     let s = c .before .before .before .before .before in
-    omega (arith, inflow-none (levelsOf (s .args .filled .now)) (s .args .direction .now) (s .args .lengths .now) (s .args .n) (s .args .q) (s .args .x) (s .args .y) (s .args .k) (λ e. c .if1 .taken (e ∙ sym (c .before .back-of .ensures))))
+    omega (arith, inflow-none (levelsOf (s .args .filled .now)) (s .args .direction .now) (s .args .lengths .now) (s .args .n) (s .args .q) (s .args .x) (s .args .y) (s .args .k) (λ e. c .if1 .taken (e ∙ sym (c .before .code-of .ensures ∙ back-code (s .args .k) (s .pre .side-small)))))
 
 drop-of-requires : tie.Need-drop-of-requires
 drop-of-requires c κs = search needs
@@ -53,7 +56,9 @@ brought-requires c κs =
 add-longer : tie.Need-add-longer
 add-longer c =
     let s = c .before .before .before .before .before .before .before .before .before .before .before in
-    omega (arith, c .brought .ensures, amount-le (s .args .n) (s .args .q) (c .before .before .before .before .steep-of .result) (c .before .before .before .step-over .result) (c .before .capped .result) longest (omega (arith, c .before .before .before .step-over .ensures, step-le (s .args .k))) (omega arith) (omega (arith, c .before .capped .ensures)))
+    let t = c .before .before .before .step-over in
+    let l = c .before .capped in
+    omega (arith, c .brought .ensures, amount-le (s .args .n) (s .args .q) (c .before .before .before .before .steep-of .result) (t .result) (l .result) longest (omega (arith, t .ensures, step-le (s .args .k))) (omega arith) (omega (arith, l .ensures)))
 
 longer-requires : tie.Need-longer-requires
 longer-requires c κs = search needs
@@ -61,15 +66,17 @@ longer-requires c κs = search needs
 returns-2 : tie.Need-returns-2
 returns-2 c =
     let s = c .before .before .before .before .before .before .before .before .before .before .before .before in
-    let e : c .before .brought .result + 1 ≡ amountOf (s .args .n) (s .args .q) (steepOf (s .args .k) (getD (levelsOf (s .args .filled .now)) (s .args .y) 0 - getD (levelsOf (s .args .filled .now)) (s .args .x) 0)) (stepOver (s .args .k)) (cappedAt (s .args .lengths .now) (s .args .y)) + 1 = cc in
-    omega (arith, c .longer .ensures, e, inflow-some (levelsOf (s .args .filled .now)) (s .args .direction .now) (s .args .lengths .now) (s .args .n) (s .args .q) (s .args .x) (s .args .y) (s .args .k) (c .before .before .before .before .before .before .before .if1 .left ∙ c .before .before .before .before .before .before .before .before .back-of .ensures))
+    let lv = levelsOf (s .args .filled .now) in
+    let e : c .before .brought .result + 1 ≡ amountOf (s .args .n) (s .args .q) (steepOf (s .args .k) (getD lv (s .args .y) 0 - getD lv (s .args .x) 0)) (stepOver (s .args .k)) (cappedAt (s .args .lengths .now) (s .args .y)) + 1 = cc in
+    omega (arith, c .longer .ensures, e, inflow-some (levelsOf (s .args .filled .now)) (s .args .direction .now) (s .args .lengths .now) (s .args .n) (s .args .q) (s .args .x) (s .args .y) (s .args .k) (c .before .before .before .before .before .before .before .if1 .left ∙ c .before .before .before .before .before .before .before .before .code-of .ensures ∙ back-code (s .args .k) (s .pre .side-small)))
 
 pub gather-spec : {M : Type 1} → statement M
 gather-spec =
     tie.close
     (tie.spec
     shared-slice-read-if1
-    back-of-requires
+    add-code-of
+    code-of-requires
     returns
     drop-of-requires
     steep-of-requires
