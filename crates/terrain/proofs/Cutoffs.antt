@@ -5,14 +5,13 @@ use mathlib.Core.Logic.{⊎-elim}
 use mathlib.Core.Bool.{Bool, true, false, Bool·beq, _&&_, _||_}
 use Prim.Native.Nat.{ℕ, zero, suc, _+_, _-_, _*_, _/_, _^_, _≤_, _<_}
 use native.Mathlib.Nat.{lt-irrefl, eq-or-lt-of-le, mul-assoc, mul-comm, mul-lt-mul-of-pos-right, lt-trans}
-use native.Mathlib.Decide.{decLt}
 use native.Mathlib.Omega.{arith}
-use borrow.Author.Tests.{le-leb, lt-leb}
+use native.Mathlib.Decide.{decLt}
 use lib.Dec.{T, ltb, eqb, eqb→eq, ltb→lt}
-use lib.IntN.{pos}
-use lib.Ieee.{Float, nan, inf, fin, up, down, eq, div, ofInt, ofBits, binary64}
+use lib.Ieee.{Float, nan, inf, fin, up, down, eq, ofBits, binary64}
 use lib.Ieee.Fits.{and-l, and-r}
 use lib.Ieee.Positive.{num, den, den-pos}
+use borrow.Author.Tests.{le-leb, lt-leb}
 use Rattle.laws.proofs.Tests.{two}
 use Rattle.laws.proofs.First.{first-is, first-holds}
 use Rattle.terrain.specs.declared.settings.Channel.{Channel}

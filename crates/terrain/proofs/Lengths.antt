@@ -4,7 +4,6 @@ use mathlib.Core.Path.{_≡_, refl, sym, ap, _∙_}
 use mathlib.Core.List.{List}
 use mathlib.Core.Bool.{Bool, true, false, cond, _&&_}
 use Prim.Native.Nat.{ℕ, zero, suc, _+_, _-_, _*_, _≤_, _<_, min}
-use native.Mathlib.Nat.{mul-le-mul-right}
 use native.Mathlib.Omega.{arith}
 use lib.ListN.{length, getD}
 use lib.Seq.{ext-getD}
@@ -12,12 +11,12 @@ use lib.IntN.{ℤ}
 use lib.Dec.{eqb}
 use Rattle.laws.specs.First.{someOf}
 use Rattle.laws.specs.Sums.{greatestTo, when}
-use Rattle.laws.specs.Raise.{Under, Rule}
+use Rattle.laws.specs.Raise.{Rule}
 use Rattle.laws.proofs.Lists.{length-tab, getD-tab}
 use Rattle.laws.proofs.Sums.{when-ext, when-le, when-under, greatest-ext, greatest-mono, greatest-le}
 use Rattle.terrain.specs.declared.settings.Rules.{Rules}
 use Rattle.terrain.specs.Cells.{neighbour, sideOf, cardinal, levelsOf}
-use Rattle.terrain.specs.Trail.{mappedAt, flowsAt, stepsIn, intoAt}
+use Rattle.terrain.specs.Trail.{mappedAt, stepsIn, intoAt}
 use Rattle.terrain.specs.Directed.{Directed}
 use Rattle.terrain.specs.Length.{isCut, startLength, stepOver, amountOf, steepnessAt, channelAt, cutoffAt, bringsAt, lengthFrom, lengthIn, lengthsOf}
 use Rattle.terrain.specs.Measure.{longest, cappedAt, lengthOffer}

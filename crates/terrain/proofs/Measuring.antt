@@ -1,18 +1,18 @@
 -- Lengths as the code works them out: drops, steepnesses, what the neighbours of a cell bring, and the counts of channels. Assumes nothing.
 use mathlib.Core.Path.{_≡_, refl, sym, ap, ap₂, subst, _∙_}
 use mathlib.Core.List.{List}
-use mathlib.Core.Bool.{Bool, true, false, cond, not, _&&_, true≢false}
 use mathlib.Core.Logic.{⊎-elim}
-use Prim.Native.Nat.{ℕ, zero, suc, _+_, _-_, _*_, _/_, _%_, _≤_, _<_, min, max}
+use mathlib.Core.Bool.{Bool, true, false, cond, not, _&&_, true≢false}
+use Prim.Native.Nat.{ℕ, zero, suc, _+_, _-_, _*_, _/_, _%_, _≤_, _<_, max}
 use native.Mathlib.Nat.{mul-le-mul}
 use native.Mathlib.Omega.{arith}
 use native.Mathlib.Decide.{decLt, ℕ-discrete}
 use lib.ListN.{length, getD, length-map, List·getD-eq-default}
 use lib.Seq.{ext-getD}
 use lib.IntN.{ℤ, pos, negsuc, natAbs, _-ℤ_}
-use lib.Signed.{_≤ℤ_, leZ, nonNeg}
+use lib.Signed.{leZ, nonNeg}
 use lib.Count.{trailingZeros, trailing-of-zero}
-use lib.Dec.{T, ltb, leb, eqb}
+use lib.Dec.{T, ltb, eqb}
 use mir.Syntax.{w32, w64}
 use mir.Val.{Fits, SFits, toZ, ofZ}
 use mir.Facts.{toZ-ofZ}
@@ -30,9 +30,9 @@ use Rattle.terrain.specs.Surfaces.{greatest}
 use Rattle.terrain.specs.Filled.{filledLevels, filledOf}
 use Rattle.terrain.specs.Direction.{steepOf}
 use Rattle.terrain.specs.Trail.{mappedAt, flowsAt, nextAt, stepsIn, intoAt}
+use Rattle.terrain.specs.Answers.{directionOf, countOf}
 use Rattle.terrain.specs.Directed.{Directed, backOf}
 use Rattle.terrain.specs.Length.{isChannel, largestOf, cutoffFor, isCut, startLength, stepOver, amountOf, steepnessAt, channelAt, cutoffAt, bringsAt, lengthFrom, lengthsOf, lengthOf}
-use Rattle.terrain.specs.Answers.{directionOf, countOf}
 use Rattle.terrain.specs.Measure.{steepest, AllFine, Charted, Bounded, cappedAt, Meeting, inflowOf, gatheredOf, settledOf}
 use Rattle.terrain.proofs.Neighbours.{each-side, across, across-small, side-none, side-leaves, level-fine, level-le, level-at, level-read, fine-fits, height-level, height-none}
 use Rattle.terrain.proofs.Filling.{greatest-fine, filled-long, filled-clear, filled-reached, filled-at, level-filled}

@@ -8,13 +8,13 @@ use lib.Dec.{ltb, leb, eqb}
 use Rattle.laws.specs.Lists.{tab}
 use Rattle.laws.specs.First.{someOf}
 use Rattle.laws.specs.Sums.{greatestTo, when}
+use Rattle.terrain.specs.declared.settings.Threshold.{Threshold}
+use Rattle.terrain.specs.declared.settings.Threshold.the-variants.{Share, Over, Never}
+use Rattle.terrain.specs.declared.settings.Rules.{Rules}
 use Rattle.terrain.specs.Cells.{neighbour, sideOf, cardinal}
 use Rattle.terrain.specs.Filled.{filledLevels}
 use Rattle.terrain.specs.Direction.{steepOf, directionsOf}
 use Rattle.terrain.specs.Trail.{mappedAt, flowsAt, nextAt, intoAt, countsOf}
-use Rattle.terrain.specs.declared.settings.Threshold.{Threshold}
-use Rattle.terrain.specs.declared.settings.Threshold.the-variants.{Share, Over, Never}
-use Rattle.terrain.specs.declared.settings.Rules.{Rules}
 
 -- "A channel cell has 1,000·count > n·largest, or count > the given number of cells; equality is no channel."
 unfoldable pub isChannel : Threshold → ℕ → ℕ → Bool

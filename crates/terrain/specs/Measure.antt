@@ -7,12 +7,12 @@ use lib.ListN.{length, getD}
 use lib.IntN.{ℤ, pos}
 use lib.Dec.{ltb, eqb}
 use Rattle.laws.specs.Sums.{greatestTo, when}
+use Rattle.terrain.specs.declared.settings.Rules.{Rules}
 use Rattle.terrain.specs.Quantities.{Fine}
 use Rattle.terrain.specs.Cells.{neighbour, levelsOf}
 use Rattle.terrain.specs.Direction.{steepOf}
 use Rattle.terrain.specs.Directed.{Directed, backOf}
 use Rattle.terrain.specs.Length.{startLength, stepOver, amountOf, steepnessAt, cutoffAt, channelAt, lengthFrom}
-use Rattle.terrain.specs.declared.settings.Rules.{Rules}
 
 -- no less than any length, and than any steepness
 abbrev pub longest : ℕ

@@ -10,7 +10,6 @@ use Rattle.terrain.specs.declared.settings.Channel.the-variants.{Percent
 use Rattle.terrain.specs.declared.settings.Settings.{Settings}
 use Rattle.terrain.specs.declared.settings.Threshold.{Threshold}
 use Rattle.terrain.specs.declared.settings.Threshold.the-variants.{Share, Over, Never}
-use Rattle.terrain.specs.declared.settings.Rules.{Rules}
 use Rattle.terrain.specs.declared.settings.Judged.{Judged}
 use Rattle.terrain.specs.declared.settings.Judged.the-variants.{Accepted, Refused}
 

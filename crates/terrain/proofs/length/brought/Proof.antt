@@ -1,7 +1,7 @@
 -- `terrain::length::brought` meets its contract. Assumes nothing.
 use mathlib.Core.Path.{sym, _∙_}
-use Rattle.terrain.proofs.Measuring.{amount-flat, amount-cut, amount-sum}
 use borrow.Author.Needs.{needs}
+use Rattle.terrain.proofs.Measuring.{amount-flat, amount-cut, amount-sum}
 use Rattle.terrain.proofs.length.brought.Statement.{statement}
 use Rattle.terrain.proofs.length.brought.Tie as tie
 

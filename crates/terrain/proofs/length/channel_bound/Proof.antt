@@ -3,9 +3,9 @@ use Prim.Native.Nat.{_≤_}
 use native.Mathlib.Nat.{mul-le-mul}
 use native.Mathlib.Omega.{arith}
 use borrow.Author.Tests.{le-ltb}
+use borrow.Author.Needs.{needs}
 use Rattle.terrain.specs.Length.{isChannel}
 use Rattle.terrain.proofs.Measuring.{share-test}
-use borrow.Author.Needs.{needs}
 use Rattle.terrain.proofs.length.channel_bound.Statement.{statement}
 use Rattle.terrain.proofs.length.channel_bound.Tie as tie
 

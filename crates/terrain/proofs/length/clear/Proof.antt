@@ -3,9 +3,9 @@ use mathlib.Core.Path.{_≡_, refl}
 use Prim.Native.Nat.{ℕ, _≤_, _-_}
 use native.Mathlib.Omega.{arith}
 use lib.ListN.{length, length-set}
+use borrow.Author.Needs.{needs}
 use Rattle.laws.specs.Lists.{Agrees}
 use Rattle.laws.proofs.Lists.{agrees-none, agrees-more, agrees-replicate}
-use borrow.Author.Needs.{needs}
 use Rattle.terrain.proofs.length.clear.Statement.{statement}
 use Rattle.terrain.proofs.length.clear.Tie as tie
 

@@ -3,8 +3,8 @@ use Prim.Native.Nat.{_≤_}
 use native.Mathlib.Nat.{mul-le-mul}
 use native.Mathlib.Omega.{arith}
 use borrow.Author.Tests.{lt-ltb, le-ltb}
-use Rattle.terrain.specs.Length.{cutoffFor}
 use borrow.Author.Needs.{needs}
+use Rattle.terrain.specs.Length.{cutoffFor}
 use Rattle.terrain.proofs.length.cutoff_for.Statement.{statement}
 use Rattle.terrain.proofs.length.cutoff_for.Tie as tie
 

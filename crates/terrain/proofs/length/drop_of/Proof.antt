@@ -1,8 +1,8 @@
 -- `terrain::length::drop_of` meets its contract. Assumes nothing.
 use mathlib.Core.Path.{ap}
 use lib.IntN.{natAbs}
-use Rattle.terrain.proofs.Measuring.{drop-none, drop-fits, drop-casts, drop-word}
 use borrow.Author.Needs.{needs}
+use Rattle.terrain.proofs.Measuring.{drop-none, drop-fits, drop-casts, drop-word}
 use Rattle.terrain.proofs.length.drop_of.Statement.{statement}
 use Rattle.terrain.proofs.length.drop_of.Tie as tie
 

@@ -1,12 +1,11 @@
 -- `terrain::length::follow` meets its contract. Assumes nothing.
-use mathlib.Core.Path.{_∙_}
-use mathlib.Core.Path.{_≡_, refl}
+use mathlib.Core.Path.{_∙_, _≡_, refl}
 use Prim.Native.Nat.{_*_, _<_, _-_}
 use native.Mathlib.Omega.{arith}
 use lib.ListN.{length}
+use borrow.Author.Needs.{needs}
 use Rattle.terrain.proofs.Interior.{beside-room, beside-is}
 use Rattle.terrain.proofs.Measuring.{next-in}
-use borrow.Author.Needs.{needs}
 use Rattle.terrain.proofs.length.follow.Statement.{statement}
 use Rattle.terrain.proofs.length.follow.Tie as tie
 

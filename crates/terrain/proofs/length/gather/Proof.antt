@@ -3,13 +3,13 @@ use mathlib.Core.Path.{_≡_, sym, _∙_}
 use Prim.Native.Nat.{_+_, _-_}
 use native.Mathlib.Omega.{arith}
 use lib.ListN.{getD}
+use borrow.Author.Needs.{needs}
 use Rattle.terrain.specs.Cells.{levelsOf}
 use Rattle.terrain.specs.Direction.{steepOf}
 use Rattle.terrain.specs.Length.{stepOver, amountOf}
 use Rattle.terrain.specs.Measure.{longest, cappedAt}
 use Rattle.terrain.proofs.Lengths.{step-le, amount-le}
 use Rattle.terrain.proofs.Measuring.{drop-small, steep-small, back-code, inflow-none, inflow-some}
-use borrow.Author.Needs.{needs}
 use Rattle.terrain.proofs.length.gather.Statement.{statement}
 use Rattle.terrain.proofs.length.gather.Tie as tie
 

@@ -1,8 +1,8 @@
 -- `terrain::length::gather_near` meets its contract. Assumes nothing.
 use native.Mathlib.Omega.{arith}
+use borrow.Author.Needs.{needs}
 use Rattle.terrain.specs.Cells.{levelsOf}
 use Rattle.terrain.proofs.Measuring.{inflow-off}
-use borrow.Author.Needs.{needs}
 use Rattle.terrain.proofs.length.gather_near.Statement.{statement}
 use Rattle.terrain.proofs.length.gather_near.Tie as tie
 

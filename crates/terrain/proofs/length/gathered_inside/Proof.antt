@@ -2,10 +2,10 @@
 use mathlib.Core.Path.{_∙_}
 use Prim.Native.Nat.{_-_}
 use native.Mathlib.Omega.{arith}
+use borrow.Author.Needs.{needs}
 use Rattle.terrain.specs.Cells.{levelsOf}
 use Rattle.terrain.proofs.Interior.{inside-neighbour, inside-beside, inside-is}
 use Rattle.terrain.proofs.Measuring.{meeting, steepness-small, Gathering, gather-none, gather-more, gather-all}
-use borrow.Author.Needs.{needs}
 use Rattle.terrain.proofs.length.gathered_inside.Statement.{statement}
 use Rattle.terrain.proofs.length.gathered_inside.Tie as tie
 

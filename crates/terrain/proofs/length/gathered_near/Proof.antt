@@ -2,9 +2,9 @@
 use mathlib.Core.Path.{sym, _∙_}
 use Prim.Native.Nat.{_-_}
 use native.Mathlib.Omega.{arith}
+use borrow.Author.Needs.{needs}
 use Rattle.terrain.specs.Cells.{levelsOf}
 use Rattle.terrain.proofs.Measuring.{meeting, steepness-small, Gathering, gather-none, gather-more, gather-all}
-use borrow.Author.Needs.{needs}
 use Rattle.terrain.proofs.length.gathered_near.Statement.{statement}
 use Rattle.terrain.proofs.length.gathered_near.Tie as tie
 

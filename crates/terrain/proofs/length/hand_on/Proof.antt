@@ -1,9 +1,9 @@
 -- `terrain::length::hand_on` meets its contract. Assumes nothing.
 use native.Mathlib.Omega.{arith}
+use borrow.Author.Needs.{needs}
 use Rattle.terrain.specs.Measure.{longest}
 use Rattle.terrain.proofs.Lengths.{step-le, amount-le}
 use Rattle.terrain.proofs.Measuring.{drop-small, steep-small, steepness-small}
-use borrow.Author.Needs.{needs}
 use Rattle.terrain.proofs.length.hand_on.Statement.{statement}
 use Rattle.terrain.proofs.length.hand_on.Tie as tie
 

@@ -3,8 +3,8 @@ use Prim.Native.Nat.{_-_, _*_, _≤_}
 use native.Mathlib.Nat.{mul-le-mul}
 use native.Mathlib.Omega.{arith}
 use borrow.Author.Tests.{lt-ltb, le-ltb}
-use Rattle.terrain.specs.Length.{isCut}
 use borrow.Author.Needs.{needs}
+use Rattle.terrain.specs.Length.{isCut}
 use Rattle.terrain.proofs.length.is_cut.Statement.{statement}
 use Rattle.terrain.proofs.length.is_cut.Tie as tie
 

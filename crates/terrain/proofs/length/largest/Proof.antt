@@ -1,13 +1,11 @@
 -- `terrain::length::largest` meets its contract. Assumes nothing.
-use mathlib.Core.Path.{ap}
-use lib.ListN.{getD}
-use mathlib.Core.Path.{_≡_, sym, _∙_}
+use mathlib.Core.Path.{ap, _≡_, sym, _∙_}
 use Prim.Native.Nat.{_-_, _≤_}
 use native.Mathlib.Omega.{arith}
-use lib.ListN.{length}
+use lib.ListN.{getD, length}
+use borrow.Author.Needs.{needs}
 use Rattle.laws.proofs.Sums.{greatest-none, greatest-more}
 use Rattle.terrain.specs.Length.{largestOf}
-use borrow.Author.Needs.{needs}
 use Rattle.terrain.proofs.length.largest.Statement.{statement}
 use Rattle.terrain.proofs.length.largest.Tie as tie
 

@@ -3,10 +3,10 @@ use mathlib.Core.Path.{ap, _∙_}
 use native.Mathlib.Omega.{arith}
 use lib.ListN.{getD}
 use lib.Dec.{ltb}
+use borrow.Author.Needs.{needs}
 use Rattle.terrain.specs.Cells.{levelsOf}
 use Rattle.terrain.specs.Measure.{settledOf, lengthOffer}
 use Rattle.terrain.proofs.Measuring.{settled-is}
-use borrow.Author.Needs.{needs}
 use Rattle.terrain.proofs.length.length_inside.Statement.{statement}
 use Rattle.terrain.proofs.length.length_inside.Tie as tie
 

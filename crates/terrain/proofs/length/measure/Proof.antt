@@ -1,9 +1,9 @@
 -- `terrain::length::measure` meets its contract. Assumes nothing.
 use mathlib.Core.Path.{_∙_}
 use native.Mathlib.Omega.{arith}
+use borrow.Author.Needs.{needs}
 use Rattle.terrain.proofs.Lengths.{lengths-only}
 use Rattle.terrain.proofs.Measuring.{bounded}
-use borrow.Author.Needs.{needs}
 use Rattle.terrain.proofs.length.measure.Statement.{statement}
 use Rattle.terrain.proofs.length.measure.Tie as tie
 

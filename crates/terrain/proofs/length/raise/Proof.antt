@@ -1,7 +1,7 @@
 -- `terrain::length::raise` meets its contract. Assumes nothing.
+use borrow.Author.Needs.{needs}
 use Rattle.laws.proofs.Raise.{raise-up, raise-keep}
 use Rattle.terrain.specs.Measure.{lengthOffer}
-use borrow.Author.Needs.{needs}
 use Rattle.terrain.proofs.length.raise.Statement.{statement}
 use Rattle.terrain.proofs.length.raise.Tie as tie
 

@@ -3,6 +3,7 @@ use mathlib.Core.Path.{sym, subst, _∙_}
 use mathlib.Core.List.{List}
 use mathlib.Core.Bool.{true}
 use Prim.Native.Nat.{ℕ, _+_, _-_}
+use borrow.Author.Needs.{needs}
 use Rattle.laws.specs.Lists.{total}
 use Rattle.laws.specs.Settle.{dueOf}
 use Rattle.laws.specs.Raise.{Raising}
@@ -10,7 +11,6 @@ use Rattle.laws.proofs.Raise.{zeros-under, raising-none, raising-more, raising-
 use Rattle.terrain.specs.Cells.{levelsOf}
 use Rattle.terrain.specs.Length.{lengthsOf}
 use Rattle.terrain.proofs.Lengths.{lengths-long, length-rule}
-use borrow.Author.Needs.{needs}
 use Rattle.terrain.proofs.length.remeasure.Statement.{statement}
 use Rattle.terrain.proofs.length.remeasure.Tie as tie
 

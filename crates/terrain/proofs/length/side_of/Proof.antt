@@ -1,9 +1,9 @@
 -- `terrain::length::side_of` meets its contract. Assumes nothing.
 use native.Mathlib.Omega.{arith}
-use lib.Count.{trailing-le}
 use lib.ListN.{getD}
-use Rattle.terrain.proofs.Measuring.{no-side, bit-side}
+use lib.Count.{trailing-le}
 use borrow.Author.Needs.{needs}
+use Rattle.terrain.proofs.Measuring.{no-side, bit-side}
 use Rattle.terrain.proofs.length.side_of.Statement.{statement}
 use Rattle.terrain.proofs.length.side_of.Tie as tie
 

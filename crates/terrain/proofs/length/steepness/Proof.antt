@@ -1,11 +1,11 @@
 -- `terrain::length::steepness` meets its contract. Assumes nothing.
 use mathlib.Core.Path.{ap, _∙_}
-use Rattle.terrain.specs.Direction.{steepOf}
 use native.Mathlib.Omega.{arith}
+use borrow.Author.Needs.{needs}
 use Rattle.terrain.specs.Cells.{levelsOf}
+use Rattle.terrain.specs.Direction.{steepOf}
 use Rattle.terrain.proofs.Interior.{beside-room, beside-is}
 use Rattle.terrain.proofs.Measuring.{drop-small, next-in, steepness-none, steepness-is}
-use borrow.Author.Needs.{needs}
 use Rattle.terrain.proofs.length.steepness.Statement.{statement}
 use Rattle.terrain.proofs.length.steepness.Tie as tie
 
