@@ -54,7 +54,7 @@ amount-le n q p s a b h l g = go (eqb q 0 && eqb p 0) (isCut n q p)
     go false true = omega arith
     go false false = omega arith
 
-module _ (rows cols side : ℕ) (rules : Rules) (lv dir count : List ℕ) (d : Directed rows cols dir) where
+module _ {rows cols : ℕ} {dir : List ℕ} (d : Directed rows cols dir) (side : ℕ) (rules : Rules) (lv count : List ℕ) where
   abbrev size : ℕ
   size = rows * cols
 
@@ -189,7 +189,7 @@ module _ (rows cols side : ℕ) (rules : Rules) (lv dir count : List ℕ) (d : D
 
 -- ---- the same as what raising gives, the lengths being read as the code reads them
 
-module _ (rows cols side : ℕ) (rules : Rules) (filled : List ℤ) (dir count : List ℕ) (d : Directed rows cols dir) where
+module _ {rows cols : ℕ} {dir : List ℕ} (d : Directed rows cols dir) (side : ℕ) (rules : Rules) (filled : List ℤ) (count : List ℕ) where
   abbrev lv : List ℕ
   lv = levelsOf filled
 
@@ -210,37 +210,37 @@ module _ (rows cols side : ℕ) (rules : Rules) (filled : List ℤ) (dir count :
 
   offer-ext : (l m : List ℕ) (z : ℕ) → ((k : ℕ) → flowsIn z k ≡ true → getD l (beside z k) 0 ≡ getD m (beside z k) 0) → offer l z ≡ offer m z
   unfolding lengthOffer
-  offer-ext l m z h = from-ext rows cols side rules lv dir count d (cappedAt l) (cappedAt m) z (λ k e. ap (λ (v : ℕ). min v longest) (h k e))
+  offer-ext l m z h = from-ext d side rules lv count (cappedAt l) (cappedAt m) z (λ k e. ap (λ (v : ℕ). min v longest) (h k e))
 
   offer-mono : (l m : List ℕ) (z : ℕ) → ((k : ℕ) → flowsIn z k ≡ true → getD l (beside z k) 0 ≤ getD m (beside z k) 0) → offer l z ≤ offer m z
   unfolding lengthOffer
-  offer-mono l m z h = from-mono rows cols side rules lv dir count d (cappedAt l) (cappedAt m) z (λ k e. omega (arith, h k e))
+  offer-mono l m z h = from-mono d side rules lv count (cappedAt l) (cappedAt m) z (λ k e. omega (arith, h k e))
 
   -- the definition's lengths are what their inflows give
   pub offer-fix : (z : ℕ) → z < rows * cols → lengthOffer rows cols side rules filled dir count (lengthsOf rows cols side rules (levelsOf filled) dir count) z ≡ getD (lengthsOf rows cols side rules (levelsOf filled) dir count) z 0
   unfolding lengthOffer
   offer-fix z h =
-      from-ext rows cols side rules lv dir count d (cappedAt F) (lengthIn rows cols side rules lv dir count (rows * cols)) z (λ k e.
-      let i = into-in rows cols side rules lv dir count d z k e in omega (arith, lengths-at rows cols side rules lv dir count d (beside z k) i, lengths-small rows cols side rules lv dir count d (beside z k) i))
-      ∙ sym (length-local rows cols side rules lv dir count d z) ∙ sym (lengths-at rows cols side rules lv dir count d z h)
+      from-ext d side rules lv count (cappedAt F) (lengthIn rows cols side rules lv dir count (rows * cols)) z (λ k e.
+      let i = into-in d side rules lv count z k e in omega (arith, lengths-at d side rules lv count (beside z k) i, lengths-small d side rules lv count (beside z k) i))
+      ∙ sym (length-local d side rules lv count z) ∙ sym (lengths-at d side rules lv count z h)
 
   pub length-rule : Rule (lengthsOf rows cols side rules (levelsOf filled) dir count) (lengthOffer rows cols side rules filled dir count) (stepsIn rows cols dir (rows * cols)) (rows * cols)
   length-rule =
       record {
         bounded = steps-le rows cols dir (rows * cols);
-        mono = (λ l u x h. omega (arith, offer-mono l F x (λ k e. u .under (beside x k)), offer-fix x (omega (arith, lengths-long rows cols side rules lv dir count d))));
-        exact = (λ l u x h q. offer-ext l F x (λ k e. q (beside x k) (above rows cols side rules lv dir count d x k e)) ∙ offer-fix x (omega (arith, lengths-long rows cols side rules lv dir count d)));
+        mono = (λ l u x h. omega (arith, offer-mono l F x (λ k e. u .under (beside x k)), offer-fix x (omega (arith, lengths-long d side rules lv count))));
+        exact = (λ l u x h q. offer-ext l F x (λ k e. q (beside x k) (above d side rules lv count x k e)) ∙ offer-fix x (omega (arith, lengths-long d side rules lv count)));
       }
 
   only-below : (l : List ℕ) → ((x : ℕ) → x < rows * cols → getD l x 0 ≡ offer l x) → (m x : ℕ) → rows * cols - level x < m → x < rows * cols → getD l x 0 ≡ getD F x 0
   only-below l s zero x h i = absurd (omega arith)
   only-below l s (suc m) x h i =
       s x i
-      ∙ offer-ext l F x (λ k e. only-below l s m (beside x k) (omega (arith, above rows cols side rules lv dir count d x k e, steps-le rows cols dir (rows * cols) (beside x k))) (into-in rows cols side rules lv dir count d x k e))
+      ∙ offer-ext l F x (λ k e. only-below l s m (beside x k) (omega (arith, above d side rules lv count x k e, steps-le rows cols dir (rows * cols) (beside x k))) (into-in d side rules lv count x k e))
       ∙ offer-fix x i
 
   -- and the only ones
   pub lengths-only : (l : List ℕ) → length l ≡ rows * cols → ((x : ℕ) → x < rows * cols → getD l x 0 ≡ lengthOffer rows cols side rules filled dir count l x) → l ≡ lengthsOf rows cols side rules (levelsOf filled) dir count
   lengths-only l e s =
-      let w = lengths-long rows cols side rules lv dir count d in
+      let w = lengths-long d side rules lv count in
       ext-getD 0 l F (e ∙ sym w) (λ x h. only-below l s (suc (rows * cols - level x)) x (omega arith) (omega arith))

@@ -176,7 +176,7 @@ bounded rows cols rules count most top e g m =
 
 -- ---- the side that a cell points at, and its steepness
 
-module _ (rows cols : ℕ) (dir : List ℕ) (d : Directed rows cols dir) (x : ℕ) (h : x < rows * cols) where
+module _ {rows cols : ℕ} {dir : List ℕ} (d : Directed rows cols dir) (x : ℕ) (h : x < rows * cols) where
   pub no-side : getD dir x 0 ≡ 255 → 8 ≡ sideOf (getD dir x 255)
   no-side e = sym (ap sideOf (code-read rows cols dir d x h ∙ e) ∙ side-none)
 
@@ -220,7 +220,7 @@ module _ (rows cols : ℕ) (dir : List ℕ) (d : Directed rows cols dir) (x : �
 
 -- ---- the map that lengths are measured on
 
-module _ (rows cols : ℕ) (filled : List ℤ) (dir : List ℕ) (m : Charted rows cols filled dir) where
+module _ {rows cols : ℕ} {filled : List ℤ} {dir : List ℕ} (m : Charted rows cols filled dir) where
   -- two cells of it that meet
   pub meeting : (l : List ℕ) (q x y k : ℕ) → length l ≡ rows * cols → q ≤ steepest → x < rows * cols → y < rows * cols → k < 8 → Meeting filled dir l q x y k
   meeting l q x y k e s h i j =
@@ -234,11 +234,11 @@ module _ (rows cols : ℕ) (filled : List ℤ) (dir : List ℕ) (m : Charted row
             let y = neighbour rows cols x k in
             omega (
               arith,
-              steepness-is rows cols dir (m .directed) x h (levelsOf filled) k y refl l refl,
+              steepness-is (m .directed) x h (levelsOf filled) k y refl l refl,
               steep-small k (getD (levelsOf filled) x 0 - getD (levelsOf filled) y 0)
-                  (drop-small filled (m .fine) x y (omega (arith, m .filled-long)) (omega (arith, m .filled-long, next-in rows cols dir (m .directed) x h k refl l))),
+                  (drop-small filled (m .fine) x y (omega (arith, m .filled-long)) (omega (arith, m .filled-long, next-in (m .directed) x h k refl l))),
             )
-        | no f ↦ omega (arith, steepness-none rows cols dir (m .directed) x h (levelsOf filled) (sideOf (getD dir x 255)) refl (omega arith))
+        | no f ↦ omega (arith, steepness-none (m .directed) x h (levelsOf filled) (sideOf (getD dir x 255)) refl (omega arith))
       ]
 
 -- ---- what the first k neighbours of x bring, as a loop gathers it
@@ -247,26 +247,27 @@ pub record Gathering (rows cols : ℕ) (lv dir l : List ℕ) (n q x k g : ℕ) :
   pub sides : k ≤ 8
   pub is : g ≡ greatestTo k (λ j. inflowOf lv dir l n q x (neighbour rows cols x j) j)
 
-module _ (rows cols : ℕ) (lv dir l : List ℕ) (n q x : ℕ) where
+-- the cutoff of a cell by its steepness
+cutoff-is : (rows cols side : ℕ) (rules : Rules) (lv dir : List ℕ) (x q : ℕ) → q ≡ steepnessAt rows cols lv dir x → cutoffFor (rules .low) (rules .high) side q ≡ cutoffAt rows cols side rules lv dir x
+unfolding cutoffAt
+cutoff-is rows cols side rules lv dir x q s = ap (cutoffFor (rules .low) (rules .high) side) s
+
+module _ {rows cols : ℕ} {lv dir l : List ℕ} {n q x : ℕ} where
   pub gather-none : Gathering rows cols lv dir l n q x 0 0
   gather-none = record { sides = omega arith; is = sym (greatest-none (λ j. inflowOf lv dir l n q x (neighbour rows cols x j) j)) }
 
-  pub gather-more : (k g r y : ℕ) → k < 8 → y ≡ neighbour rows cols x k → Gathering rows cols lv dir l n q x k g → r ≡ max g (inflowOf lv dir l n q x y k) → Gathering rows cols lv dir l n q x (k + 1) r
-  gather-more k g r y h i w e =
+  pub gather-more : {k g r y : ℕ} → k < 8 → y ≡ neighbour rows cols x k → Gathering rows cols lv dir l n q x k g → r ≡ max g (inflowOf lv dir l n q x y k) → Gathering rows cols lv dir l n q x (k + 1) r
+  gather-more {k} h i w e =
       record {
         sides = omega arith;
         is = omega (arith, e, w .is, ap (λ (z : ℕ). inflowOf lv dir l n q x z k) i, greatest-more k (λ j. inflowOf lv dir l n q x (neighbour rows cols x j) j));
       }
 
-  cutoff-is : (side : ℕ) (rules : Rules) → q ≡ steepnessAt rows cols lv dir x → cutoffFor (rules .low) (rules .high) side q ≡ cutoffAt rows cols side rules lv dir x
-  unfolding cutoffAt
-  cutoff-is side rules s = ap (cutoffFor (rules .low) (rules .high) side) s
-
-  pub gather-all : (side : ℕ) (rules : Rules) (k g : ℕ) → 8 ≤ k → Gathering rows cols lv dir l n q x k g → n ≡ cutoffFor (rules .low) (rules .high) side q → q ≡ steepnessAt rows cols lv dir x → g ≡ gatheredOf rows cols side rules lv dir l x 8
+  pub gather-all : (side : ℕ) (rules : Rules) {k g : ℕ} → 8 ≤ k → Gathering rows cols lv dir l n q x k g → n ≡ cutoffFor (rules .low) (rules .high) side q → q ≡ steepnessAt rows cols lv dir x → g ≡ gatheredOf rows cols side rules lv dir l x 8
   unfolding gatheredOf
-  gather-all side rules k g h w c s =
+  gather-all side rules {k} h w c s =
       let e : k ≡ 8 = omega (arith, w .sides) in
-      let i : n ≡ cutoffAt rows cols side rules lv dir x = c ∙ cutoff-is side rules s in
+      let i : n ≡ cutoffAt rows cols side rules lv dir x = c ∙ cutoff-is rows cols side rules lv dir x q s in
       w .is ∙ ap (λ (j : ℕ). greatestTo j (λ j. inflowOf lv dir l n q x (neighbour rows cols x j) j)) e
       ∙ ap₂ (λ (n q : ℕ). greatestTo 8 (λ j. inflowOf lv dir l n q x (neighbour rows cols x j) j)) i s
 
@@ -287,7 +288,7 @@ across-step k h = ap (λ (c : Bool). cond c 10000 14142) (across-cardinal k h)
 across-steep : (k d : ℕ) → k < 8 → steepOf (across k) d ≡ steepOf k d
 across-steep k d h = ap (λ (c : Bool). cond c (2 * (d * d)) (d * d)) (across-cardinal k h)
 
-module _ (rows cols side : ℕ) (rules : Rules) (lv dir count : List ℕ) (d : Directed rows cols dir) (l : List ℕ) (x : ℕ) (h : x < rows * cols) where
+module _ {rows cols : ℕ} {dir : List ℕ} (d : Directed rows cols dir) (side : ℕ) (rules : Rules) (lv count l : List ℕ) (x : ℕ) (h : x < rows * cols) where
   abbrev nb : ℕ → ℕ
   nb = neighbour rows cols x
 
@@ -319,7 +320,7 @@ module _ (rows cols side : ℕ) (rules : Rules) (lv dir count : List ℕ) (d : D
       let i = mapped-in rows cols dir (d .long) (nb k) (flows-mapped rows cols dir (nb k) (w .0)) in
       let a = inflow-side k s e in
       sym (across-steep k (getD lv (nb k) 0 - getD lv x 0) s)
-      ∙ steepness-is rows cols dir d (nb k) i lv (across k) x (sym a) (across-small k s) (sym (w .1) ∙ next-is rows cols dir d (nb k) i ∙ ap (neighbour rows cols (nb k)) a)
+      ∙ steepness-is d (nb k) i lv (across k) x (sym a) (across-small k s) (sym (w .1) ∙ next-is d (nb k) i ∙ ap (neighbour rows cols (nb k)) a)
 
   brings-is : (k : ℕ) → k < 8 → into k ≡ true → amountOf cutoff own (steepOf k (getD lv (nb k) 0 - getD lv x 0)) (stepOver k) (cappedAt l (nb k)) ≡ brings k
   unfolding bringsAt
@@ -367,11 +368,11 @@ module _ (rows cols side : ℕ) (rules : Rules) (lv dir count : List ℕ) (d : D
   settled-is b e =
       flip (eqb (getD dir x 0) 255) (cond b 0 (cond (ltb gathered 1) startLength (gathered - 1)))
       ∙ ap₂ (λ (t : Bool) (v : ℕ). cond t v 0) (sym mapped-read) (ap₂ (λ (t : Bool) (v : ℕ). cond t 0 v) e settle)
-      ∙ sym (from-is rows cols side rules lv dir count d (cappedAt l) x)
+      ∙ sym (from-is d side rules lv count (cappedAt l) x)
 
 -- ---- a ground's own filled heights, directions and counts
 
-module _ (rows cols : ℕ) (ground : List ℤ) (ready : Ready rows cols ground) where
+module _ {rows cols : ℕ} {ground : List ℤ} (ready : Ready rows cols ground) where
   -- a filled height is NoData, or the greatest height of a run
   height-fine : (x : ℕ) → Fine (heightOf (getD (filledLevels rows cols ground) x 0))
   height-fine x =

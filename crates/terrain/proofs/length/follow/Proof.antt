@@ -38,14 +38,14 @@ beside-requires c κs =
     let s = c .before .before .before .before .before .before .before .before .before .before .before .before .before .before .before in
     let p = c .before .before .before .before .before .before .before .before .before .before .loop in
     let k = c .before .side-of in
-    beside-room (s .args .rows) (s .args .columns) (p .x) (k .result) (s .pre .0 .charted .directed .sized) (omega (arith, s .pre .0 .charted .directed .sized .small)) (c .if1 .left) (next-in (s .args .rows) (s .args .columns) (s .args .direction .now) (s .pre .0 .charted .directed) (p .x) (p .inv .2) (k .result) (k .ensures) (c .if1 .left))
+    beside-room (s .args .rows) (s .args .columns) (p .x) (k .result) (s .pre .0 .charted .directed .sized) (omega (arith, s .pre .0 .charted .directed .sized .small)) (c .if1 .left) (next-in (s .pre .0 .charted .directed) (p .x) (p .inv .2) (k .result) (k .ensures) (c .if1 .left))
 
 hand-on-requires : tie.Need-hand-on-requires Inv-loop μ-loop
 hand-on-requires c κs =
     let s = c .before .before .before .before .before .before .before .before .before .before .before .before .before .before .before .before .before .before in
     let p = c .before .before .before .before .before .before .before .before .before .before .before .before .before .loop in
     let k = c .before .before .before .before .side-of in
-    let i = next-in (s .args .rows) (s .args .columns) (s .args .direction .now) (s .pre .0 .charted .directed) (p .x) (p .inv .2) (k .result) (k .ensures) (c .before .before .before .if1 .left) in
+    let i = next-in (s .pre .0 .charted .directed) (p .x) (p .inv .2) (k .result) (k .ensures) (c .before .before .before .if1 .left) in
     (record { charted = s .pre .0 .charted; count-long = s .pre .0 .count-long; lengths-long = omega (arith, s .pre .0 .lengths-long); waiting-long = omega (arith, s .pre .0 .waiting-long) }, p .inv .2, omega (arith, c .before .before .beside .ensures, beside-is (s .args .rows) (s .args .columns) (p .x) (k .result) i))
 
 same-length-3 : tie.Need-same-length-3 Inv-loop μ-loop
@@ -71,7 +71,7 @@ loop-again c =
     let s = c .before .before .before .before .before .before .before .before .before .before .before .before .before .before .before .before .before .before .before .before .before .before .before .before in
     let p = c .before .before .before .before .before .before .before .before .before .before .before .before .before .before .before .before .before .before .before .loop in
     let k = c .before .before .before .before .before .before .before .before .before .before .side-of in
-    let i = next-in (s .args .rows) (s .args .columns) (s .args .direction .now) (s .pre .0 .charted .directed) (p .x) (p .inv .2) (k .result) (k .ensures) (c .before .before .before .before .before .before .before .before .before .if1 .left) in
+    let i = next-in (s .pre .0 .charted .directed) (p .x) (p .inv .2) (k .result) (k .ensures) (c .before .before .before .before .before .before .before .before .before .if1 .left) in
     (c .before .before .before .before .lengths2 .given ∙ c .before .before .before .before .before .before .before .before .before .before .before .before .before .before .lengths .given ∙ p .inv .0, c .before .before .waiting2 .given ∙ c .before .before .before .before .before .before .before .before .before .before .before .before .waiting .given ∙ p .inv .1, omega (arith, c .before .before .before .before .before .before .before .before .beside .ensures, beside-is (s .args .rows) (s .args .columns) (p .x) (k .result) i))
 
 same-length-5 : tie.Need-same-length-5 Inv-loop μ-loop

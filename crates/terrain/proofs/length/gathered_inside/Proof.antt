@@ -23,12 +23,10 @@ steepness-requires c κs =
 cutoff-for-requires : tie.Need-cutoff-for-requires Inv-loop μ-loop
 cutoff-for-requires c κs =
     let s = c .before .before .before in
-    omega (arith, c .steepness .ensures, steepness-small (s .args .rows) (s .args .columns) (s .args .filled .now) (s .args .direction .now) (s .pre .0) (s .args .x) (omega (arith, s .pre .2 .down)))
+    omega (arith, c .steepness .ensures, steepness-small (s .pre .0) (s .args .x) (omega (arith, s .pre .2 .down)))
 
 loop-holds : tie.Need-loop-holds Inv-loop μ-loop
-loop-holds c =
-    let s = c .before .before .before .before in
-    gather-none (s .args .rows) (s .args .columns) (levelsOf (s .args .filled .now)) (s .args .direction .now) (s .args .lengths .now) (c .cutoff-for .result) (c .before .steepness .result) (s .args .x)
+loop-holds c = gather-none
 
 beside-requires : tie.Need-beside-requires Inv-loop μ-loop
 beside-requires c κs =
@@ -41,7 +39,7 @@ gather-requires c κs =
     let p = c .before .before .loop in
     let t = c .before .loop-test in
     let q = c .before .before .before .before .steepness in
-    meeting (s .args .rows) (s .args .columns) (s .args .filled .now) (s .args .direction .now) (s .pre .0) (s .args .lengths .now) (q .result) (s .args .x) (c .beside .result) (p .k) (s .pre .1) (omega (arith, q .ensures, steepness-small (s .args .rows) (s .args .columns) (s .args .filled .now) (s .args .direction .now) (s .pre .0) (s .args .x) (omega (arith, s .pre .2 .down)))) (omega (arith, s .pre .2 .down)) (omega (arith, c .beside .ensures ∙ inside-is (s .args .rows) (s .args .columns) (s .args .x) (p .k) (s .pre .2) (t .taken), inside-neighbour (s .args .rows) (s .args .columns) (s .args .x) (p .k) (s .pre .2) (t .taken))) (t .taken)
+    meeting (s .pre .0) (s .args .lengths .now) (q .result) (s .args .x) (c .beside .result) (p .k) (s .pre .1) (omega (arith, q .ensures, steepness-small (s .pre .0) (s .args .x) (omega (arith, s .pre .2 .down)))) (omega (arith, s .pre .2 .down)) (omega (arith, c .beside .ensures ∙ inside-is (s .args .rows) (s .args .columns) (s .args .x) (p .k) (s .pre .2) (t .taken), inside-neighbour (s .args .rows) (s .args .columns) (s .args .x) (p .k) (s .pre .2) (t .taken))) (t .taken)
 
 add-k : tie.Need-add-k Inv-loop μ-loop
 add-k c = search needs
@@ -54,13 +52,13 @@ loop-again c =
     let s = c .before .before .before .before .before .before .before .before in
     let p = c .before .before .before .loop in
     let t = c .before .before .loop-test in
-    gather-more (s .args .rows) (s .args .columns) (levelsOf (s .args .filled .now)) (s .args .direction .now) (s .args .lengths .now) (c .before .before .before .before .cutoff-for .result) (c .before .before .before .before .before .steepness .result) (s .args .x) (p .k) (p .gathered) (c .gather .result) (c .before .beside .result) (t .taken) (c .before .beside .ensures ∙ inside-is (s .args .rows) (s .args .columns) (s .args .x) (p .k) (s .pre .2) (t .taken)) (p .inv) (c .gather .ensures)
+    gather-more (t .taken) (c .before .beside .ensures ∙ inside-is (s .args .rows) (s .args .columns) (s .args .x) (p .k) (s .pre .2) (t .taken)) (p .inv) (c .gather .ensures)
 
 returns : tie.Need-returns Inv-loop μ-loop
 returns c =
     let s = c .before .before .before .before .before .before in
     let p = c .before .loop in
-    gather-all (s .args .rows) (s .args .columns) (levelsOf (s .args .filled .now)) (s .args .direction .now) (s .args .lengths .now) (c .before .before .cutoff-for .result) (c .before .before .before .steepness .result) (s .args .x) (s .args .side) (s .args .rules) (p .k) (p .gathered) (c .loop-test .left) (p .inv) (c .before .before .cutoff-for .ensures) (c .before .before .before .steepness .ensures)
+    gather-all (s .args .side) (s .args .rules) (c .loop-test .left) (p .inv) (c .before .before .cutoff-for .ensures) (c .before .before .before .steepness .ensures)
 
 pub gathered-inside-spec : {M : Type 1} → statement M
 gathered-inside-spec =

@@ -22,12 +22,10 @@ steepness-requires c κs =
 cutoff-for-requires : tie.Need-cutoff-for-requires Inv-loop μ-loop
 cutoff-for-requires c κs =
     let s = c .before .before .before in
-    omega (arith, c .steepness .ensures, steepness-small (s .args .rows) (s .args .columns) (s .args .filled .now) (s .args .direction .now) (s .pre .0) (s .args .x) (s .pre .2))
+    omega (arith, c .steepness .ensures, steepness-small (s .pre .0) (s .args .x) (s .pre .2))
 
 loop-holds : tie.Need-loop-holds Inv-loop μ-loop
-loop-holds c =
-    let s = c .before .before .before .before in
-    gather-none (s .args .rows) (s .args .columns) (levelsOf (s .args .filled .now)) (s .args .direction .now) (s .args .lengths .now) (c .cutoff-for .result) (c .before .steepness .result) (s .args .x)
+loop-holds c = gather-none
 
 near-requires : tie.Need-near-requires Inv-loop μ-loop
 near-requires c κs =
@@ -40,7 +38,7 @@ gather-near-requires c κs =
     let p = c .before .before .loop in
     let t = c .before .loop-test in
     let q = c .before .before .before .before .steepness in
-    ((λ i. meeting (s .args .rows) (s .args .columns) (s .args .filled .now) (s .args .direction .now) (s .pre .0) (s .args .lengths .now) (q .result) (s .args .x) (c .near .result) (p .k) (s .pre .1) (omega (arith, q .ensures, steepness-small (s .args .rows) (s .args .columns) (s .args .filled .now) (s .args .direction .now) (s .pre .0) (s .args .x) (s .pre .2))) (s .pre .2) (omega (arith, s .pre .0 .filled-long)) (t .taken)), s .pre .0 .directed .long ∙ sym (s .pre .0 .filled-long), t .taken)
+    ((λ i. meeting (s .pre .0) (s .args .lengths .now) (q .result) (s .args .x) (c .near .result) (p .k) (s .pre .1) (omega (arith, q .ensures, steepness-small (s .pre .0) (s .args .x) (s .pre .2))) (s .pre .2) (omega (arith, s .pre .0 .filled-long)) (t .taken)), s .pre .0 .directed .long ∙ sym (s .pre .0 .filled-long), t .taken)
 
 add-k : tie.Need-add-k Inv-loop μ-loop
 add-k c = search needs
@@ -53,13 +51,13 @@ loop-again c =
     let s = c .before .before .before .before .before .before .before .before in
     let p = c .before .before .before .loop in
     let t = c .before .before .loop-test in
-    gather-more (s .args .rows) (s .args .columns) (levelsOf (s .args .filled .now)) (s .args .direction .now) (s .args .lengths .now) (c .before .before .before .before .cutoff-for .result) (c .before .before .before .before .before .steepness .result) (s .args .x) (p .k) (p .gathered) (c .gather-near .result) (c .before .near .result) (t .taken) (c .before .near .ensures) (p .inv) (c .gather-near .ensures)
+    gather-more (t .taken) (c .before .near .ensures) (p .inv) (c .gather-near .ensures)
 
 returns : tie.Need-returns Inv-loop μ-loop
 returns c =
     let s = c .before .before .before .before .before .before in
     let p = c .before .loop in
-    gather-all (s .args .rows) (s .args .columns) (levelsOf (s .args .filled .now)) (s .args .direction .now) (s .args .lengths .now) (c .before .before .cutoff-for .result) (c .before .before .before .steepness .result) (s .args .x) (s .args .side) (s .args .rules) (p .k) (p .gathered) (c .loop-test .left) (p .inv) (c .before .before .cutoff-for .ensures) (c .before .before .before .steepness .ensures)
+    gather-all (s .args .side) (s .args .rules) (c .loop-test .left) (p .inv) (c .before .before .cutoff-for .ensures) (c .before .before .before .steepness .ensures)
 
 pub gathered-near-spec : {M : Type 1} → statement M
 gathered-near-spec =

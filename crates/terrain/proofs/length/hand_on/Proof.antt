@@ -21,7 +21,7 @@ steep-of-requires c κs =
 cutoff-for-requires : tie.Need-cutoff-for-requires
 cutoff-for-requires c κs =
     let s = c .before .before .before .before .before .before .before in
-    omega (arith, c .before .before .steepness .ensures, steepness-small (s .args .rows) (s .args .columns) (s .args .filled .now) (s .args .direction .now) (s .pre .0 .charted) (s .args .y) (s .pre .2))
+    omega (arith, c .before .before .steepness .ensures, steepness-small (s .pre .0 .charted) (s .args .y) (s .pre .2))
 
 step-over-requires : tie.Need-step-over-requires
 step-over-requires c κs = search needs
@@ -39,7 +39,7 @@ brought-requires : tie.Need-brought-requires
 brought-requires c κs =
     let s = c .before .before .before .before .before .before .before .before .before .before .before in
     let d = c .before .before .before .before .before .drop-of in
-    (omega (arith, c .before .before .before .before .before .before .steepness .ensures, steepness-small (s .args .rows) (s .args .columns) (s .args .filled .now) (s .args .direction .now) (s .pre .0 .charted) (s .args .y) (s .pre .2)), omega (arith, c .before .before .before .before .steep-of .ensures, steep-small (s .args .k) (d .result) (omega (arith, d .ensures, drop-small (s .args .filled .now) (s .pre .0 .charted .fine) (s .args .x) (s .args .y) (omega (arith, s .pre .0 .charted .filled-long)) (omega (arith, s .pre .0 .charted .filled-long))))), omega (arith, c .before .before .step-over .ensures, step-le (s .args .k)), omega (arith, c .capped .ensures))
+    (omega (arith, c .before .before .before .before .before .before .steepness .ensures, steepness-small (s .pre .0 .charted) (s .args .y) (s .pre .2)), omega (arith, c .before .before .before .before .steep-of .ensures, steep-small (s .args .k) (d .result) (omega (arith, d .ensures, drop-small (s .args .filled .now) (s .pre .0 .charted .fine) (s .args .x) (s .args .y) (omega (arith, s .pre .0 .charted .filled-long)) (omega (arith, s .pre .0 .charted .filled-long))))), omega (arith, c .before .before .step-over .ensures, step-le (s .args .k)), omega (arith, c .capped .ensures))
 
 mul-longer : tie.Need-mul-longer
 mul-longer c = search needs

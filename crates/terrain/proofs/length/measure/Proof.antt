@@ -36,7 +36,7 @@ same-length-2 c = search needs
 returns : tie.Need-returns
 returns c =
     let s = c .before .before .before .before .before .before .before .before .before .before .before .before .before .before .before .before .before .before .before .before .before .before .before .before in
-    lengths-only (s .args .rows) (s .args .columns) (s .args .side) (s .args .rules) (s .args .filled .now) (s .args .direction .now) (s .args .count .now) (s .pre .charted .directed) _ (c .before .before .before .before .before .before .lengths2 .given ∙ c .before .before .before .before .before .before .before .before .before .before .before .before .before .before .before .lengths .given ∙ s .pre .lengths-long) (λ x h. c .before .is-settled .ensures (c .if1 .taken) x (omega arith) h)
+    lengths-only (s .pre .charted .directed) (s .args .side) (s .args .rules) (s .args .filled .now) (s .args .count .now) _ (c .before .before .before .before .before .before .lengths2 .given ∙ c .before .before .before .before .before .before .before .before .before .before .before .before .before .before .before .lengths .given ∙ s .pre .lengths-long) (λ x h. c .before .is-settled .ensures (c .if1 .taken) x (omega arith) h)
 
 remeasure-requires : tie.Need-remeasure-requires
 remeasure-requires c κs =

@@ -13,7 +13,7 @@ shared-slice-read-code c = search needs
 returns : tie.Need-returns
 returns c =
     let s = c .before .before in
-    no-side (s .args .rows) (s .args .columns) (s .args .direction .now) (s .pre .0) (s .args .x) (s .pre .1) (c .if1 .taken)
+    no-side (s .pre .0) (s .args .x) (s .pre .1) (c .if1 .taken)
 
 cast-result : tie.Need-cast-result
 cast-result c = let s = c .before .before in omega (arith, trailing-le 8 (getD (s .args .direction .now) (s .args .x) 0))
@@ -21,7 +21,7 @@ cast-result c = let s = c .before .before in omega (arith, trailing-le 8 (getD (
 returns-2 : tie.Need-returns-2
 returns-2 c =
     let s = c .before .before in
-    bit-side (s .args .rows) (s .args .columns) (s .args .direction .now) (s .pre .0) (s .args .x) (s .pre .1) (c .if1 .left)
+    bit-side (s .pre .0) (s .args .x) (s .pre .1) (c .if1 .left)
 
 pub side-of-spec : {M : Type 1} → statement M
 side-of-spec = tie.close (tie.spec shared-slice-read-code returns cast-result returns-2)

@@ -15,26 +15,26 @@ side-of-requires c κs = search needs
 returns : tie.Need-returns
 returns c =
     let s = c .before .before .before in
-    steepness-none (s .args .rows) (s .args .columns) (s .args .direction .now) (s .pre .0 .directed) (s .args .x) (s .pre .1) (levelsOf (s .args .filled .now)) (c .before .side-of .result) (c .before .side-of .ensures) (c .if1 .taken)
+    steepness-none (s .pre .0 .directed) (s .args .x) (s .pre .1) (levelsOf (s .args .filled .now)) (c .before .side-of .result) (c .before .side-of .ensures) (c .if1 .taken)
 
 beside-requires : tie.Need-beside-requires
 beside-requires c κs =
     let s = c .before .before .before in
     let k = c .before .side-of in
-    beside-room (s .args .rows) (s .args .columns) (s .args .x) (k .result) (s .pre .0 .directed .sized) (omega (arith, s .pre .0 .directed .sized .small)) (c .if1 .left) (next-in (s .args .rows) (s .args .columns) (s .args .direction .now) (s .pre .0 .directed) (s .args .x) (s .pre .1) (k .result) (k .ensures) (c .if1 .left))
+    beside-room (s .args .rows) (s .args .columns) (s .args .x) (k .result) (s .pre .0 .directed .sized) (omega (arith, s .pre .0 .directed .sized .small)) (c .if1 .left) (next-in (s .pre .0 .directed) (s .args .x) (s .pre .1) (k .result) (k .ensures) (c .if1 .left))
 
 drop-of-requires : tie.Need-drop-of-requires
 drop-of-requires c κs =
     let s = c .before .before .before .before in
     let k = c .before .before .side-of in
-    let i = next-in (s .args .rows) (s .args .columns) (s .args .direction .now) (s .pre .0 .directed) (s .args .x) (s .pre .1) (k .result) (k .ensures) (c .before .if1 .left) in
+    let i = next-in (s .pre .0 .directed) (s .args .x) (s .pre .1) (k .result) (k .ensures) (c .before .if1 .left) in
     (s .pre .0 .fine, omega (arith, s .pre .0 .filled-long), omega (arith, s .pre .0 .filled-long, c .beside .ensures, beside-is (s .args .rows) (s .args .columns) (s .args .x) (k .result) i))
 
 steep-of-requires : tie.Need-steep-of-requires
 steep-of-requires c κs =
     let s = c .before .before .before .before .before in
     let k = c .before .before .before .side-of in
-    let i = next-in (s .args .rows) (s .args .columns) (s .args .direction .now) (s .pre .0 .directed) (s .args .x) (s .pre .1) (k .result) (k .ensures) (c .before .before .if1 .left) in
+    let i = next-in (s .pre .0 .directed) (s .args .x) (s .pre .1) (k .result) (k .ensures) (c .before .before .if1 .left) in
     let y = c .before .beside in
     omega (arith, c .drop-of .ensures, drop-small (s .args .filled .now) (s .pre .0 .fine) (s .args .x) (y .result) (omega (arith, s .pre .0 .filled-long)) (omega (arith, s .pre .0 .filled-long, y .ensures, beside-is (s .args .rows) (s .args .columns) (s .args .x) (k .result) i)))
 
@@ -43,9 +43,9 @@ returns-2 c =
     let s = c .before .before .before .before .before .before in
     let k = c .before .before .before .before .side-of in
     let y = c .before .before .beside in
-    let i = next-in (s .args .rows) (s .args .columns) (s .args .direction .now) (s .pre .0 .directed) (s .args .x) (s .pre .1) (k .result) (k .ensures) (c .before .before .before .if1 .left) in
+    let i = next-in (s .pre .0 .directed) (s .args .x) (s .pre .1) (k .result) (k .ensures) (c .before .before .before .if1 .left) in
     c .steep-of .ensures ∙ ap (steepOf (k .result)) (c .before .drop-of .ensures)
-    ∙ steepness-is (s .args .rows) (s .args .columns) (s .args .direction .now) (s .pre .0 .directed) (s .args .x) (s .pre .1) (levelsOf (s .args .filled .now)) (k .result) (y .result) (k .ensures) (c .before .before .before .if1 .left) (y .ensures ∙ beside-is (s .args .rows) (s .args .columns) (s .args .x) (k .result) i)
+    ∙ steepness-is (s .pre .0 .directed) (s .args .x) (s .pre .1) (levelsOf (s .args .filled .now)) (k .result) (y .result) (k .ensures) (c .before .before .before .if1 .left) (y .ensures ∙ beside-is (s .args .rows) (s .args .columns) (s .args .x) (k .result) i)
 
 pub steepness-spec : {M : Type 1} → statement M
 steepness-spec =
