@@ -125,12 +125,6 @@ fn read_tail(s: &[u8], p: usize, q: usize) -> Tail
     requires { ⌜ (p ≤ length (now s)) × (q ≡ run digit (now s) p 2) ⌝ }
     ensures { λ r. ⌜ TailFrom (now (s .entry)) p (r .end) (r .fine) ⌝ }
 {
-    if ends(s, q) {
-        return Tail {
-            end: q,
-            fine: false,
-        };
-    }
     if q - p < 2 {
         return Tail {
             end: q,
@@ -170,6 +164,14 @@ fn read_decimals(s: &[u8], minus: bool, size: u64, p: usize) -> Form
     let q = h.end;
     if q == p {
         return Form::Malformed { at: p };
+    }
+    if ends(s, q) {
+        return Form::Number {
+            minus,
+            size: size + h.value,
+            fine: false,
+            end: q,
+        };
     }
     let t = read_tail(s, p, q);
     let f = t.end;
