@@ -3,7 +3,7 @@ use mathlib.Core.Path.{_≡_, refl}
 use mathlib.Core.List.{List, [], _∷_, map}
 use Prim.Native.Nat.{ℕ}
 use Prim.Native.String.{String}
-use lib.IntN.{ℤ, pos, negsuc, negℤ}
+use lib.IntN.{ℤ, pos, negℤ}
 use lib.ListN.{replicate}
 use Rattle.text.specs.Bytes.{bytes}
 use Rattle.text.specs.Reader.{Step, got, refused}
@@ -11,7 +11,7 @@ use Rattle.text.specs.Words.{run, wordStart, wordEnd, word}
 use Rattle.text.specs.Numbers.{Placed, value, countAt, decimals, numberAt, count, number, measure}
 use Rattle.text.specs.Headers.{named, name, corner, side, field, anyMeasure, noData, extent, corners, sideAndNoData, header}
 use Rattle.text.specs.Heights.{height, heights, end, body, grid}
-use Rattle.text.specs.Answers.{Outcome, GridOutcome, headerAnswer, gridAnswer}
+use Rattle.text.specs.Answers.{GridOutcome, headerAnswer, gridAnswer}
 
 -- ---- numbers, each as the only word of a text
 

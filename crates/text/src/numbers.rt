@@ -1,10 +1,10 @@
 // Numbers, read from their first byte in one pass: a sign, whole digits, a point, decimals, and the word's end.
 ghost use mathlib.Core.Path.{_≡_};
 ghost use mathlib.Core.Bool.{true};
-ghost use Prim.Native.Nat.{_+_, _-_, _*_, _^_, _≤_, _<_};
-ghost use lib.Dec.{eqb, ltb};
+ghost use Prim.Native.Nat.{_+_, _-_, _*_, _≤_, _<_};
+ghost use lib.Dec.{eqb};
 ghost use lib.ListN.{length, getD};
-ghost use Rattle.text.specs.Words.{run, solid, wordStart, wordEnd};
+ghost use Rattle.text.specs.Words.{run, solid, wordEnd};
 ghost use Rattle.text.specs.Numbers.{digit, digitOf, zero, afterSign, value, numberAt, decimals, centimetres, number};
 ghost use Rattle.text.specs.Numbers as D;
 ghost use Rattle.text.specs.Inner.{Limit, DigitsFrom, HundredthsFrom, TailFrom, Parsed, numberedOf, Sized, measuredOf, countedOf, CountFits};
