@@ -1,3 +1,10 @@
 pub mod Tests
 pub mod Signed
 pub mod Filling
+pub mod Lists
+pub mod Sums
+pub mod First
+pub mod Search
+pub mod Pigeon
+pub mod Settle
+pub mod Raise

@@ -1,0 +1,17 @@
+pub mod Neighbours
+pub mod Filling
+pub mod Surfaces
+pub mod Flats
+pub mod Directions
+pub mod Trails
+pub mod Counting
+pub mod Following
+pub mod Drainage
+pub mod Answers
+pub mod Accepted
+pub mod Interior
+pub mod Flooding
+pub mod Stepping
+pub mod Falls
+pub mod Surveying
+pub mod Fields

@@ -1,0 +1,450 @@
+-- Trails along directions on which some number falls: they end, with fewer steps than cells; counts come from the cells that point at a cell; what leaves the map is what
+-- is on it. Assumes nothing.
+use mathlib.Core.Path.{_≡_, refl, sym, ap, ap₂, subst, _∙_}
+use mathlib.Core.List.{List}
+use mathlib.Core.Logic.{⊎-elim}
+use mathlib.Core.Bool.{Bool, true, false, cond, not, _&&_, true≢false}
+use Prim.Native.Nat.{ℕ, zero, suc, _+_, _*_, _≤_, _<_}
+use native.Mathlib.Omega.{arith}
+use native.Mathlib.Decide.{decLt, ℕ-discrete}
+use lib.ListN.{length, getD, List·getD-eq-default}
+use lib.Dec.{eqb}
+use borrow.Author.Tests.{ltb-true, lt-ltb, le-ltb, eqb-true, eqb-false, eq-eqb, ne-eqb, not-true}
+use Rattle.laws.specs.Sums.{sumTo, when}
+use Rattle.laws.specs.Raise.{Rule}
+use Rattle.laws.proofs.Tests.{two, and-both}
+use Rattle.laws.proofs.Lists.{length-tab, getD-tab}
+use Rattle.laws.proofs.Pigeon.{pigeon}
+use Rattle.laws.proofs.Sums.{sum-ext, sum-le, sum-zero, sum-ones, sum-add, sum-swap, sum-one, sum-when, when-yes, when-no, when-zero, when-swap, when-add, when-le, when-ext, when-under}
+use Rattle.terrain.specs.Cells.{neighbour, codeOf, sideOf}
+use Rattle.terrain.specs.Trail.{Trail, ends, goes, steps, mappedAt, flowsAt, nextAt, stepsIn, passesIn, countAt, countsOf, intoAt, countOffer}
+use Rattle.terrain.proofs.Neighbours.{across, across-small, side-code, code-side, code-small, side-leaves, neighbour-back, neighbour-only}
+
+-- ---- one step
+
+module _ (rows cols : ℕ) (dir : List ℕ) where
+  pub mapped-is : (x : ℕ) → mappedAt rows cols dir x ≡ true → getD dir x 255 ≡ 255 → ⊥
+  unfolding mappedAt
+  mapped-is x e q = eqb-false (getD dir x 255) 255 (not-true (eqb (getD dir x 255) 255) e) q
+
+  pub is-mapped : (x : ℕ) → (getD dir x 255 ≡ 255 → ⊥) → mappedAt rows cols dir x ≡ true
+  unfolding mappedAt
+  is-mapped x d = ap not (ne-eqb (getD dir x 255) 255 d)
+
+  pub mapped-none : (x : ℕ) → getD dir x 255 ≡ 255 → mappedAt rows cols dir x ≡ false
+  unfolding mappedAt
+  mapped-none x e = ap not (eq-eqb (getD dir x 255) 255 e)
+
+  -- a cell with the code of a side goes on to the neighbour there
+  pub code-flows : (x k : ℕ) → k < 8 → getD dir x 255 ≡ codeOf k → flowsAt rows cols dir x ≡ true
+  unfolding flowsAt
+  code-flows x k h e = lt-ltb (sideOf (getD dir x 255)) 8 (omega (arith, ap sideOf e ∙ side-code k h))
+
+  pub code-next : (x k : ℕ) → k < 8 → getD dir x 255 ≡ codeOf k → nextAt rows cols dir x ≡ neighbour rows cols x k
+  unfolding nextAt
+  code-next x k h e = ap (neighbour rows cols x) (ap sideOf e ∙ side-code k h)
+
+  pub flows-code : (x : ℕ) → flowsAt rows cols dir x ≡ true → (sideOf (getD dir x 255) < 8) × (getD dir x 255 ≡ codeOf (sideOf (getD dir x 255)))
+  unfolding flowsAt
+  flows-code x e = let l = ltb-true (sideOf (getD dir x 255)) 8 e in (l, code-side (getD dir x 255) l)
+
+  pub zero-stops : (x : ℕ) → getD dir x 255 ≡ 0 → flowsAt rows cols dir x ≡ false
+  unfolding flowsAt
+  zero-stops x e = le-ltb (sideOf (getD dir x 255)) 8 (omega (arith, ap sideOf e ∙ side-leaves))
+
+  pub flows-mapped : (x : ℕ) → flowsAt rows cols dir x ≡ true → mappedAt rows cols dir x ≡ true
+  flows-mapped x e = is-mapped x (λ q. omega (arith, flows-code x e .1, code-small (sideOf (getD dir x 255))))
+
+-- ---- a number that falls along every trail
+
+pub record Falls (rows cols : ℕ) (dir : List ℕ) (pot : ℕ → ℕ) : Type 0 where
+  pub long : length dir ≡ rows * cols
+  pub stays : (x : ℕ) → flowsAt rows cols dir x ≡ true → mappedAt rows cols dir (nextAt rows cols dir x) ≡ true
+  pub less : (x : ℕ) → flowsAt rows cols dir x ≡ true → pot (nextAt rows cols dir x) < pot x
+
+module _ (rows cols : ℕ) (dir : List ℕ) where
+  abbrev n : ℕ
+  n = rows * cols
+
+  abbrev valid : ℕ → Bool
+  valid = mappedAt rows cols dir
+
+  abbrev flows : ℕ → Bool
+  flows = flowsAt rows cols dir
+
+  abbrev next : ℕ → ℕ
+  next = nextAt rows cols dir
+
+  pub mapped-in : length dir ≡ rows * cols → (x : ℕ) → mappedAt rows cols dir x ≡ true → x < rows * cols
+  mapped-in e x v = elim (decLt x (rows * cols)) [ yes h ↦ h | no f ↦ absurd (mapped-is rows cols dir x v (List·getD-eq-default dir 255 {n = x} (omega arith))) ]
+
+  -- ---- the steps of a trail
+
+  pub steps-none : (x : ℕ) → stepsIn rows cols dir 0 x ≡ 0
+  unfolding stepsIn
+  steps-none x = refl
+
+  pub steps-end : (m x : ℕ) → flowsAt rows cols dir x ≡ false → stepsIn rows cols dir m x ≡ 0
+  unfolding stepsIn
+  steps-end zero x q = refl
+  steps-end (suc m) x q = ap (λ (b : Bool). cond b (stepsIn rows cols dir m (next x) + 1) 0) q
+
+  pub steps-next : (m x : ℕ) → flowsAt rows cols dir x ≡ true → stepsIn rows cols dir (suc m) x ≡ stepsIn rows cols dir m (nextAt rows cols dir x) + 1
+  unfolding stepsIn
+  steps-next m x q = ap (λ (b : Bool). cond b (stepsIn rows cols dir m (next x) + 1) 0) q
+
+  pub steps-le : (m x : ℕ) → stepsIn rows cols dir m x ≤ m
+  steps-le zero x = omega (arith, steps-none x)
+  steps-le (suc m) x = ⊎-elim (λ q. omega (arith, steps-next m x q, steps-le m (next x))) (λ q. omega (arith, steps-end (suc m) x q)) (two (flows x))
+
+  -- fewer steps than allowed: the trail has ended
+  steps-stay : (m x : ℕ) → stepsIn rows cols dir m x < m → stepsIn rows cols dir (suc m) x ≡ stepsIn rows cols dir m x
+  steps-stay zero x h = absurd (omega arith)
+  steps-stay (suc m) x h =
+      ⊎-elim (λ q. omega (arith, steps-next m x q, steps-next (suc m) x q, steps-stay m (next x) (omega (arith, steps-next m x q))))
+      (λ q. steps-end (suc (suc m)) x q ∙ sym (steps-end (suc m) x q)) (two (flows x))
+
+  -- the cell after i steps
+  along : ℕ → ℕ → ℕ
+  along zero x = x
+  along (suc i) x = along i (next x)
+
+  -- the trail makes m steps
+  abbrev Goes : ℕ → ℕ → Type 0
+  Goes zero x = Unit {0}
+  Goes (suc m) x = (flows x ≡ true) × Goes m (next x)
+
+  steps-goes : (m x : ℕ) → Goes (stepsIn rows cols dir m x) x
+  steps-goes zero x = subst (λ (s : ℕ). Goes s x) (sym (steps-none x)) tt
+  steps-goes (suc m) x =
+      ⊎-elim (λ q. let e : stepsIn rows cols dir (suc m) x ≡ suc (stepsIn rows cols dir m (next x)) = omega (arith, steps-next m x q) in subst (λ (s : ℕ). Goes s x) (sym e) (go q (steps-goes m (next x))))
+      (λ q. subst (λ (s : ℕ). Goes s x) (sym (steps-end (suc m) x q)) tt) (two (flows x))
+    where
+      go : flows x ≡ true → Goes (stepsIn rows cols dir m (next x)) (next x) → Goes (suc (stepsIn rows cols dir m (next x))) x
+      go q r = (q, r)
+
+  -- ---- a trail that passes a cell
+
+  passes-self : (m x z : ℕ) → x ≡ z → passesIn rows cols dir m x z ≡ 1
+  unfolding passesIn
+  passes-self zero x z e = ap (λ (b : Bool). cond b 1 0) (eq-eqb x z e)
+  passes-self (suc m) x z e = ap (λ (b : Bool). cond b 1 (cond (flows x) (passesIn rows cols dir m (next x) z) 0)) (eq-eqb x z e)
+
+  passes-next : (m x z : ℕ) → (x ≡ z → ⊥) → flows x ≡ true → passesIn rows cols dir (suc m) x z ≡ passesIn rows cols dir m (next x) z
+  unfolding passesIn
+  passes-next m x z d q = ap₂ (λ (b c : Bool). cond b 1 (cond c (passesIn rows cols dir m (next x) z) 0)) (ne-eqb x z d) q
+
+  passes-end : (m x z : ℕ) → (x ≡ z → ⊥) → flows x ≡ false → passesIn rows cols dir m x z ≡ 0
+  unfolding passesIn
+  passes-end zero x z d q = ap (λ (b : Bool). cond b 1 0) (ne-eqb x z d)
+  passes-end (suc m) x z d q = ap₂ (λ (b c : Bool). cond b 1 (cond c (passesIn rows cols dir m (next x) z) 0)) (ne-eqb x z d) q
+
+  passes-none : (x z : ℕ) → (x ≡ z → ⊥) → passesIn rows cols dir 0 x z ≡ 0
+  unfolding passesIn
+  passes-none x z d = ap (λ (b : Bool). cond b 1 0) (ne-eqb x z d)
+
+  passes-le : (m x z : ℕ) → passesIn rows cols dir m x z ≤ 1
+  passes-le zero x z = elim (ℕ-discrete x z) [ yes e ↦ omega (arith, passes-self zero x z e) | no d ↦ omega (arith, passes-none x z d) ]
+  passes-le (suc m) x z =
+      elim (ℕ-discrete x z) [
+        | yes e ↦ omega (arith, passes-self (suc m) x z e)
+        | no d ↦ ⊎-elim (λ q. omega (arith, passes-next m x z d q, passes-le m (next x) z)) (λ q. omega (arith, passes-end (suc m) x z d q)) (two (flows x))
+      ]
+
+  -- a count is at most the number of cells
+  pub count-le : (z : ℕ) → countAt rows cols dir z ≤ rows * cols
+  unfolding countAt
+  count-le z = sum-ones n (λ x. when (valid x) (passesIn rows cols dir n x z)) (λ x l. omega (arith, when-under (valid x) (passesIn rows cols dir n x z), passes-le n x z))
+
+  module _ (pot : ℕ → ℕ) (falls : Falls rows cols dir pot) where
+    along-valid : (m x i : ℕ) → Goes m x → valid x ≡ true → i ≤ m → valid (along i x) ≡ true
+    unfolding along
+    along-valid m x zero g v h = v
+    along-valid zero x (suc i) g v h = absurd (omega arith)
+    along-valid (suc m) x (suc i) g v h = along-valid m (next x) i (g .1) (falls .stays x (g .0)) (omega arith)
+
+    along-le : (m x i : ℕ) → Goes m x → i ≤ m → pot (along i x) ≤ pot x
+    unfolding along
+    along-le m x zero g h = omega arith
+    along-le zero x (suc i) g h = absurd (omega arith)
+    along-le (suc m) x (suc i) g h = omega (arith, along-le m (next x) i (g .1) (omega arith), falls .less x (g .0))
+
+    along-less : (m x i j : ℕ) → Goes m x → i < j → j ≤ m → pot (along j x) < pot (along i x)
+    unfolding along
+    along-less zero x i j g l h = absurd (omega arith)
+    along-less (suc m) x i zero g l h = absurd (omega arith)
+    along-less (suc m) x zero (suc j) g l h = omega (arith, along-le m (next x) j (g .1) (omega arith), falls .less x (g .0))
+    along-less (suc m) x (suc i) (suc j) g l h = along-less m (next x) i j (g .1) (omega arith) (omega arith)
+
+    -- a trail has fewer steps than the grid has cells
+    pub steps-below : (m x : ℕ) → mappedAt rows cols dir x ≡ true → stepsIn rows cols dir m x < rows * cols
+    steps-below m x v =
+        let s = stepsIn rows cols dir m x in
+        let g = steps-goes m x in
+        pigeon n (suc s) (λ i. along i x)
+        (record {
+          below = (λ i h. mapped-in (falls .long) (along i x) (along-valid s x i g v (omega arith)));
+          differ = (λ i j l h e. omega (arith, along-less s x i j g l (omega arith), ap pot e));
+        })
+
+    -- the steps left fall by one at each step
+    pub rank-next : (x : ℕ) → flowsAt rows cols dir x ≡ true → stepsIn rows cols dir (rows * cols) x ≡ stepsIn rows cols dir (rows * cols) (nextAt rows cols dir x) + 1
+    rank-next x q = sym (steps-stay n x (steps-below n x (flows-mapped rows cols dir x q))) ∙ steps-next n x q
+
+    pub rank-falls : Falls rows cols dir (stepsIn rows cols dir (rows * cols))
+    rank-falls = record { long = falls .long; stays = falls .stays; less = (λ x q. omega (arith, rank-next x q)) }
+
+    -- each valid cell has a trail, which ends
+    trail-below : (m x : ℕ) → pot x < m → valid x ≡ true → ((y : ℕ) → valid y ≡ true → flows y ≡ false → getD dir y 255 ≡ 0) → Trail rows cols dir x
+    trail-below zero x h v z = absurd (omega arith)
+    trail-below (suc m) x h v z = ⊎-elim (λ q. on q (trail-below m (next x) (omega (arith, falls .less x q)) (falls .stays x q) z)) (λ q. ends x (z x v q)) (two (flows x))
+      where
+        on : flows x ≡ true → Trail rows cols dir (next x) → Trail rows cols dir x
+        on q t = let c = flows-code rows cols dir x q in goes x (sideOf (getD dir x 255)) (c .0) (c .1) (subst (Trail rows cols dir) (code-next rows cols dir x (sideOf (getD dir x 255)) (c .0) (c .1)) t)
+
+    pub trail-of : ((y : ℕ) → mappedAt rows cols dir y ≡ true → flowsAt rows cols dir y ≡ false → getD dir y 255 ≡ 0) → (x : ℕ) → mappedAt rows cols dir x ≡ true → Trail rows cols dir x
+    trail-of z x v = trail-below (suc (pot x)) x (omega arith) v z
+
+    -- the computed steps are those of the trail
+    pub trail-steps : {x : ℕ} (t : Trail rows cols dir x) → stepsIn rows cols dir (rows * cols) x ≡ steps rows cols dir t
+    trail-steps (ends x e) = steps-end n x (zero-stops rows cols dir x e)
+    trail-steps (goes x k h e t) = omega (arith, rank-next x (code-flows rows cols dir x k h e), ap (stepsIn rows cols dir n) (code-next rows cols dir x k h e), trail-steps t)
+
+-- ---- counts, by a falling number that is at most the number of cells
+
+module _ (rows cols : ℕ) (dir : List ℕ) (pot : ℕ → ℕ) (falls : Falls rows cols dir pot) where
+  abbrev hits : ℕ → ℕ → ℕ → ℕ
+  hits = passesIn rows cols dir
+
+  abbrev goesOn : ℕ → Bool
+  goesOn = flowsAt rows cols dir
+
+  abbrev to : ℕ → ℕ
+  to = nextAt rows cols dir
+
+  abbrev cell : ℕ → Bool
+  cell = mappedAt rows cols dir
+
+  abbrev size : ℕ
+  size = rows * cols
+
+  -- a trail meets only lower cells after its first
+  hits-above : (m x z : ℕ) → pot x < pot z → hits m x z ≡ 0
+  hits-above zero x z h = passes-none rows cols dir x z (λ e. omega (arith, ap pot e))
+  hits-above (suc m) x z h =
+      ⊎-elim (λ q. passes-next rows cols dir m x z (λ e. omega (arith, ap pot e)) q ∙ hits-above m (to x) z (omega (arith, falls .less x q)))
+      (λ q. passes-end rows cols dir (suc m) x z (λ e. omega (arith, ap pot e)) q) (two (goesOn x))
+
+  -- a cell where trails leave
+  abbrev pub leavesAt : ℕ → Bool
+  leavesAt z = cond (mappedAt rows cols dir z) (not (flowsAt rows cols dir z)) false
+
+  flow-stays : (z : ℕ) → goesOn z ≡ true → leavesAt z ≡ false
+  flow-stays z q = ap₂ (λ (a b : Bool). cond a (not b) false) (flows-mapped rows cols dir z q) q
+
+  stop-leaves : (x : ℕ) → cell x ≡ true → goesOn x ≡ false → leavesAt x ≡ true
+  stop-leaves x v q = ap₂ (λ (a b : Bool). cond a (not b) false) v q
+
+  -- each trail passes one cell where trails leave
+  ended : (m x : ℕ) → cell x ≡ true → goesOn x ≡ false → sumTo size (λ z. when (leavesAt z) (hits m x z)) ≡ 1
+  ended m x v q =
+      sum-one size (λ z. when (leavesAt z) (hits m x z)) x (mapped-in rows cols dir (falls .long) x v) (λ z l d. ap (when (leavesAt z)) (passes-end rows cols dir m x z (λ e. d (sym e)) q) ∙ when-zero (leavesAt z))
+      ∙ when-yes (hits m x x) (stop-leaves x v q) ∙ passes-self rows cols dir m x x refl
+
+  onward : (m x z : ℕ) → goesOn x ≡ true → when (leavesAt z) (hits (suc m) x z) ≡ when (leavesAt z) (hits m (to x) z)
+  onward m x z q =
+      ⊎-elim (λ e. ap (when (leavesAt z)) (passes-next rows cols dir m x z (λ p. true≢false (sym e ∙ ap leavesAt (sym p) ∙ flow-stays x q)) q))
+      (λ e. when-no _ e ∙ sym (when-no _ e)) (two (leavesAt z))
+
+  leaves-once : (m x : ℕ) → pot x ≤ m → cell x ≡ true → sumTo size (λ z. when (leavesAt z) (hits m x z)) ≡ 1
+  leaves-once zero x h v = ⊎-elim (λ q. absurd (omega (arith, falls .less x q))) (ended zero x v) (two (goesOn x))
+  leaves-once (suc m) x h v =
+      ⊎-elim (λ q. sum-ext size (λ z. when (leavesAt z) (hits (suc m) x z)) (λ z. when (leavesAt z) (hits m (to x) z)) (λ z l. onward m x z q) ∙ leaves-once m (to x) (omega (arith, falls .less x q)) (falls .stays x q))
+      (ended (suc m) x v) (two (goesOn x))
+
+  module _ (bound : (x : ℕ) → pot x ≤ rows * cols) where
+    -- what leaves the map is what is on it
+    pub total-leaves : sumTo (rows * cols) (λ z. when (leavesAt z) (countAt rows cols dir z)) ≡ sumTo (rows * cols) (λ x. when (mappedAt rows cols dir x) 1)
+    unfolding countAt
+    total-leaves =
+        sum-ext size (λ z. when (leavesAt z) (countAt rows cols dir z)) (λ z. sumTo size (λ x. when (leavesAt z) (when (cell x) (hits size x z)))) (λ z l. sum-when size (leavesAt z) (λ x. when (cell x) (hits size x z)))
+        ∙ sum-swap size size (λ z x. when (leavesAt z) (when (cell x) (hits size x z)))
+        ∙ sum-ext size (λ x. sumTo size (λ z. when (leavesAt z) (when (cell x) (hits size x z)))) (λ x. when (cell x) 1) (λ x l.
+        sum-ext size (λ z. when (leavesAt z) (when (cell x) (hits size x z))) (λ z. when (cell x) (when (leavesAt z) (hits size x z))) (λ z q. when-swap (leavesAt z) (cell x) (hits size x z))
+        ∙ sym (sum-when size (cell x) (λ z. when (leavesAt z) (hits size x z)))
+        ∙ ⊎-elim (λ v. ap (when (cell x)) (leaves-once size x (bound x) v)) (λ v. when-no _ v ∙ sym (when-no _ v)) (two (cell x)))
+
+    -- ---- the count of a cell from those of the cells that point at it
+
+    abbrev nb : ℕ → ℕ → ℕ
+    nb = neighbour rows cols
+
+    abbrev into : ℕ → ℕ → Bool
+    into = intoAt rows cols dir
+
+    pub into-flows : (z k : ℕ) → intoAt rows cols dir z k ≡ true → (flowsAt rows cols dir (neighbour rows cols z k) ≡ true) × (nextAt rows cols dir (neighbour rows cols z k) ≡ z)
+    unfolding intoAt
+    into-flows z k e = let w = and-both (goesOn (nb z k)) (eqb (to (nb z k)) z) e in (w .0, eqb-true (to (nb z k)) z (w .1))
+
+    flows-into : (z k : ℕ) → goesOn (nb z k) ≡ true → to (nb z k) ≡ z → into z k ≡ true
+    unfolding intoAt
+    flows-into z k q e = ap₂ _&&_ q (eq-eqb (to (nb z k)) z e)
+
+    abbrev side : ℕ → ℕ
+    side x = across (sideOf (getD dir x 255))
+
+    side-small : (x : ℕ) → goesOn x ≡ true → side x < 8
+    side-small x q = across-small (sideOf (getD dir x 255)) (flows-code rows cols dir x q .0)
+
+    inside : (x : ℕ) → cell x ≡ true → x < rows * cols
+    inside x v = mapped-in rows cols dir (falls .long) x v
+
+    here : (x : ℕ) → goesOn x ≡ true → x < rows * cols
+    here x q = inside x (flows-mapped rows cols dir x q)
+
+    to-is : (x : ℕ) → to x ≡ nb x (sideOf (getD dir x 255))
+    unfolding nextAt
+    to-is x = refl
+
+    side-back : (x : ℕ) → goesOn x ≡ true → nb (to x) (side x) ≡ x
+    side-back x q =
+        let k = sideOf (getD dir x 255) in
+        ap (λ (y : ℕ). nb y (across k)) (to-is x)
+        ∙ neighbour-back rows cols x k (here x q) (flows-code rows cols dir x q .0) (omega (arith, to-is x, inside (to x) (falls .stays x q)))
+
+    side-only : (x : ℕ) → goesOn x ≡ true → (k : ℕ) → k < 8 → nb (to x) k ≡ x → k ≡ side x
+    side-only x q k h e = neighbour-only rows cols (to x) k (side x) h (side-small x q) (omega (arith, e, here x q)) (e ∙ sym (side-back x q))
+
+    term-zero : (z k m : ℕ) → (into z k ≡ true → m ≡ 0) → when (into z k) m ≡ 0
+    term-zero z k m h = ⊎-elim (λ e. when-yes m e ∙ h e) (λ e. when-no m e) (two (into z k))
+
+    -- x is at one side of z if it points at z, and else at none
+    side-sum : (x z : ℕ) → goesOn x ≡ true → sumTo 8 (λ k. when (into z k) (when (eqb x (nb z k)) 1)) ≡ when (eqb (to x) z) 1
+    side-sum x z q = elim (ℕ-discrete (to x) z) [ yes e ↦ there e | no d ↦ sum-zero 8 _ (λ k l. term-zero z k _ (λ e. when-no 1 (ne-eqb x (nb z k) (λ p. d (ap to p ∙ into-flows z k e .1))))) ∙ sym (when-no 1 (ne-eqb (to x) z d)) ]
+      where
+        there : to x ≡ z → sumTo 8 (λ k. when (into z k) (when (eqb x (nb z k)) 1)) ≡ when (eqb (to x) z) 1
+        there e =
+            let b : nb z (side x) ≡ x = ap (λ (y : ℕ). nb y (side x)) (sym e) ∙ side-back x q in
+            sum-one 8 (λ k. when (into z k) (when (eqb x (nb z k)) 1)) (side x) (side-small x q)
+            (λ k l d. term-zero z k _ (λ t. when-no 1 (ne-eqb x (nb z k) (λ p. d (side-only x q k l (ap (λ (y : ℕ). nb y k) e ∙ sym p))))))
+            ∙ when-yes _ (flows-into z (side x) (ap goesOn b ∙ q) (ap to b ∙ e))
+            ∙ when-yes 1 (eq-eqb x (nb z (side x)) (sym b)) ∙ sym (when-yes 1 (eq-eqb (to x) z e))
+
+    hits-split : (m x y : ℕ) → goesOn x ≡ true → hits (suc m) x y ≡ when (eqb x y) 1 + hits m (to x) y
+    hits-split m x y q =
+        elim (ℕ-discrete x y) [
+          | yes e ↦ omega (arith, passes-self rows cols dir (suc m) x y e, when-yes 1 (eq-eqb x y e), hits-above m (to x) y (omega (arith, falls .less x q, ap pot e)))
+          | no d ↦ omega (arith, passes-next rows cols dir m x y d q, when-no 1 (ne-eqb x y d))
+        ]
+
+    abbrev inflow : ℕ → ℕ → ℕ → ℕ
+    inflow m x z = sumTo 8 (λ k. when (into z k) (hits m x (nb z k)))
+
+    local-self : (m x z : ℕ) → x ≡ z → hits m x z ≡ when (eqb x z) 1 + inflow m x z
+    local-self m x z e =
+        omega (
+          arith,
+          passes-self rows cols dir m x z e,
+          when-yes 1 (eq-eqb x z e),
+          sum-zero 8 (λ k. when (into z k) (hits m x (nb z k))) (λ k l. term-zero z k (hits m x (nb z k)) (λ t. hits-above m x (nb z k) (omega (arith, falls .less (nb z k) (into-flows z k t .0), ap pot (into-flows z k t .1), ap pot e)))),
+        )
+
+    local-end : (m x z : ℕ) → (x ≡ z → ⊥) → goesOn x ≡ false → hits m x z ≡ when (eqb x z) 1 + inflow m x z
+    local-end m x z d q =
+        omega (
+          arith,
+          passes-end rows cols dir m x z d q,
+          when-no 1 (ne-eqb x z d),
+          sum-zero 8 (λ k. when (into z k) (hits m x (nb z k))) (λ k l. term-zero z k (hits m x (nb z k)) (λ t. passes-end rows cols dir m x (nb z k) (λ p. true≢false (sym (into-flows z k t .0) ∙ ap goesOn (sym p) ∙ q)) q)),
+        )
+
+    inflow-split : (m x z : ℕ) → goesOn x ≡ true → inflow (suc m) x z ≡ when (eqb (to x) z) 1 + inflow m (to x) z
+    inflow-split m x z q =
+        sum-ext 8 (λ k. when (into z k) (hits (suc m) x (nb z k))) (λ k. when (into z k) (when (eqb x (nb z k)) 1) + when (into z k) (hits m (to x) (nb z k))) (λ k l. ap (when (into z k)) (hits-split m x (nb z k) q) ∙ when-add (into z k) (when (eqb x (nb z k)) 1) (hits m (to x) (nb z k)))
+        ∙ sum-add 8 (λ k. when (into z k) (when (eqb x (nb z k)) 1)) (λ k. when (into z k) (hits m (to x) (nb z k)))
+        ∙ ap (λ (j : ℕ). j + inflow m (to x) z) (side-sum x z q)
+
+    hits-local : (m x z : ℕ) → pot x ≤ m → hits m x z ≡ when (eqb x z) 1 + inflow m x z
+    hits-local zero x z h =
+        elim (ℕ-discrete x z) [ yes e ↦ local-self zero x z e | no d ↦ ⊎-elim (λ q. absurd (omega (arith, falls .less x q))) (local-end zero x z d) (two (goesOn x)) ]
+    hits-local (suc m) x z h =
+        elim (ℕ-discrete x z) [
+          | yes e ↦ local-self (suc m) x z e
+          | no d ↦ ⊎-elim (λ q. omega (arith, passes-next rows cols dir m x z d q, when-no 1 (ne-eqb x z d), inflow-split m x z q, hits-local m (to x) z (omega (arith, falls .less x q)))) (local-end (suc m) x z d) (two (goesOn x))
+        ]
+
+    -- a valid cell counts itself, and what the cells that point at it count
+    pub count-local : (z : ℕ) → mappedAt rows cols dir z ≡ true → countAt rows cols dir z ≡ 1 + sumTo 8 (λ k. when (intoAt rows cols dir z k) (countAt rows cols dir (neighbour rows cols z k)))
+    unfolding countAt
+    count-local z v =
+        sum-ext size (λ x. when (cell x) (hits size x z)) (λ x. when (cell x) (when (eqb x z) 1) + when (cell x) (inflow size x z)) (λ x l. ap (when (cell x)) (hits-local size x z (bound x)) ∙ when-add (cell x) (when (eqb x z) 1) (inflow size x z))
+        ∙ sum-add size (λ x. when (cell x) (when (eqb x z) 1)) (λ x. when (cell x) (inflow size x z))
+        ∙ ap₂ _+_ self rest
+      where
+        self : sumTo size (λ x. when (cell x) (when (eqb x z) 1)) ≡ 1
+        self =
+            sum-one size (λ x. when (cell x) (when (eqb x z) 1)) z (inside z v) (λ x l d. ap (when (cell x)) (when-no 1 (ne-eqb x z d)) ∙ when-zero (cell x))
+            ∙ when-yes (when (eqb z z) 1) v ∙ when-yes 1 (eq-eqb z z refl)
+
+        rest : sumTo size (λ x. when (cell x) (inflow size x z)) ≡ sumTo 8 (λ k. when (into z k) (countAt rows cols dir (nb z k)))
+        rest =
+            sum-ext size (λ x. when (cell x) (inflow size x z)) (λ x. sumTo 8 (λ k. when (into z k) (when (cell x) (hits size x (nb z k))))) (λ x l.
+            sum-when 8 (cell x) (λ k. when (into z k) (hits size x (nb z k)))
+            ∙ sum-ext 8 (λ k. when (cell x) (when (into z k) (hits size x (nb z k)))) (λ k. when (into z k) (when (cell x) (hits size x (nb z k)))) (λ k q. when-swap (cell x) (into z k) (hits size x (nb z k))))
+            ∙ sum-swap size 8 (λ x k. when (into z k) (when (cell x) (hits size x (nb z k))))
+            ∙ sum-ext 8 (λ k. sumTo size (λ x. when (into z k) (when (cell x) (hits size x (nb z k))))) (λ k. when (into z k) (countAt rows cols dir (nb z k))) (λ k q. sym (sum-when size (into z k) (λ x. when (cell x) (hits size x (nb z k)))))
+
+    -- ---- the grid of counts is what raising to the offers gives
+
+    pub counts-long : length (countsOf rows cols dir) ≡ rows * cols
+    unfolding countsOf
+    counts-long = length-tab (rows * cols) _
+
+    pub counts-at : (z : ℕ) → z < rows * cols → getD (countsOf rows cols dir) z 0 ≡ when (mappedAt rows cols dir z) (countAt rows cols dir z)
+    unfolding countsOf
+    counts-at z h = getD-tab (rows * cols) (λ y. when (cell y) (countAt rows cols dir y)) 0 z h
+
+    -- the count of a cell that points at another
+    into-count : (z k : ℕ) → into z k ≡ true → getD (countsOf rows cols dir) (nb z k) 0 ≡ countAt rows cols dir (nb z k)
+    into-count z k e = let v = flows-mapped rows cols dir (nb z k) (into-flows z k e .0) in counts-at (nb z k) (inside (nb z k) v) ∙ when-yes (countAt rows cols dir (nb z k)) v
+
+    -- and it stands higher
+    pub into-above : (z k : ℕ) → intoAt rows cols dir z k ≡ true → pot z < pot (neighbour rows cols z k)
+    into-above z k e = let w = into-flows z k e in omega (arith, falls .less (nb z k) (w .0), ap pot (w .1))
+
+    pub count-fix : (z : ℕ) → z < rows * cols → countOffer rows cols dir (countsOf rows cols dir) z ≡ getD (countsOf rows cols dir) z 0
+    unfolding countOffer
+    count-fix z h =
+        when-ext (cell z) (1 + sumTo 8 (λ k. when (into z k) (getD (countsOf rows cols dir) (nb z k) 0))) (countAt rows cols dir z) (λ v.
+        ap (λ (m : ℕ). 1 + m) (sum-ext 8 (λ k. when (into z k) (getD (countsOf rows cols dir) (nb z k) 0)) (λ k. when (into z k) (countAt rows cols dir (nb z k))) (λ k l. when-ext (into z k) _ _ (into-count z k)))
+        ∙ sym (count-local z v))
+        ∙ sym (counts-at z h)
+
+    pub offer-le : (l m : List ℕ) (z : ℕ) → ((k : ℕ) → intoAt rows cols dir z k ≡ true → getD l (neighbour rows cols z k) 0 ≤ getD m (neighbour rows cols z k) 0) → countOffer rows cols dir l z ≤ countOffer rows cols dir m z
+    unfolding countOffer
+    offer-le l m z h =
+        when-le (cell z) (1 + sumTo 8 (λ k. when (into z k) (getD l (nb z k) 0))) (1 + sumTo 8 (λ k. when (into z k) (getD m (nb z k) 0)))
+        (λ v. omega (arith, sum-le 8 (λ k. when (into z k) (getD l (nb z k) 0)) (λ k. when (into z k) (getD m (nb z k) 0)) (λ k lt. when-le (into z k) (getD l (nb z k) 0) (getD m (nb z k) 0) (h k))))
+
+    pub count-rule : Rule (countsOf rows cols dir) (countOffer rows cols dir) pot (rows * cols)
+    count-rule =
+        record {
+          bounded = bound;
+          mono = (λ l u x h. omega (arith, offer-le l (countsOf rows cols dir) x (λ j e. u .under (nb x j)), count-fix x (omega (arith, counts-long))));
+          exact = (λ l u x h q. omega (arith, offer-le l (countsOf rows cols dir) x (λ j e. u .under (nb x j)), offer-le (countsOf rows cols dir) l x (λ j e. omega (arith, q (nb x j) (into-above x j e))), count-fix x (omega (arith, counts-long))));
+        }
+
+    -- ---- the test that a program makes: the neighbour at the side k points across
+
+    pub into-code : (z k : ℕ) → z < rows * cols → k < 8 → neighbour rows cols z k < rows * cols → intoAt rows cols dir z k ≡ eqb (getD dir (neighbour rows cols z k) 255) (codeOf (across k))
+    into-code z k i h y = ⊎-elim (λ e. e ∙ sym (eq-eqb (getD dir (nb z k) 255) (codeOf (across k)) (points e))) (λ e. e ∙ sym (ne-eqb (getD dir (nb z k) 255) (codeOf (across k)) (λ q. true≢false (sym (back q) ∙ e)))) (two (into z k))
+      where
+        back : getD dir (nb z k) 255 ≡ codeOf (across k) → into z k ≡ true
+        back q = flows-into z k (code-flows rows cols dir (nb z k) (across k) (across-small k h) q) (code-next rows cols dir (nb z k) (across k) (across-small k h) q ∙ neighbour-back rows cols z k i h y)
+
+        points : into z k ≡ true → getD dir (nb z k) 255 ≡ codeOf (across k)
+        points e =
+            let w = into-flows z k e in
+            let c = flows-code rows cols dir (nb z k) (w .0) in
+            c .1 ∙ ap codeOf (neighbour-only rows cols (nb z k) (sideOf (getD dir (nb z k) 255)) (across k) (c .0) (across-small k h)
+            (omega (arith, sym (to-is (nb z k)) ∙ w .1)) (sym (to-is (nb z k)) ∙ w .1 ∙ sym (neighbour-back rows cols z k i h y)))

@@ -1,0 +1,40 @@
+-- `terrain::cells::place_of` meets its contract. Assumes nothing.
+use mathlib.Core.Path.{_≡_, refl}
+use Prim.Native.Nat.{_+_, _*_}
+use lib.ListN.{getD}
+use Rattle.terrain.specs.Cells.{rowSteps, colSteps}
+use Rattle.terrain.proofs.Neighbours.{each-side}
+use native.Mathlib.Omega.{arith}
+use Rattle.terrain.proofs.cells.place_of.Statement.{statement}
+use Rattle.terrain.proofs.cells.place_of.Tie as tie
+
+returns : tie.Need-returns
+returns c = let e : c .before .args .k ≡ 0 = omega arith in rw e
+
+returns-2 : tie.Need-returns-2
+returns-2 c = let e : c .before .args .k ≡ 1 = omega arith in rw e
+
+returns-3 : tie.Need-returns-3
+returns-3 c = let e : c .before .args .k ≡ 2 = omega arith in rw e
+
+returns-4 : tie.Need-returns-4
+returns-4 c = let e : c .before .args .k ≡ 3 = omega arith in rw e
+
+returns-5 : tie.Need-returns-5
+returns-5 c = let e : c .before .args .k ≡ 4 = omega arith in rw e
+
+returns-6 : tie.Need-returns-6
+returns-6 c = let e : c .before .args .k ≡ 5 = omega arith in rw e
+
+returns-7 : tie.Need-returns-7
+returns-7 c = let e : c .before .args .k ≡ 6 = omega arith in rw e
+
+returns-8 : tie.Need-returns-8
+returns-8 c =
+    let r = c .match .rest in
+    each-side (λ j. c .before .args .k ≡ j → 2 ≡ getD rowSteps j 0 * 4 + getD colSteps j 0) (λ e. absurd (r .0 .0 .0 .0 .0 .0 .1 e)) (λ e. absurd (r .0 .0 .0 .0 .0 .1 e)) (λ e. absurd (r .0 .0 .0 .0 .1 e)) (λ e. absurd (r .0 .0 .0 .1 e)) (λ e. absurd (r .0 .0 .1 e)) (λ e. absurd (r .0 .1 e)) (λ e. absurd (r .1 e)) (λ e. refl) (c .before .args .k) (c .before .pre) refl
+
+pub place-of-spec : {M : Type 1} → statement M
+place-of-spec =
+    tie.close
+    (tie.spec returns returns-2 returns-3 returns-4 returns-5 returns-6 returns-7 returns-8)

@@ -1,0 +1,13 @@
+-- `terrain::is_size` meets its contract. Assumes nothing.
+use Rattle.terrain.proofs.Accepted.{size-none, size-some}
+use Rattle.terrain.proofs.is_size.Statement.{statement}
+use Rattle.terrain.proofs.is_size.Tie as tie
+
+returns : tie.Need-returns
+returns c = size-none (c .before .args .n) (c .if1 .taken)
+
+returns-2 : tie.Need-returns-2
+returns-2 c = size-some (c .before .args .n) (c .if1 .left)
+
+pub is-size-spec : {M : Type 1} → statement M
+is-size-spec = tie.close (tie.spec returns returns-2)

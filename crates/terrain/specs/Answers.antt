@@ -1,0 +1,114 @@
+-- Document 01, "Numbers of refusal": what the map call answers, and what each lent grid holds afterwards. Assumes nothing.
+use mathlib.Core.Path.{_≡_}
+use mathlib.Core.List.{List}
+use mathlib.Core.Bool.{Bool, not, cond, _&&_}
+use Prim.Native.Nat.{ℕ, _*_}
+use lib.ListN.{length, getD, replicate}
+use lib.IntN.{ℤ}
+use lib.Dec.{ltb, eqb}
+use Rattle.laws.specs.First.{firstOf}
+use Rattle.terrain.specs.Quantities.{noData, sizeAccepted, heightAccepted}
+use Rattle.terrain.specs.Cells.{levelsOf}
+use Rattle.terrain.specs.Filled.{filledLevels, filledOf}
+use Rattle.terrain.specs.Direction.{directionsOf}
+use Rattle.terrain.specs.Trail.{validsOf, countsOf, longestOf}
+use Rattle.terrain.specs.declared.Answer as Enum
+use Rattle.terrain.specs.declared.Answer.the-variants.{Accepted, Refused}
+
+-- the grids that a call is lent to write
+pub record Grids : Type 0 where
+  pub filled : List ℤ
+  pub direction : List ℕ
+  pub count : List ℕ
+  pub workspace : List ℕ
+
+pub record Answer : Type 0 where
+  pub number : ℕ
+  pub place : ℕ
+  pub valids : ℕ
+  pub longest : ℕ
+
+abbrev pub lent : List ℤ → List ℕ → List ℕ → List ℕ → Grids
+lent filled direction count workspace = record { filled = filled; direction = direction; count = count; workspace = workspace }
+
+-- "An accepted call has number and place 0."
+abbrev pub acceptance : ℕ → ℕ → Answer
+acceptance valids longest = record { number = 0; place = 0; valids = valids; longest = longest }
+
+-- "A refusal returns number and place with every other number 0."
+abbrev pub refusal : ℕ → ℕ → Answer
+refusal number place = record { number = number; place = place; valids = 0; longest = 0 }
+
+-- the number and the values of each case of the enum
+abbrev pub told : Enum.Answer → Answer
+told (Accepted valid longest) = acceptance valid longest
+told (Refused f) = refusal (f .number) (f .place)
+
+pub data Verdict : Type 0 where
+  accepted : Verdict
+  refused : ℕ → ℕ → Verdict
+
+-- every lent grid has n cells
+unfoldable pub allLong : ℕ → List ℤ → Grids → Bool
+allLong n ground g =
+    eqb (length ground) n && eqb (length (g .filled)) n && eqb (length (g .direction)) n && eqb (length (g .count)) n && eqb (length (g .workspace)) n
+
+-- the same as facts
+pub record Long (n : ℕ) (ground : List ℤ) (g : Grids) : Type 0 where
+  pub ground-long : length ground ≡ n
+  pub filled-long : length (g .filled) ≡ n
+  pub direction-long : length (g .direction) ≡ n
+  pub count-long : length (g .count) ≡ n
+  pub workspace-long : length (g .workspace) ≡ n
+
+-- the first cell whose height is out of range and not NoData; n where there is none
+unfoldable pub firstBad : ℕ → List ℤ → ℕ
+unfolding firstOf heightAccepted
+firstBad n ground = firstOf (λ x. not (heightAccepted (getD ground x noData))) n
+
+-- "The map call tests 1, 2, 3, 4, 5 in that order, 5 at the first bad cell in row order."
+unfoldable pub judge : ℕ → ℕ → List ℤ → Grids → Verdict
+unfolding sizeAccepted allLong firstBad
+judge rows cols ground g =
+    cond (sizeAccepted rows && sizeAccepted cols)
+    (cond (allLong (rows * cols) ground g)
+    (cond (ltb (firstBad (rows * cols) ground) (rows * cols)) (refused 5 (firstBad (rows * cols) ground)) accepted)
+    (refused 2 0))
+    (refused 1 0)
+
+-- the four results of an accepted call
+unfoldable pub directionOf : ℕ → ℕ → List ℤ → List ℕ
+unfolding filledLevels directionsOf
+directionOf rows cols ground = directionsOf rows cols (filledLevels rows cols ground)
+
+unfoldable pub countOf : ℕ → ℕ → List ℤ → List ℕ
+unfolding countsOf directionOf
+countOf rows cols ground = let dir = directionOf rows cols ground in countsOf rows cols dir
+
+unfoldable pub validOf : ℕ → ℕ → List ℤ → ℕ
+unfolding validsOf levelsOf
+validOf rows cols ground = validsOf rows cols (levelsOf ground)
+
+unfoldable pub longestTrail : ℕ → ℕ → List ℤ → ℕ
+unfolding longestOf directionOf
+longestTrail rows cols ground = let dir = directionOf rows cols ground in longestOf rows cols dir
+
+unfoldable pub answerOf : ℕ → ℕ → List ℤ → Verdict → Answer
+unfolding validOf longestTrail
+answerOf rows cols ground accepted = acceptance (validOf rows cols ground) (longestTrail rows cols ground)
+answerOf rows cols ground (refused number place) = refusal number place
+
+-- "A refusal changes no lent grid. The workspace holds zeros after success and is untouched by a refusal."
+unfoldable pub gridsOf : ℕ → ℕ → List ℤ → Grids → Verdict → Grids
+unfolding filledOf directionOf countOf
+gridsOf rows cols ground g accepted = lent (filledOf rows cols ground) (directionOf rows cols ground) (countOf rows cols ground) (replicate (rows * cols) 0)
+gridsOf rows cols ground g (refused number place) = g
+
+-- the whole of the map call
+unfoldable pub answer : ℕ → ℕ → List ℤ → Grids → Answer
+unfolding judge answerOf
+answer rows cols ground g = answerOf rows cols ground (judge rows cols ground g)
+
+unfoldable pub after : ℕ → ℕ → List ℤ → Grids → Grids
+unfolding judge gridsOf
+after rows cols ground g = gridsOf rows cols ground g (judge rows cols ground g)

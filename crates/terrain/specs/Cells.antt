@@ -1,0 +1,92 @@
+-- Document 01, "Filling and directions": neighbours, valid cells, rim cells, codes. A grid is a list, row after row from the north, and a cell is an index.
+-- Heights are whole numbers; a level is a height counted from NoData, so that NoData is 0, and what is no cell is at level 0 too. Assumes nothing.
+use mathlib.Core.Path.{_≡_}
+use mathlib.Core.List.{List, [], _∷_, map}
+use mathlib.Core.Bool.{Bool, not, cond, _&&_}
+use Prim.Native.Nat.{ℕ, _+_, _-_, _*_, _/_, _%_, _≤_, _<_}
+use lib.ListN.{length, getD}
+use lib.IntN.{ℤ, pos, negsuc, subℕ}
+use lib.Dec.{ltb, eqb}
+use Rattle.laws.specs.First.{firstOf, someOf}
+use Rattle.terrain.specs.Quantities.{noData, Fine}
+
+-- ---- neighbours: "the eight around"
+
+-- The sides 0 to 7 in the order of the codes, E SE S SW W NW N NE: one more than the rows that a side goes down, and than the columns that it goes right.
+abbrev pub rowSteps : List ℕ
+rowSteps = 1 ∷ 2 ∷ 2 ∷ 2 ∷ 1 ∷ 0 ∷ 0 ∷ 0 ∷ []
+
+abbrev pub colSteps : List ℕ
+colSteps = 2 ∷ 2 ∷ 1 ∷ 0 ∷ 0 ∷ 0 ∷ 1 ∷ 2 ∷ []
+
+-- the cell of row a - 1 and column b - 1; rows * cols, which is no cell, off the grid
+unfoldable pub cellAt : ℕ → ℕ → ℕ → ℕ → ℕ
+cellAt rows cols a b =
+    cond (ltb a 1) (rows * cols)
+    (cond (ltb rows a) (rows * cols) (cond (ltb b 1) (rows * cols) (cond (ltb cols b) (rows * cols) ((a - 1) * cols + (b - 1)))))
+
+-- the neighbour of the cell x at the side k
+unfoldable pub neighbour : ℕ → ℕ → ℕ → ℕ → ℕ
+unfolding cellAt
+neighbour rows cols x k = cellAt rows cols (x / cols + getD rowSteps k 0) (x % cols + getD colSteps k 0)
+
+-- ---- codes: "E 1, SE 2, S 4, SW 8, W 16, NW 32, N 64, NE 128; 0 leaves the map; 255 NoData"
+
+-- the code of a side; 0 for 8, which is no side
+abbrev pub codeOf : ℕ → ℕ
+codeOf k = getD (1 ∷ 2 ∷ 4 ∷ 8 ∷ 16 ∷ 32 ∷ 64 ∷ 128 ∷ []) k 0
+
+-- the side of a code; 8 for 0 and 255
+unfoldable pub sideOf : ℕ → ℕ
+unfolding firstOf
+sideOf code = firstOf (λ k. eqb code (codeOf k)) 8
+
+-- a side that is no diagonal
+abbrev pub cardinal : ℕ → Bool
+cardinal k = eqb (k % 2) 0
+
+-- ---- "A cell is valid if its ground height is not NoData."
+
+abbrev pub Valid : List ℤ → ℕ → Type 0
+Valid ground x = getD ground x noData ≡ noData → ⊥
+
+-- "A rim cell is a valid cell on the grid's edge or beside a NoData cell": at some side it has no cell, or NoData.
+pub record Rim (rows cols : ℕ) (ground : List ℤ) (x : ℕ) : Type 0 where
+  pub valid : Valid ground x
+  pub side : ℕ
+  pub small : side < 8
+  pub none : getD ground (neighbour rows cols x side) noData ≡ noData
+
+-- ---- the same over levels
+
+-- z + 999,900; 0 for what is below NoData
+unfoldable pub levelOf : ℤ → ℕ
+levelOf (pos n) = 999900 + n
+levelOf (negsuc n) = 999900 - (n + 1)
+
+-- v - 999,900
+unfoldable pub heightOf : ℕ → ℤ
+heightOf v = subℕ v 999900
+
+unfoldable pub levelsOf : List ℤ → List ℕ
+unfolding levelOf
+levelsOf ground = map levelOf ground
+
+-- the cell x is valid
+abbrev pub validAt : List ℕ → ℕ → Bool
+validAt lv x = ltb 0 (getD lv x 0)
+
+-- the cell x is a rim cell
+unfoldable pub rimAt : ℕ → ℕ → List ℕ → ℕ → Bool
+unfolding neighbour someOf
+rimAt rows cols lv x = validAt lv x && someOf (λ k. not (validAt lv (neighbour rows cols x k))) 8
+
+-- ---- a grid of an accepted call, as the inner functions may assume it
+
+pub record Ready (rows cols : ℕ) (ground : List ℤ) : Type 0 where
+  pub rows-small : rows ≤ 1024
+  pub cols-small : cols ≤ 1024
+  pub cols-some : 0 < cols
+  pub small : rows * cols ≤ 1048576
+  pub long : length ground ≡ rows * cols
+  pub fine : (x : ℕ) → x < length ground → Fine (getD ground x (pos 0))

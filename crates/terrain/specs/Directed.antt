@@ -1,0 +1,50 @@
+-- What the functions that follow trails assume of a grid of directions, and what they answer: no promise of a public call cites this file. Assumes nothing.
+use mathlib.Core.Path.{_≡_}
+use mathlib.Core.List.{List, [], _∷_}
+use mathlib.Core.Bool.{true, false, cond}
+use Prim.Native.Nat.{ℕ, _+_, _*_, _≤_, _<_}
+use lib.ListN.{length, getD}
+use Rattle.laws.specs.Sums.{when}
+use Rattle.terrain.specs.Trail.{mappedAt, flowsAt, nextAt, stepsIn, countOffer}
+use Rattle.terrain.specs.Inside.{Sized}
+
+-- a grid of codes along which every trail stays on valid cells and ends
+pub record Directed (rows cols : ℕ) (dir : List ℕ) : Type 0 where
+  pub sized : Sized rows cols
+  pub long : length dir ≡ rows * cols
+  -- a code is that of a side, 0 or 255
+  pub stops : (x : ℕ) → mappedAt rows cols dir x ≡ true → flowsAt rows cols dir x ≡ false → getD dir x 255 ≡ 0
+  -- a valid cell points at a valid cell
+  pub stays : (x : ℕ) → flowsAt rows cols dir x ≡ true → mappedAt rows cols dir (nextAt rows cols dir x) ≡ true
+  -- and is further from the end of the trail
+  pub less : (x : ℕ) → flowsAt rows cols dir x ≡ true → stepsIn rows cols dir (rows * cols) (nextAt rows cols dir x) < stepsIn rows cols dir (rows * cols) x
+
+-- the cell that x points at; rows * cols, which is no cell, where it points at none
+unfoldable pub receiverOf : ℕ → ℕ → List ℕ → ℕ → ℕ
+receiverOf rows cols dir x = cond (flowsAt rows cols dir x) (nextAt rows cols dir x) (rows * cols)
+
+-- ---- counts
+
+-- the code by which the neighbour at the side k points back at the cell
+abbrev pub backOf : ℕ → ℕ
+backOf k = getD (16 ∷ 32 ∷ 64 ∷ 128 ∷ 1 ∷ 2 ∷ 4 ∷ 8 ∷ []) k 0
+
+-- counts of which nine add up within 32 bits
+pub record Counts (rows cols : ℕ) (count : List ℕ) : Type 0 where
+  pub long : length count ≡ rows * cols
+  pub small : (y : ℕ) → getD count y 0 ≤ rows * cols
+
+-- the cell x counts what its inflows bring
+abbrev pub Counted : ℕ → ℕ → List ℕ → List ℕ → ℕ → Type 0
+Counted rows cols dir count x = getD count x 0 ≡ countOffer rows cols dir count x
+
+-- ---- the cells of trails
+
+-- the cells of the trail from x; 0 for NoData
+unfoldable pub cellsOf : ℕ → ℕ → List ℕ → ℕ → ℕ
+cellsOf rows cols dir x = when (mappedAt rows cols dir x) (stepsIn rows cols dir (rows * cols) x + 1)
+
+-- for some cells the cells of their trail, for the others 0
+pub record Known (rows cols : ℕ) (dir known : List ℕ) : Type 0 where
+  pub long : length known ≡ rows * cols
+  pub right : (x : ℕ) → 0 < getD known x 0 → getD known x 0 ≡ cellsOf rows cols dir x

@@ -1,0 +1,81 @@
+-- A grid of levels, as the functions of `flat` and `direction` may assume it, and what they answer: no promise of a public call cites this file. A function that is not
+-- told the rows requires that there is a number of them, and ensures for every number that fits. Assumes nothing.
+use mathlib.Core.Path.{_≡_}
+use mathlib.Core.List.{List}
+use mathlib.Core.Bool.{Bool, cond, _&&_}
+use Prim.Native.Nat.{ℕ, _+_, _-_, _*_, _≤_, max}
+use lib.ListN.{length, getD, set}
+use lib.Dec.{ltb, leb, eqb}
+use Rattle.laws.specs.Sums.{greatestTo}
+use Rattle.laws.specs.First.{firstOf}
+use Rattle.laws.specs.Settle.{Loose, relaxedOf}
+use Rattle.terrain.specs.Cells.{codeOf, validAt}
+use Rattle.terrain.specs.Inside.{Sized}
+use Rattle.terrain.specs.Filled.{top}
+use Rattle.terrain.specs.Flat.{farSteps, flatAt, nearestOf, flatStepping, StepsKept}
+use Rattle.terrain.specs.Direction.{steepOf, steepAt}
+use Rattle.terrain.specs.declared.direction.Fall.{Fall}
+
+pub record Levels (rows cols : ℕ) (lv : List ℕ) : Type 0 where
+  pub sized : Sized rows cols
+  pub long : length lv ≡ rows * cols
+  pub capped : (x : ℕ) → getD lv x 0 ≤ top
+
+-- ---- flat
+
+-- the steps that a cell of level v starts from, the lowest beside it being at `low`
+abbrev pub startOn : ℕ → ℕ → ℕ
+startOn v low = cond (ltb 0 v && leb v low) farSteps 0
+
+-- the steps that the cell x starts from
+unfoldable pub startAt : ℕ → ℕ → List ℕ → ℕ → ℕ
+unfolding flatAt
+startAt rows cols lv x = cond (flatAt rows cols lv x) farSteps 0
+
+-- the steps after the cell y was reached: lowered to n if they were more and its level is v; and the number e of entries of a queue with room for `room`
+pub record Reached (lv d₀ d : List ℕ) (v n y room e : ℕ) : Type 0 where
+  pub is : d ≡ cond (ltb n (getD d₀ y 0) && eqb (getD lv y 0) v) (set d₀ y n) d₀
+  pub fits : e ≤ room
+
+-- steps that were lowered, and the number e of entries of a queue with room for `room`
+pub record Spread (rows cols : ℕ) (lv d : List ℕ) (room e : ℕ) : Type 0 where
+  pub kept : StepsKept rows cols lv d
+  pub fits : e ≤ room
+
+-- a search for cells that can be lowered
+abbrev pub StepsLoose : ℕ → ℕ → List ℕ → List ℕ → ℕ → ℕ → ℕ → Type 0
+StepsLoose rows cols lv = Loose (flatStepping rows cols lv)
+
+-- a count m of a cell: if it is 0, its steps are no more than one more than the fewest beside it
+pub record LooseSteps (steps fewest m : ℕ) : Type 0 where
+  pub few : m ≤ 1
+  pub still : m ≡ 0 → steps ≤ fewest + 1
+
+-- the steps of the cell x were lowered, if they could be
+pub record LoweredSteps (rows cols : ℕ) (lv d₀ d : List ℕ) (x : ℕ) (lowered : Bool) : Type 0 where
+  pub told : lowered ≡ ltb (nearestOf rows cols lv d₀ x 8 + 1) (getD d₀ x 0)
+  pub is : d ≡ relaxedOf (flatStepping rows cols lv) d₀ x
+
+-- ---- direction
+
+-- the drop from the level v to the level w; 0 where w is not lower, or not valid
+abbrev pub dropOf : ℕ → ℕ → ℕ
+dropOf v w = cond (ltb 0 w && ltb w v) (v - w) 0
+
+-- the steeper of a fall and that by a drop d at the side k; the first on a tie
+pub record Steeper (k d : ℕ) (a r : Fall) : Type 0 where
+  pub code : r .code ≡ cond (leb (steepOf k d) (a .steepness)) (a .code) (codeOf k)
+  pub steepness : r .steepness ≡ max (a .steepness) (steepOf k d)
+
+-- the code of the first of the first k sides of greatest steepness; 0 where no neighbour there is lower
+unfoldable pub fallIn : ℕ → ℕ → List ℕ → ℕ → ℕ → ℕ
+unfolding steepAt greatestTo firstOf
+fallIn rows cols lv x k =
+    cond (ltb 0 (greatestTo k (steepAt rows cols lv x)))
+    (codeOf (firstOf (λ j. eqb (steepAt rows cols lv x j) (greatestTo k (steepAt rows cols lv x))) k))
+    0
+
+-- the code of the cell x but for flats
+unfoldable pub downAt : ℕ → ℕ → List ℕ → ℕ → ℕ
+unfolding fallIn
+downAt rows cols lv x = cond (validAt lv x) (fallIn rows cols lv x 8) 255

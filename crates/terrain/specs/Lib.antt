@@ -1,0 +1,14 @@
+pub mod Quantities
+pub mod Cells
+pub mod Surfaces
+pub mod Filled
+pub mod Flat
+pub mod Direction
+pub mod Trail
+pub mod Drainage
+pub mod Answers
+pub mod Inside
+pub mod Flood
+pub mod Directed
+pub mod Relief
+pub mod Levels

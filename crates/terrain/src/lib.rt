@@ -1,0 +1,159 @@
+// The terrain layer: from ground heights to filled heights, directions and flow counts. Document 01, "Filling and directions".
+//
+// Every input gets an answer: the call has no `requires`. The modules follow document 01: cells, filled heights, steps over
+// flats, directions, trails.
+mod cells;
+mod direction;
+mod filled;
+mod flat;
+mod queue;
+mod trail;
+
+ghost use mathlib.Core.Path.{_≡_};
+ghost use Prim.Native.Nat.{_*_};
+ghost use lib.ListN.{length};
+ghost use Rattle.terrain.specs.Quantities.{sizeAccepted, heightAccepted};
+ghost use Rattle.terrain.specs.Cells.{Ready};
+ghost use Rattle.terrain.specs.Drainage.{Drainage};
+ghost use Rattle.terrain.specs.Relief.{Relief};
+ghost use Rattle.terrain.specs.Answers.{told, lent, refusal, accepted, Long, firstBad, answerOf, gridsOf, answer, after};
+use text::NO_DATA;
+use text::Refusal;
+
+// The answer of the map call: the number of valid cells and the steps of the longest trail, or why there is no map.
+pub enum Answer {
+    Accepted { valid: u32, longest: u32 },
+    Refused(Refusal),
+}
+
+// Whether a number of rows or columns is accepted.
+fn is_size(n: usize) -> bool
+    ensures { λ r. ⌜ r ≡ sizeAccepted n ⌝ }
+{
+    if n < 1 {
+        return false;
+    }
+    n <= 1024
+}
+
+// Whether a height is accepted.
+fn is_height(h: i32) -> bool
+    ensures { λ r. ⌜ r ≡ heightAccepted h ⌝ }
+{
+    if h == NO_DATA {
+        return true;
+    }
+    if h < -50000 {
+        return false;
+    }
+    h <= 900000
+}
+
+// The first cell whose height is not accepted; the number of cells where there is none.
+fn first_bad(ground: &[i32]) -> usize
+    ensures { λ r. ⌜ r ≡ firstBad (length (now (ground .entry))) (now (ground .entry)) ⌝ }
+{
+    let mut x: usize = 0;
+    while x < ground.len() {
+        if !is_height(ground[x]) {
+            return x;
+        }
+        x += 1;
+    }
+    x
+}
+
+fn refused(number: u32, place: usize) -> Answer
+    ensures { λ r. ⌜ told r ≡ refusal number place ⌝ }
+{
+    Answer::Refused(Refusal {
+        number: number,
+        place: place,
+    })
+}
+
+// Works out filled heights and directions, and the number of valid cells; `count` and `workspace` are scratch.
+fn shape(
+    rows: usize,
+    columns: usize,
+    ground: &[i32],
+    filled: &mut [i32],
+    direction: &mut [u8],
+    count: &mut [u32],
+    workspace: &mut [u32],
+) -> u32
+    requires { ⌜ Ready rows columns (now ground) × Long (rows * columns) (now ground) (lent (now filled) (now direction) (now count) (now workspace)) ⌝ }
+    ensures { λ r. ⌜ Relief rows columns (now (ground .entry)) (now (filled .exit)) (now (direction .exit)) r ⌝ }
+{
+    filled::fill(rows, columns, ground, workspace, count);
+    flat::measure(rows, columns, workspace, count, filled);
+    direction::point(rows, columns, workspace, count, direction);
+    filled::write_heights(workspace, filled);
+    filled::valid_cells(workspace)
+}
+
+// Works out every grid from a good ground.
+fn survey(
+    rows: usize,
+    columns: usize,
+    ground: &[i32],
+    filled: &mut [i32],
+    direction: &mut [u8],
+    count: &mut [u32],
+    workspace: &mut [u32],
+) -> Answer
+    requires { ⌜ Ready rows columns (now ground) × Long (rows * columns) (now ground) (lent (now filled) (now direction) (now count) (now workspace)) ⌝ }
+    ensures { λ r. ⌜ (told r ≡ answerOf rows columns (now (ground .entry)) accepted) × (lent (now (filled .exit)) (now (direction .exit)) (now (count .exit)) (now (workspace .exit)) ≡ gridsOf rows columns (now (ground .entry)) (lent (now (filled .entry)) (now (direction .entry)) (now (count .entry)) (now (workspace .entry))) accepted) ⌝ }
+{
+    let valid = shape(rows, columns, ground, filled, direction, count, workspace);
+    trail::count_flow(rows, columns, direction, count, workspace);
+    let longest = trail::longest_trail(rows, columns, direction, workspace);
+    Answer::Accepted {
+        valid: valid,
+        longest: longest,
+    }
+}
+
+// Maps a ground of rows times columns heights, each lent grid and the workspace having one place per cell. A refusal changes
+// nothing that is lent; after success the workspace holds zeros.
+pub fn map(
+    rows: usize,
+    columns: usize,
+    ground: &[i32],
+    filled: &mut [i32],
+    direction: &mut [u8],
+    count: &mut [u32],
+    workspace: &mut [u32],
+) -> Answer
+    ensures answers { λ r. ⌜ told r ≡ answer rows columns (now (ground .entry)) (lent (now (filled .entry)) (now (direction .entry)) (now (count .entry)) (now (workspace .entry))) ⌝ }
+    ensures leaves { λ _. ⌜ lent (now (filled .exit)) (now (direction .exit)) (now (count .exit)) (now (workspace .exit)) ≡ after rows columns (now (ground .entry)) (lent (now (filled .entry)) (now (direction .entry)) (now (count .entry)) (now (workspace .entry))) ⌝ }
+    ensures drains { λ r. ⌜ (told r .number ≡ 0 → Drainage rows columns (now (ground .entry)) (now (filled .exit)) (now (direction .exit)) (now (count .exit)) (told r .valids)) ⌝ }
+{
+    if !is_size(rows) {
+        return refused(1, 0);
+    }
+    if !is_size(columns) {
+        return refused(1, 0);
+    }
+    let cells = rows * columns;
+    if ground.len() != cells {
+        return refused(2, 0);
+    }
+    if filled.len() != cells {
+        return refused(2, 0);
+    }
+    if direction.len() != cells {
+        return refused(2, 0);
+    }
+    if count.len() != cells {
+        return refused(2, 0);
+    }
+    if workspace.len() != cells {
+        return refused(2, 0);
+    }
+    let bad = first_bad(ground);
+    if bad < cells {
+        return refused(5, bad);
+    }
+    survey(rows, columns, ground, filled, direction, count, workspace)
+}
