@@ -3,7 +3,7 @@ use crate::show::at_most_1600;
 use crate::show::field;
 use terrain::NO_DATA;
 
-pub fn pits() {
+pub(crate) fn pits() {
     draw(
         b"pit",
         3,
@@ -48,7 +48,7 @@ pub fn pits() {
     );
 }
 
-pub fn flats() {
+pub(crate) fn flats() {
     draw(
         b"flat with one mouth",
         6,
@@ -91,7 +91,7 @@ pub fn flats() {
     );
 }
 
-pub fn ties() {
+pub(crate) fn ties() {
     draw(
         b"peak with eight equal drops",
         3,
@@ -134,7 +134,7 @@ pub fn ties() {
     );
 }
 
-pub fn no_data() {
+pub(crate) fn no_data() {
     draw(
         b"all NoData",
         3,
@@ -175,7 +175,7 @@ pub fn no_data() {
     );
 }
 
-pub fn strips() {
+pub(crate) fn strips() {
     draw(b"strip with pits, flats and NoData", 1, 12, b"5533777.2444");
     draw(b"strip with pits, flats and NoData", 12, 1, b"5533777.2444");
     draw(b"level strip", 1, 5, b"44444");
@@ -200,7 +200,7 @@ pub fn strips() {
 }
 
 // A plateau within a higher edge, with a pit and with a lake around an island of one cell.
-pub fn plateau() {
+pub(crate) fn plateau() {
     draw(
         b"plateau",
         16,

@@ -17,7 +17,7 @@ enum Land {
     Fall,
 }
 
-pub fn run() {
+pub(crate) fn run() {
     draw(b"spiral outwards", Land::SpiralOut, 40, 40, 1600);
     draw(b"spiral inwards", Land::SpiralIn, 40, 40, 1600);
     draw(b"comb", Land::Comb, 40, 40, 1600);

@@ -1,7 +1,7 @@
 // Small fields given by their heights in cm: those of document 01, and the ends of the range of heights.
 use crate::show::field;
 
-pub fn run() {
+pub(crate) fn run() {
     field(b"strip 9 8 7 5", 1, 4, &[900, 800, 700, 500]);
     field(b"strip 9 7 6", 1, 3, &[900, 700, 600]);
     field(b"drops 100 E and 141 SE", 2, 2, &[1000, 900, 1000, 859]);
@@ -12,7 +12,7 @@ pub fn run() {
     field(b"NoData", 1, 1, &[-999900]);
 }
 
-pub fn ends() {
+pub(crate) fn ends() {
     field(b"the greatest drops", 2, 2, &[900000, -40000, 0, -50000]);
     field(
         b"the deepest pit",

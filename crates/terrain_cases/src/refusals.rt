@@ -2,7 +2,7 @@
 use crate::show::field;
 use crate::show::lent;
 
-pub fn lengths() {
+pub(crate) fn lengths() {
     field(b"rows 0", 0, 1, &[1]);
     field(b"columns 0", 1, 0, &[1]);
     field(b"rows 1025", 1025, 1, &[1]);
@@ -51,7 +51,7 @@ fn two_by_three(name: &[u8], filled: usize, direction: usize, count: usize, work
     );
 }
 
-pub fn heights() {
+pub(crate) fn heights() {
     with_height(b"height 900000", 900000);
     with_height(b"height 900001", 900001);
     with_height(b"height -50000", -50000);

@@ -5,14 +5,14 @@ use libc::STDOUT_FILENO;
 use terrain::Answer;
 
 // A field with one place per height in every lent grid.
-pub fn field(name: &[u8], rows: usize, columns: usize, ground: &[i32]) {
+pub(crate) fn field(name: &[u8], rows: usize, columns: usize, ground: &[i32]) {
     let cells = ground.len();
     lent(name, rows, columns, ground, cells, cells, cells, cells);
 }
 
 // A field with the given numbers of places in the lent grids, each at most 1,600. Every place holds 77 beforehand, so that
 // an untouched grid shows.
-pub fn lent(
+pub(crate) fn lent(
     name: &[u8],
     rows: usize,
     columns: usize,
@@ -44,7 +44,7 @@ pub fn lent(
     );
 }
 
-pub fn at_most_1600(n: usize) -> usize
+pub(crate) fn at_most_1600(n: usize) -> usize
     ensures { λ r. ⌜ r ≤ 1600 ⌝ }
 {
     if n < 1600 { n } else { 1600 }

@@ -4,7 +4,7 @@ ghost use Prim.Native.Nat.{_≤_, _<_, _+_};
 // The odd rings are channel, higher and higher inwards, and the even ones wall, but for one cell of each ring, just below
 // its north-west corner: there a wall has a gap and the channel stops. So one channel winds from its mouth at the west
 // edge to the middle.
-pub fn falling_outwards(row: usize, column: usize) -> usize
+pub(crate) fn falling_outwards(row: usize, column: usize) -> usize
     requires { ⌜ row < 40 ⌝ }
     requires { ⌜ column < 40 ⌝ }
     ensures { λ r. ⌜ r ≤ 5000 ⌝ }
@@ -21,7 +21,7 @@ pub fn falling_outwards(row: usize, column: usize) -> usize
     ring * 75 + around(ring, row, column)
 }
 
-pub fn falling_inwards(row: usize, column: usize) -> usize
+pub(crate) fn falling_inwards(row: usize, column: usize) -> usize
     requires { ⌜ row < 40 ⌝ }
     requires { ⌜ column < 40 ⌝ }
     ensures { λ r. ⌜ r ≤ 5000 ⌝ }
@@ -34,7 +34,7 @@ pub fn falling_inwards(row: usize, column: usize) -> usize
 }
 
 // The rings of a 40 by 40 grid are counted from its edge, 0, to its middle, 19.
-pub fn ring(row: usize, column: usize) -> usize
+pub(crate) fn ring(row: usize, column: usize) -> usize
     requires { ⌜ row < 40 ⌝ }
     requires { ⌜ column < 40 ⌝ }
     ensures { λ r. ⌜ r ≤ row ⌝ }
