@@ -33,7 +33,7 @@ own-requires : tie.Need-own-requires Inv-loop μ-loop
 own-requires c κs = search needs
 
 loop-holds : tie.Need-loop-holds Inv-loop μ-loop
-loop-holds c = let s = c .before .before .before .before in gather-none (s .args .rows) (s .args .columns) (s .args .direction .now) (s .pre .0) (s .args .count .now) (s .args .x) (c .own .result) (omega (arith, s .pre .2 .down)) (c .own .ensures)
+loop-holds c = let s = c .before .before .before .before in gather-none (s .pre .0) (omega (arith, s .pre .2 .down)) (c .own .ensures)
 
 beside-requires : tie.Need-beside-requires Inv-loop μ-loop
 beside-requires c κs = let s = c .before .before .before .before .before .before in inside-beside (s .args .rows) (s .args .columns) (s .args .x) (c .before .loop .k) (s .pre .0 .sized) (s .pre .2) (c .loop-test .taken)
@@ -57,7 +57,7 @@ add-sum : tie.Need-add-sum Inv-loop μ-loop
 add-sum c =
     let s = c .before .before .before .before .before .before .before .before .before .before .before in
     let y = c .before .before .before .before .beside .result in
-    omega (arith, brought-small (s .args .rows) (s .args .columns) (s .args .direction .now) (s .pre .0) (s .args .count .now) (s .pre .1) y (eqb (getD (s .args .direction .now) y 0) (c .before .before .back-of .result)) (c .brought .result) (c .brought .ensures))
+    omega (arith, brought-small (s .pre .0) (s .pre .1) y (eqb (getD (s .args .direction .now) y 0) (c .before .before .back-of .result)) (c .brought .ensures))
 
 add-k : tie.Need-add-k Inv-loop μ-loop
 add-k c = search needs
@@ -71,10 +71,10 @@ loop-again c =
     let p = c .before .before .before .before .before .before .loop in
     let y = neighbour (s .args .rows) (s .args .columns) (s .args .x) (p .k) in
     let e : c .brought .result ≡ when (eqb (getD (s .args .direction .now) y 0) (backOf (p .k))) (getD (s .args .count .now) y 0) = cc (beside-is (c .before .before .before .before)) in
-    gather-more (s .args .rows) (s .args .columns) (s .args .direction .now) (s .pre .0) (s .args .count .now) (s .pre .1) (s .args .x) (p .k) (p .sum) (c .brought .result) (omega (arith, s .pre .2 .down)) (c .before .before .before .before .before .loop-test .taken) (p .inv) e
+    gather-more (s .pre .0) (s .pre .1) (omega (arith, s .pre .2 .down)) (c .before .before .before .before .before .loop-test .taken) (p .inv) e
 
 returns : tie.Need-returns Inv-loop μ-loop
-returns c = let s = c .before .before .before .before .before .before in let p = c .before .loop in gather-all (s .args .rows) (s .args .columns) (s .args .direction .now) (s .pre .0) (s .args .count .now) (s .args .x) (p .k) (p .sum) (c .loop-test .left) (p .inv)
+returns c = let s = c .before .before .before .before .before .before in let p = c .before .loop in gather-all (s .pre .0) (c .loop-test .left) (p .inv)
 
 pub gathered-inside-spec : {M : Type 1} → statement M
 gathered-inside-spec =

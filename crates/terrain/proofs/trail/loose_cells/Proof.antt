@@ -59,7 +59,7 @@ loop-again : tie.Need-loop-again Inv-loop μ-loop
 loop-again c =
     let s = c .before .before .before .before .before .before .before .before .before in
     let end = c .before .before .before .before .run-end in
-    (omega arith, failing-join (failing-join (c .before .before .before .before .before .before .loop .inv .1) (c .before .before .before .loose-run .ensures)) (counted-one (s .args .rows) (s .args .columns) (s .args .direction .now) (s .pre .0) (s .args .count .now) (end .result) (c .before .gathered-near .result) (c .loose .result) (c .before .gathered-near .ensures) (c .loose .ensures)))
+    (omega arith, failing-join (failing-join (c .before .before .before .before .before .before .loop .inv .1) (c .before .before .before .loose-run .ensures)) (counted-one (s .pre .0) (s .args .count .now) (end .result) (c .before .gathered-near .ensures) (c .loose .ensures)))
 
 returns : tie.Need-returns Inv-loop μ-loop
 returns c = let p = c .before .loop in let s = c .before .before .before .before in let e : p .x ≡ s .args .rows * s .args .columns = omega arith in rw e at (p .inv .1)

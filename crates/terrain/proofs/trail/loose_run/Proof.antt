@@ -51,7 +51,7 @@ loop-again : tie.Need-loop-again Inv-loop μ-loop
 loop-again c =
     let s = c .before .before .before .before .before .before .before in
     let p = c .before .before .before .before .loop in
-    (omega arith, omega arith, failing-join (p .inv .2) (counted-one (s .args .rows) (s .args .columns) (s .args .direction .now) (s .pre .0) (s .args .count .now) (p .x) (c .before .gathered-inside .result) (c .loose .result) (c .before .gathered-inside .ensures) (c .loose .ensures)))
+    (omega arith, omega arith, failing-join (p .inv .2) (counted-one (s .pre .0) (s .args .count .now) (p .x) (c .before .gathered-inside .ensures) (c .loose .ensures)))
 
 returns : tie.Need-returns Inv-loop μ-loop
 returns c = let p = c .before .loop in let e : p .x ≡ c .before .before .before .before .args .to = omega arith in rw e at (p .inv .2)
