@@ -19,7 +19,7 @@ use Rattle.terrain.proofs.Flooding.{filled-valids, filled-heights}
 use Rattle.terrain.proofs.Trails.{rank-falls}
 use Rattle.terrain.proofs.Drainage.{potential, falls, stops-zero}
 
-module _ (rows cols : ℕ) (ground : List ℤ) (ready : Ready rows cols ground) where
+module _ {rows cols : ℕ} {ground : List ℤ} (ready : Ready rows cols ground) where
   abbrev lv : List ℕ
   lv = filledLevels rows cols ground
 
