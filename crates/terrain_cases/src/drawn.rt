@@ -1,9 +1,9 @@
 // Small fields, drawn with a digit for each cell's height in metres and a point for NoData.
-use crate::show::at_most_1600;
-use crate::show::field;
+use crate::land::Land;
+use crate::land::field_of;
 use terrain::NO_DATA;
 
-pub(crate) fn pits() {
+pub(crate) fn basins() {
     draw(
         b"pit",
         3,
@@ -37,40 +37,6 @@ pub(crate) fn pits() {
         8888883",
     );
     draw(
-        b"two pits with a sill between",
-        5,
-        9,
-        b"999999999\
-        911292219\
-        911622216\
-        911292219\
-        999999999",
-    );
-}
-
-pub(crate) fn flats() {
-    draw(
-        b"flat with one mouth",
-        6,
-        9,
-        b"777777777\
-        755555557\
-        755555557\
-        755555557\
-        755555537\
-        777777717",
-    );
-    draw(
-        b"level",
-        5,
-        7,
-        b"5555555\
-        5555555\
-        5555555\
-        5555555\
-        5555555",
-    );
-    draw(
         b"corridor with two mouths",
         3,
         9,
@@ -78,6 +44,9 @@ pub(crate) fn flats() {
         444444444\
         999999999",
     );
+}
+
+pub(crate) fn slopes() {
     draw(
         b"flat that ends at the rim and at a slope",
         6,
@@ -89,9 +58,6 @@ pub(crate) fn flats() {
         94444429\
         99999919",
     );
-}
-
-pub(crate) fn ties() {
     draw(
         b"peak with eight equal drops",
         3,
@@ -109,27 +75,11 @@ pub(crate) fn ties() {
         393",
     );
     draw(
-        b"drops north and west",
-        3,
-        3,
-        b"939\
-        359\
-        999",
-    );
-    draw(
         b"drops north-east and north-west",
         3,
         3,
         b"393\
         959\
-        999",
-    );
-    draw(
-        b"drops north-east 3 m and west 2 m",
-        3,
-        3,
-        b"992\
-        359\
         999",
     );
 }
@@ -142,17 +92,6 @@ pub(crate) fn no_data() {
         b"....\
         ....\
         ....",
-    );
-    draw(
-        b"flat with a lake",
-        6,
-        8,
-        b"99999999\
-        95555559\
-        95..5559\
-        955.5559\
-        95555559\
-        99999999",
     );
     draw(
         b"single cells in NoData",
@@ -176,26 +115,21 @@ pub(crate) fn no_data() {
 }
 
 pub(crate) fn strips() {
+    draw(b"one cell", 1, 1, b"0");
+    draw(b"one cell of NoData", 1, 1, b".");
+    draw(b"strip 9 8 7 5", 1, 4, b"9875");
+    draw(b"strip 9 7 6", 1, 3, b"976");
+}
+
+pub(crate) fn pits_in_strips() {
     draw(b"strip with pits, flats and NoData", 1, 12, b"5533777.2444");
     draw(b"strip with pits, flats and NoData", 12, 1, b"5533777.2444");
-    draw(b"level strip", 1, 5, b"44444");
     draw(
         b"two rows, all of them rim",
         2,
         6,
         b"523455\
         313542",
-    );
-    draw(
-        b"two columns, all of them rim",
-        6,
-        2,
-        b"53\
-        21\
-        33\
-        45\
-        54\
-        52",
     );
 }
 
@@ -225,22 +159,11 @@ pub(crate) fn plateau() {
 }
 
 fn draw(name: &[u8], rows: usize, columns: usize, picture: &[u8]) {
-    let mut ground = [0i32; 1600];
-    let end = at_most_1600(picture.len());
-    shape(name, rows, columns, picture, &mut ground[0..end]);
+    field_of(name, Land::Drawn, rows, columns, picture.len(), picture);
 }
 
-// Gives each cell its height, and maps the field.
-fn shape(name: &[u8], rows: usize, columns: usize, picture: &[u8], ground: &mut [i32]) {
-    let mut x = 0;
-    while x < ground.len() {
-        ground[x] = height(picture, x);
-        x += 1;
-    }
-    field(name, rows, columns, ground);
-}
-
-fn height(picture: &[u8], x: usize) -> i32 {
+// The height that a picture shows at the cell x.
+pub(crate) fn height(picture: &[u8], x: usize) -> i32 {
     if picture.len() <= x {
         return NO_DATA;
     }

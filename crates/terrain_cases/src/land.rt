@@ -1,11 +1,14 @@
 // The large fields, whose heights are worked out cell by cell: spirals, comb, plane, bowl, strips and noise.
 ghost use Prim.Native.Nat.{_≤_, _<_};
+use crate::drawn;
 use crate::show::at_most_1600;
 use crate::show::field;
 use crate::spiral;
 use terrain::NO_DATA;
 
-enum Land {
+// The kinds of field: drawn, or worked out from a cell's row and column, its index, or its seed.
+pub enum Land {
+    Drawn,
     SpiralOut,
     SpiralIn,
     Comb,
@@ -17,12 +20,15 @@ enum Land {
     Fall,
 }
 
-pub(crate) fn run() {
+pub(crate) fn shapes() {
     draw(b"spiral outwards", Land::SpiralOut, 40, 40, 1600);
     draw(b"spiral inwards", Land::SpiralIn, 40, 40, 1600);
     draw(b"comb", Land::Comb, 40, 40, 1600);
     draw(b"plane", Land::Plane, 40, 40, 1600);
     draw(b"bowl", Land::Bowl, 40, 40, 1600);
+}
+
+pub(crate) fn strips_and_noise() {
     draw(b"falling strip", Land::Fall, 1, 1024, 1024);
     draw(b"noise", Land::Noise, 40, 40, 1600);
     draw(b"noise of all heights", Land::WideNoise, 30, 20, 600);
@@ -31,30 +37,43 @@ pub(crate) fn run() {
 }
 
 fn draw(name: &[u8], land: Land, rows: usize, columns: usize, cells: usize) {
+    field_of(name, land, rows, columns, cells, b"");
+}
+
+// Maps a field of a kind, of at most 1,600 cells. The picture is for drawn ones.
+pub(crate) fn field_of(
+    name: &[u8],
+    land: Land,
+    rows: usize,
+    columns: usize,
+    cells: usize,
+    picture: &[u8],
+) {
     let mut ground = [0i32; 1600];
     let end = at_most_1600(cells);
-    shape(name, land, rows, columns, &mut ground[0..end]);
+    shape(name, land, rows, columns, picture, &mut ground[0..end]);
 }
 
 // Gives each cell its height, and maps the field. The seeds of noise are a linear congruence of 32 bits.
-fn shape(name: &[u8], land: Land, rows: usize, columns: usize, ground: &mut [i32]) {
+fn shape(name: &[u8], land: Land, rows: usize, columns: usize, picture: &[u8], ground: &mut [i32]) {
     let mut seed: usize = 1;
     let mut x = 0;
     while x < ground.len() {
         seed = (seed % 4294967296 * 1664525 + 1013904223) % 4294967296;
-        ground[x] = height(land, x, columns, seed);
+        ground[x] = height(land, x, columns, seed, picture);
         x += 1;
     }
     field(name, rows, columns, ground);
 }
 
-fn height(land: Land, x: usize, columns: usize, seed: usize) -> i32 {
+fn height(land: Land, x: usize, columns: usize, seed: usize, picture: &[u8]) -> i32 {
     if columns < 1 {
         return NO_DATA;
     }
     let row = x / columns % 40;
     let column = x % columns % 40;
     match land {
+        Land::Drawn => drawn::height(picture, x),
         Land::SpiralOut => cm(spiral::falling_outwards(row, column)),
         Land::SpiralIn => cm(spiral::falling_inwards(row, column)),
         Land::Comb => cm(comb(row, column)),
@@ -67,6 +86,7 @@ fn height(land: Land, x: usize, columns: usize, seed: usize) -> i32 {
     }
 }
 
+// A height of so many cm.
 fn cm(n: usize) -> i32
     requires { ⌜ n ≤ 900000 ⌝ }
 {
@@ -80,6 +100,7 @@ fn signed(n: usize) -> i32
     if n < 50000 { !cm(n) } else { cm(n - 50000) }
 }
 
+// Eight heights, with NoData here and there.
 fn step_noise(n: usize) -> i32
     requires { ⌜ n < 64 ⌝ }
 {

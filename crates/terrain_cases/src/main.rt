@@ -9,15 +9,18 @@ mod show;
 mod spiral;
 
 fn main() {
-    listed::run();
-    listed::ends();
-    drawn::pits();
-    drawn::flats();
-    drawn::ties();
+    listed::drops();
+    drawn::basins();
+    drawn::slopes();
     drawn::no_data();
     drawn::strips();
+    drawn::pits_in_strips();
+    refusals::sizes();
     refusals::lengths();
     refusals::heights();
+    refusals::heights_near_no_data();
+    refusals::of_two();
     drawn::plateau();
-    land::run();
+    land::shapes();
+    land::strips_and_noise();
 }

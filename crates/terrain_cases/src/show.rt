@@ -10,8 +10,8 @@ pub(crate) fn field(name: &[u8], rows: usize, columns: usize, ground: &[i32]) {
     lent(name, rows, columns, ground, cells, cells, cells, cells);
 }
 
-// A field with the given numbers of places in the lent grids, each at most 1,600. Every place holds 77 beforehand, so that
-// an untouched grid shows.
+// A field with the given numbers of places in the lent grids, each at most 1,600. Every place holds 77 beforehand, so
+// that an untouched grid shows.
 pub(crate) fn lent(
     name: &[u8],
     rows: usize,
@@ -50,6 +50,7 @@ pub(crate) fn at_most_1600(n: usize) -> usize
     if n < 1600 { n } else { 1600 }
 }
 
+// Maps the lent grids and writes all but the name.
 fn write_map(
     rows: usize,
     columns: usize,
@@ -59,15 +60,10 @@ fn write_map(
     count: &mut [u32],
     workspace: &mut [u32],
 ) {
-    write(b"\nanswer");
     map(rows, columns, ground, filled, direction, count, workspace);
-    write(b"\nground");
-    write_heights(columns, ground);
-    write(b"\nfilled");
-    write_heights(columns, filled);
-    write(b"\ndirection");
+    write_heights(b"\nground", columns, ground);
+    write_heights(b"\nfilled", columns, filled);
     write_codes(columns, direction);
-    write(b"\ncount");
     write_counts(columns, count);
     write_workspace(workspace);
 }
@@ -88,11 +84,12 @@ fn map(
 fn write_answer(answer: Answer) {
     match answer {
         Answer::Accepted { valid, longest } => {
-            write(b" 0 0");
+            write(b"\nanswer 0 0");
             write_natural(valid as u64);
             write_natural(longest as u64);
         }
         Answer::Refused(refusal) => {
+            write(b"\nanswer");
             write_natural(refusal.number as u64);
             write_natural(refusal.place as u64);
             write(b" 0 0");
@@ -131,7 +128,8 @@ fn begin_cell(columns: usize, x: usize) {
     }
 }
 
-fn write_heights(columns: usize, heights: &[i32]) {
+fn write_heights(label: &[u8], columns: usize, heights: &[i32]) {
+    write(label);
     let mut x = 0;
     while x < heights.len() {
         begin_cell(columns, x);
@@ -141,6 +139,7 @@ fn write_heights(columns: usize, heights: &[i32]) {
 }
 
 fn write_codes(columns: usize, codes: &[u8]) {
+    write(b"\ndirection");
     let mut x = 0;
     while x < codes.len() {
         begin_cell(columns, x);
@@ -150,6 +149,7 @@ fn write_codes(columns: usize, codes: &[u8]) {
 }
 
 fn write_counts(columns: usize, counts: &[u32]) {
+    write(b"\ncount");
     let mut x = 0;
     while x < counts.len() {
         begin_cell(columns, x);

@@ -1,9 +1,9 @@
 // Two spirals of 40 by 40 cells: one long channel between walls, which falls to its mouth at the edge or to the middle.
 ghost use Prim.Native.Nat.{_≤_, _<_, _+_};
 
-// The odd rings are channel, higher and higher inwards, and the even ones wall, but for one cell of each ring, just below
-// its north-west corner: there a wall has a gap and the channel stops. So one channel winds from its mouth at the west
-// edge to the middle.
+// The odd rings are channel, higher and higher inwards, and the even ones wall, but for one cell of each ring, just
+// below its north-west corner: there a wall has a gap and the channel stops. So one channel winds from its mouth at the
+// west edge to the middle.
 pub(crate) fn falling_outwards(row: usize, column: usize) -> usize
     requires { ⌜ row < 40 ⌝ }
     requires { ⌜ column < 40 ⌝ }

@@ -1,4 +1,5 @@
--- `shape` is safe and ends. The loop's invariant: the index is at most the ground's length, which stays. Assumes nothing.
+-- `shape` is safe and ends. The loop's invariant: the index is at most the ground's length, which stays.
+-- Assumes nothing.
 use Prim.Native.Nat.{_≤_, _-_}
 use mathlib.Core.Path.{_≡_}
 use borrow.Author.Needs.{needs}
@@ -7,10 +8,10 @@ use Rattle.terrain_cases.proofs.land.shape.Statement.{statement}
 use Rattle.terrain_cases.proofs.land.shape.Tie as tie
 
 abbrev Inv-loop : tie.InvT-loop
-Inv-loop name land rows columns ground₀ seed₀ x₀ ground seed x = (x ≤ length ground₀) × (length ground ≡ length ground₀)
+Inv-loop name land rows columns picture ground₀ seed₀ x₀ ground seed x = (x ≤ length ground₀) × (length ground ≡ length ground₀)
 
 abbrev μ-loop : tie.MeasureT-loop
-μ-loop name land rows columns ground₀ seed₀ x₀ ground seed x = length ground₀ - x
+μ-loop name land rows columns picture ground₀ seed₀ x₀ ground seed x = length ground₀ - x
 
 loop-holds : tie.Need-loop-holds Inv-loop μ-loop
 loop-holds c = search needs
@@ -24,8 +25,8 @@ add-seed c = search needs
 height-requires : tie.Need-height-requires Inv-loop μ-loop
 height-requires c κs = search needs
 
-mul-t8 : tie.Need-mul-t8 Inv-loop μ-loop
-mul-t8 c = search needs
+mul-t9 : tie.Need-mul-t9 Inv-loop μ-loop
+mul-t9 c = search needs
 
 slice-set-from-ground : tie.Need-slice-set-from-ground Inv-loop μ-loop
 slice-set-from-ground c = search needs
@@ -58,7 +59,7 @@ shape-spec =
     mul-seed
     add-seed
     height-requires
-    mul-t8
+    mul-t9
     slice-set-from-ground
     add-x
     loop-less

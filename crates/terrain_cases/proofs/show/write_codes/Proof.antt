@@ -12,6 +12,12 @@ Inv-loop columns codes x₀ x = x ≤ length codes
 abbrev μ-loop : tie.MeasureT-loop
 μ-loop columns codes x₀ x = length codes - x
 
+slice-aggregate-write : tie.Need-slice-aggregate-write Inv-loop μ-loop
+slice-aggregate-write c = search needs
+
+write-requires : tie.Need-write-requires Inv-loop μ-loop
+write-requires c κs = search needs
+
 loop-holds : tie.Need-loop-holds Inv-loop μ-loop
 loop-holds c = search needs
 
@@ -45,6 +51,8 @@ write-codes-spec =
     (tie.spec
     Inv-loop
     μ-loop
+    slice-aggregate-write
+    write-requires
     loop-holds
     begin-cell-requires
     shared-slice-read-write-natural

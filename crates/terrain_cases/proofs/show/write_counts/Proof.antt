@@ -12,6 +12,12 @@ Inv-loop columns counts x₀ x = x ≤ length counts
 abbrev μ-loop : tie.MeasureT-loop
 μ-loop columns counts x₀ x = length counts - x
 
+slice-aggregate-write : tie.Need-slice-aggregate-write Inv-loop μ-loop
+slice-aggregate-write c = search needs
+
+write-requires : tie.Need-write-requires Inv-loop μ-loop
+write-requires c κs = search needs
+
 loop-holds : tie.Need-loop-holds Inv-loop μ-loop
 loop-holds c = search needs
 
@@ -48,6 +54,8 @@ write-counts-spec =
     (tie.spec
     Inv-loop
     μ-loop
+    slice-aggregate-write
+    write-requires
     loop-holds
     begin-cell-requires
     mul-write-natural

@@ -6,10 +6,13 @@ use Rattle.terrain_cases.proofs.show.write_heights.Statement.{statement
 use Rattle.terrain_cases.proofs.show.write_heights.Tie as tie
 
 abbrev Inv-loop : tie.InvT-loop
-Inv-loop columns heights x₀ x = x ≤ length heights
+Inv-loop label columns heights x₀ x = x ≤ length heights
 
 abbrev μ-loop : tie.MeasureT-loop
-μ-loop columns heights x₀ x = length heights - x
+μ-loop label columns heights x₀ x = length heights - x
+
+write-requires : tie.Need-write-requires Inv-loop μ-loop
+write-requires c κs = search needs
 
 loop-holds : tie.Need-loop-holds Inv-loop μ-loop
 loop-holds c = search needs
@@ -44,6 +47,7 @@ write-heights-spec =
     (tie.spec
     Inv-loop
     μ-loop
+    write-requires
     loop-holds
     begin-cell-requires
     mul-write-height
