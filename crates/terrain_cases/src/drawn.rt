@@ -1,7 +1,7 @@
 // Small fields, drawn with a digit for each cell's height in metres and a point for NoData.
 use crate::land::Land;
 use crate::land::field_of;
-use terrain::NO_DATA;
+use text::NO_DATA;
 
 pub(crate) fn basins() {
     draw(

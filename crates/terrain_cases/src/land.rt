@@ -4,7 +4,7 @@ use crate::drawn;
 use crate::show::at_most_1600;
 use crate::show::field;
 use crate::spiral;
-use terrain::NO_DATA;
+use text::NO_DATA;
 
 // The kinds of field: drawn, or worked out from a cell's row and column, its index, or its seed.
 pub enum Land {
