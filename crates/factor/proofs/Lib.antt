@@ -1,0 +1,5 @@
+pub mod Greatest
+pub mod Tables
+pub mod Power
+pub mod Sines
+pub mod Factors
