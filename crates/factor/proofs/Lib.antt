@@ -3,3 +3,4 @@ pub mod Tables
 pub mod Power
 pub mod Sines
 pub mod Factors
+pub mod Examples
