@@ -1,4 +1,4 @@
--- How large an exponent, a sine and a factor can be, and the two cases of a cell. Assumes nothing.
+-- How large an exponent and a factor can be, and the two cases of a cell. Assumes nothing.
 use mathlib.Core.Path.{_≡_, refl}
 use mathlib.Core.Bool.{Bool, true, false, cond}
 use Prim.Native.Nat.{ℕ, _+_, _*_, _/_, _≤_, _<_}
@@ -9,9 +9,10 @@ use lib.Dec.{leb, ltb}
 use Rattle.factor.specs.Quantities.{noDataFactor, tooLong}
 use Rattle.factor.specs.Exponent.{exponentOf}
 use Rattle.factor.specs.LengthFactor.{millimetres, longest, reached, lengthFactor}
-use Rattle.factor.specs.Steepness.{sineReaches, sineOf, steepnessFactor}
+use Rattle.factor.specs.Steepness.{steepnessFactor}
 use Rattle.factor.specs.Cell.{factorOf}
 use Rattle.factor.proofs.Greatest.{greatest-within}
+use Rattle.factor.proofs.Sines.{sine-within}
 
 pub exponent-in : (c q : ℕ) → (2 ≤ exponentOf c q) × (exponentOf c q ≤ 5)
 unfolding exponentOf
@@ -26,10 +27,6 @@ exponent-in c q = go (leb (c * c) (200 * q)) (ltb (9 * (c * c)) (5000 * q)) (leb
 pub length-factor-within : (k mm : ℕ) → lengthFactor k mm ≤ 1000
 unfolding lengthFactor
 length-factor-within k mm = greatest-within (reached k mm) 1000
-
-pub sine-within : (c q : ℕ) → sineOf c q ≤ 1000
-unfolding sineOf
-sine-within c q = greatest-within (sineReaches c q) 1000
 
 pub steepness-within : (c q : ℕ) → steepnessFactor c q ≤ 70035
 unfolding steepnessFactor

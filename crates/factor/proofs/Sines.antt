@@ -8,7 +8,7 @@ use native.Mathlib.Omega.{arith}
 use borrow.Author.Tests.{leb-true, le-leb, lt-leb}
 use Rattle.factor.specs.Greatest.{greatest}
 use Rattle.factor.specs.Steepness.{sineReaches, sineOf}
-use Rattle.factor.proofs.Greatest.{Falling, greatest-passes, greatest-above}
+use Rattle.factor.proofs.Greatest.{Falling, greatest-is, greatest-within, greatest-passes, greatest-above}
 
 -- the two sides of the test
 abbrev asked : ℕ → ℕ → ℕ → ℕ
@@ -19,6 +19,10 @@ given q = 1000000 * q
 
 pub sine-falling : (c q n : ℕ) → Falling (sineReaches c q) n
 sine-falling c q n u v p h l t = le-leb (asked c q u) (given q) (le-trans (mul-le-mul-right (q + 2 * (c * c)) (mul-le-mul h h)) (leb-true (asked c q v) (given q) t))
+
+pub sine-within : (c q : ℕ) → sineOf c q ≤ 1000
+unfolding sineOf
+sine-within c q = greatest-within (sineReaches c q) 1000
 
 -- the sine is the greatest of all, not only of those up to 1,000
 pub sine-greatest : (c q : ℕ) → 1 ≤ c →
@@ -37,3 +41,9 @@ sine-greatest c q h =
         let l : 1000 ≤ u = omega (arith, d) in
         let w : 1000 * 1000 * (q + 2 * (c * c)) ≤ asked c q u = mul-le-mul-right (q + 2 * (c * c)) (mul-le-mul l l) in
         lt-leb (asked c q u) (given q) (omega (arith, mul-le-mul h h))
+
+-- the search goes up to 1,023, since its steps are powers of two
+pub sine-wide : (c q : ℕ) → 1 ≤ c → greatest (sineReaches c q) 1023 ≡ sineOf c q
+sine-wide c q h =
+    let all = sine-greatest c q h in
+    greatest-is (sineReaches c q) 1023 (sineOf c q) (omega (arith, sine-within c q)) (λ l. all .0) (λ u a b. all .1 u a)

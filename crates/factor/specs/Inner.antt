@@ -9,6 +9,7 @@ use Rattle.factor.specs.LengthFactor.{longest, reached}
 
 -- a cell side, and a steepness no less than any of a map: twice the square of a drop below 2^21 cm
 pub record Sloping (side q : ℕ) : Type 0 where
+  pub side-some : 1 ≤ side
   pub side-small : side ≤ 100000
   pub steepness-small : q < 2 ^ 43
 

@@ -1,22 +1,12 @@
 // The length factor, looked up in the list of its exponent.
 ghost use mathlib.Core.Path.{_≡_};
-ghost use mathlib.Core.Bool.{cond};
-ghost use Prim.Native.Nat.{_+_, _≤_, _<_};
 ghost use lib.ListN.{length};
 ghost use Rattle.factor.specs.Greatest.{greatest};
 ghost use Rattle.factor.specs.LengthFactor.{lengthFactor};
 ghost use Rattle.factor.specs.Inner.{Rising, upTo, Lookup};
+use crate::search::moved_if;
 
-// Past the next n entries, if the last of them is at most x; else where it was.
-fn passed(list: &[u32], at: usize, n: usize, x: u32) -> usize
-    requires { ⌜ (0 < n) × (at + n ≤ length (now list)) ⌝ }
-    ensures { λ r. ⌜ r ≡ cond (upTo (now (list .entry)) x (at + n)) (at + n) at ⌝ }
-{
-    let next = at + n;
-    if list[next - 1] <= x { next } else { at }
-}
-
-// How many entries of a rising list are at most x, by halves: each search of a list takes the same steps.
+// How many entries of a rising list are at most x, by halves.
 fn count_up_to(list: &[u32], x: u32) -> usize
     requires { ⌜ Rising (now list) ⌝ }
     ensures { λ r. ⌜ r ≡ greatest (upTo (now (list .entry)) x) (length (now (list .entry))) ⌝ }
@@ -25,7 +15,7 @@ fn count_up_to(list: &[u32], x: u32) -> usize
     let mut left = list.len() + 1;
     while 1 < left {
         let half = left / 2;
-        at = passed(list, at, half, x);
+        at = moved_if(list[at + half - 1] <= x, at, half);
         left -= half;
     }
     at

@@ -2,5 +2,6 @@
 mod cell;
 mod exponent;
 mod length_factor;
+mod search;
 mod steepness;
 mod thresholds;

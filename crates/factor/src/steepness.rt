@@ -1,19 +1,8 @@
 // The steepness factor of Handbook 537, by the sine of the slope.
 ghost use mathlib.Core.Path.{_≡_};
-ghost use mathlib.Core.Bool.{cond};
-ghost use Prim.Native.Nat.{_+_, _*_, _≤_};
-ghost use lib.Dec.{leb};
 ghost use Rattle.factor.specs.Steepness.{sineOf, steepnessFactor};
 ghost use Rattle.factor.specs.Inner.{Sloping};
-
-// u + step, if its square times w is at most top; else u.
-fn raised(u: u64, step: u64, w: u64, top: u64) -> u64
-    requires { ⌜ (u + step ≤ 1000) × (w ≤ 9000000000000) ⌝ }
-    ensures { λ r. ⌜ r ≡ cond (leb ((u + step) * (u + step) * w) top) (u + step) u ⌝ }
-{
-    let next = u + step;
-    if next * next * w <= top { next } else { u }
-}
+use crate::search::moved_if;
 
 // The sine in thousandths, for a cell of steepness q, by halves.
 fn sine_of(side: u32, q: u64) -> u64
@@ -22,14 +11,15 @@ fn sine_of(side: u32, q: u64) -> u64
 {
     let w = q + 2 * ((side as u64) * (side as u64));
     let top = 1000000 * q;
-    let mut u: u64 = 0;
-    let mut left: u64 = 1001;
+    let mut u: usize = 0;
+    let mut left: usize = 1024;
     while 1 < left {
         let half = left / 2;
-        u = raised(u, half, w, top);
+        let next = (u + half) as u64;
+        u = moved_if(next * next * w <= top, u, half);
         left -= half;
     }
-    u
+    u as u64
 }
 
 // S in thousandths, for a cell of steepness q.

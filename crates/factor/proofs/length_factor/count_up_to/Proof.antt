@@ -1,6 +1,5 @@
 -- `factor::length_factor::count_up_to` meets its contract: the number is among the `left` ones from `at` on. Assumes nothing.
 use mathlib.Core.Path.{sym}
-use Prim.Native.Nat.{ℕ, _+_, _-_}
 use native.Mathlib.Omega.{arith}
 use lib.ListN.{length}
 use Rattle.factor.specs.Inner.{upTo}
@@ -21,8 +20,20 @@ add-left c = omega arith
 loop-holds : tie.Need-loop-holds Inv-loop μ-loop
 loop-holds c = among-all
 
-passed-requires : tie.Need-passed-requires Inv-loop μ-loop
-passed-requires c κs = omega arith
+add-moved-if : tie.Need-add-moved-if Inv-loop μ-loop
+add-moved-if c = omega arith
+
+sub-moved-if : tie.Need-sub-moved-if Inv-loop μ-loop
+sub-moved-if c = omega arith
+
+mul-moved-if : tie.Need-mul-moved-if Inv-loop μ-loop
+mul-moved-if c = omega arith
+
+shared-slice-read-moved-if : tie.Need-shared-slice-read-moved-if Inv-loop μ-loop
+shared-slice-read-moved-if c = omega arith
+
+moved-if-requires : tie.Need-moved-if-requires Inv-loop μ-loop
+moved-if-requires c κs = omega arith
 
 sub-left : tie.Need-sub-left Inv-loop μ-loop
 sub-left c = omega arith
@@ -32,8 +43,9 @@ loop-less c = omega arith
 
 loop-again : tie.Need-loop-again Inv-loop μ-loop
 loop-again c =
-    let start = c .before .before .before .before in
-    among-half (c .passed .result) (up-to-falling (start .pre) (start .args .x)) (c .before .before .loop .inv) (c .before .loop-test .taken) (c .passed .ensures)
+    let turn = c .before .before in
+    let start = turn .before .before .before in
+    among-half (c .moved-if .result) (up-to-falling (start .pre) (start .args .x)) (turn .before .loop .inv) (turn .loop-test .taken) (c .moved-if .ensures)
 
 returns : tie.Need-returns Inv-loop μ-loop
 returns c = sym (among-one (c .before .loop .inv) (c .loop-test .left))
@@ -46,7 +58,11 @@ count-up-to-spec =
     μ-loop
     add-left
     loop-holds
-    passed-requires
+    add-moved-if
+    sub-moved-if
+    mul-moved-if
+    shared-slice-read-moved-if
+    moved-if-requires
     sub-left
     loop-less
     loop-again

@@ -4,7 +4,7 @@ use Prim.Native.Nat.{_*_, _≤_}
 use native.Mathlib.Nat.{mul-le-mul}
 use native.Mathlib.Omega.{arith}
 use Rattle.factor.specs.Steepness.{steepnessFactor}
-use Rattle.factor.proofs.Factors.{sine-within}
+use Rattle.factor.proofs.Sines.{sine-within}
 use Rattle.factor.proofs.steepness.steepness_factor.Statement.{statement}
 use Rattle.factor.proofs.steepness.steepness_factor.Tie as tie
 
