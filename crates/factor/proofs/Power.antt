@@ -3,7 +3,7 @@
 use mathlib.Core.Path.{_≡_, refl, sym, _∙_}
 use mathlib.Core.Bool.{Bool, true, false, not, _&&_, true≢false}
 use mathlib.Core.List.{List}
-use Prim.Native.Nat.{ℕ, zero, suc, _+_, _-_, _*_, _^_, _≤_, _<_, suc-le-suc}
+use Prim.Native.Nat.{ℕ, zero, suc, _-_, _*_, _^_, _≤_, _<_, suc-le-suc}
 use native.Mathlib.Nat.{le-trans, le-refl, mul-le-mul-left, mul-le-mul-right, pow-le-pow-left}
 use native.Mathlib.Decide.{decLe}
 use native.Mathlib.Omega.{arith}
@@ -19,10 +19,11 @@ use Rattle.factor.proofs.Tables.{every, every-at}
 
 -- ---- the test of a list
 
--- the entry x at the place i is a length that reaches i + 1, and the millimetre before is not
+-- the entry x at the place i reaches i + 1, and the millimetre before does not
 abbrev pub isFirst : ℕ → ℕ → ℕ → Bool
 isFirst k i x = reached k x (suc i) && not (reached k (x - 1) (suc i))
 
+-- so is each entry; one t more than the list has is not reached at 304,800 mm
 abbrev pub passes : ℕ → List ℕ → Bool
 passes k xs = leb (length xs) 1000 && (not (reached k longest (suc (length xs))) && every (isFirst k) 0 xs)
 

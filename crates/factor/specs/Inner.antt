@@ -7,7 +7,7 @@ use lib.Dec.{leb}
 use lib.ListN.{length, getD}
 use Rattle.factor.specs.LengthFactor.{longest, reached}
 
--- a cell side, and a steepness no less than any of a map: twice the square of a drop below 2^21 cm
+-- a cell side, and a steepness as small as those of a map: at most twice the square of a drop below 2^21 cm
 pub record Sloping (side q : ℕ) : Type 0 where
   pub side-some : 1 ≤ side
   pub side-small : side ≤ 100000
@@ -47,7 +47,7 @@ pub record Lookup (k mm : ℕ) (five four three two : List ℕ) : Type 0 where
   pub length-in : mm ≤ longest
   pub listed : Listed five four three two
 
--- a cell, its length no less than any of a map: 14,142 for each of 1,048,576 cells, and 5,000
+-- a cell, whose length is as small as those of a map: at most 14,142 for each of 1,048,576 cells, and 5,000
 pub record Measured (side q len : ℕ) (five four three two : List ℕ) : Type 0 where
   pub sloping : Sloping side q
   pub length-small : len < 2 ^ 36

@@ -6,12 +6,13 @@ use crate::exponent::exponent_of;
 use crate::length_factor::length_factor;
 use crate::steepness::steepness_factor;
 
-// The greatest length in mm that has a factor, and what a longer one has in its place.
+// The greatest length in mm that has a factor.
 const LONGEST: u64 = 304800;
 
+// What a longer one has in its place.
 const TOO_LONG: u32 = 4294967294;
 
-// LS in hundred-thousandths, for a valid cell of steepness q. The lists are those of `thresholds`, lent.
+// LS in hundred-thousandths, for a valid cell of steepness q, by the lists of `thresholds`.
 pub(crate) fn factor_of<'a>(
     side: u32,
     q: u64,

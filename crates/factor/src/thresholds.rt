@@ -2,7 +2,7 @@
 // exponents 5/10, 4/10, 3/10 and 2/10.
 ghost use Rattle.factor.specs.Inner.{Listed};
 
-// The four lists, made once and lent from then on: each use of a constant list copies it.
+// The four lists. They are made once and lent from then on, since each use of a constant list copies it.
 pub(crate) struct Thresholds {
     pub(crate) five: [u32; 371],
     pub(crate) four: [u32; 285],
@@ -10,6 +10,7 @@ pub(crate) struct Thresholds {
     pub(crate) two: [u32; 168],
 }
 
+// Each list follows the power rule, up to the longest length.
 pub(crate) fn all() -> Thresholds
     ensures { λ r. ⌜ Listed (r .five) (r .four) (r .three) (r .two) ⌝ }
 {

@@ -1,6 +1,6 @@
 -- `factor::steepness::steepness_factor` meets its contract: a sine is at most 1,000, so the sum fits. Assumes nothing.
 use borrow.Author.Needs.{needs}
-use Prim.Native.Nat.{_*_, _≤_}
+use Prim.Native.Nat.{_≤_}
 use native.Mathlib.Nat.{mul-le-mul}
 use native.Mathlib.Omega.{arith}
 use Rattle.factor.specs.Steepness.{steepnessFactor}
