@@ -1,4 +1,4 @@
--- The tests of the map call as the code makes them: sizes, heights, and the first bad cell. Assumes nothing.
+-- The tests of the map call as the code makes them: sizes, the cell side, heights, and the first bad cell. Assumes nothing.
 use mathlib.Core.Path.{_≡_, refl, sym, ap, _∙_}
 use mathlib.Core.List.{List}
 use mathlib.Core.Bool.{Bool, true, false, not, _&&_, _||_}
@@ -18,7 +18,7 @@ use Rattle.laws.proofs.Lists.{getD-any}
 use Rattle.laws.proofs.Signed.{lt-not-le, not-lt-le}
 use Rattle.laws.proofs.First.{first-is, first-none}
 use Rattle.text.specs.Quantities.{heightIn}
-use Rattle.terrain.specs.Quantities.{noData, sizeAccepted, heightAccepted}
+use Rattle.terrain.specs.Quantities.{noData, sizeAccepted, sideAccepted, heightAccepted}
 use Rattle.terrain.specs.Answers.{firstBad}
 
 pub size-none : (n : ℕ) → n < 1 → false ≡ sizeAccepted n
@@ -28,6 +28,14 @@ size-none n h = and-false-left (leb 1 n) (leb n 1024) (lt-leb 1 n h)
 pub size-some : (n : ℕ) → 1 ≤ n → leb n 1024 ≡ sizeAccepted n
 unfolding sizeAccepted
 size-some n h = and-true-left (leb 1 n) (leb n 1024) (le-leb 1 n h)
+
+pub side-none : (c : ℕ) → c < 1 → false ≡ sideAccepted c
+unfolding sideAccepted
+side-none c h = and-false-left (leb 1 c) (leb c 100000) (lt-leb 1 c h)
+
+pub side-some : (c : ℕ) → 1 ≤ c → leb c 100000 ≡ sideAccepted c
+unfolding sideAccepted
+side-some c h = and-true-left (leb 1 c) (leb c 100000) (le-leb 1 c h)
 
 -- ---- heights
 

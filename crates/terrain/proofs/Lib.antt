@@ -7,6 +7,9 @@ pub mod Trails
 pub mod Counting
 pub mod Following
 pub mod Drainage
+pub mod Cutoffs
+pub mod Lengths
+pub mod Measuring
 pub mod Answers
 pub mod Accepted
 pub mod Interior
@@ -15,7 +18,4 @@ pub mod Stepping
 pub mod Falls
 pub mod Surveying
 pub mod Fields
-pub mod Cutoffs
-pub mod Lengths
-pub mod Measuring
 pub mod LengthFields

@@ -3,14 +3,17 @@ use mathlib.Core.Path.{_≡_, sym, ap, ap₂, subst, _∙_}
 use mathlib.Core.List.{List, map}
 use Prim.Native.Nat.{ℕ, _*_, _<_}
 use native.Mathlib.Omega.{arith}
-use lib.ListN.{getD, replicate}
+use lib.ListN.{length, getD, replicate}
 use lib.IntN.{ℤ}
-use Rattle.terrain.specs.Cells.{heightOf, Ready}
+use Rattle.terrain.specs.declared.settings.Rules.{Rules}
+use Rattle.terrain.specs.Cells.{heightOf, levelsOf, Ready}
 use Rattle.terrain.specs.Levels.{Levels}
 use Rattle.terrain.specs.Filled.{top, filledLevels}
 use Rattle.terrain.specs.Direction.{directionsOf}
 use Rattle.terrain.specs.Trail.{validsOf, countsOf, longestOf}
 use Rattle.terrain.specs.Directed.{Directed}
+use Rattle.terrain.specs.Length.{lengthsOf}
+use Rattle.terrain.specs.Measure.{Working}
 use Rattle.terrain.specs.Relief.{Relief}
 use Rattle.terrain.specs.Answers.{Grids, acceptance, lent, accepted, directionOf, countOf, longestTrail, answerOf, gridsOf}
 use Rattle.terrain.proofs.Interior.{ready-sized}
@@ -18,6 +21,7 @@ use Rattle.terrain.proofs.Filling.{filled-long, filled-small}
 use Rattle.terrain.proofs.Flooding.{filled-valids, filled-heights}
 use Rattle.terrain.proofs.Trails.{rank-falls}
 use Rattle.terrain.proofs.Drainage.{potential, falls, stops-zero}
+use Rattle.terrain.proofs.Measuring.{filled-charted, measured-is}
 
 module _ {rows cols : ℕ} {ground : List ℤ} (ready : Ready rows cols ground) where
   abbrev lv : List ℕ
@@ -44,13 +48,24 @@ module _ {rows cols : ℕ} {ground : List ℤ} (ready : Ready rows cols ground) 
       let f = rank-falls rows cols (directionsOf rows cols lv) (potential rows cols ground ready) (falls rows cols ground ready) in
       subst (Directed rows cols) (sym d) (record { sized = ready-sized ready; long = f .long; stops = stops-zero rows cols ground ready; stays = f .stays; less = f .less })
 
+  -- ---- lengths
+
+  -- what lengths assume of the grids before them
+  pub relief-working : {filled : List ℤ} {direction count lengths workspace : List ℕ} {valid : ℕ} → Relief rows cols ground filled direction valid → length count ≡ rows * cols → length lengths ≡ rows * cols → length workspace ≡ rows * cols → Working rows cols filled direction count lengths workspace
+  relief-working r c l w = record { charted = filled-charted ready (r .filled-is) (relief-directed (r .direction-is)); count-long = c; lengths-long = l; waiting-long = w }
+
 -- ---- the answer and the grids
 
-module _ {rows cols : ℕ} {ground filled : List ℤ} {direction : List ℕ} {valid : ℕ} (r : Relief rows cols ground filled direction valid) where
-  pub survey-answer : {longest : ℕ} → longest ≡ longestOf rows cols direction → acceptance valid longest ≡ answerOf rows cols ground accepted
+module _ {rows cols : ℕ} {ground filled : List ℤ} {direction : List ℕ} {valid : ℕ} (r : Relief rows cols ground filled direction valid) (rules : Rules) where
+  pub survey-answer : {longest : ℕ} → longest ≡ longestOf rows cols direction → acceptance valid longest ≡ answerOf rows cols ground (accepted rules)
   unfolding answerOf longestTrail
   survey-answer l = ap₂ acceptance (r .valid-is) (l ∙ ap (longestOf rows cols) (r .direction-is))
 
-  pub survey-grids : (g : Grids) {count workspace : List ℕ} → count ≡ countsOf rows cols direction → workspace ≡ replicate (rows * cols) 0 → lent filled direction count workspace ≡ gridsOf rows cols ground g accepted
+  pub survey-grids : (ready : Ready rows cols ground) (side : ℕ) (g : Grids) {count lengths workspace : List ℕ} → count ≡ countsOf rows cols direction → lengths ≡ lengthsOf rows cols side rules (levelsOf filled) direction count → workspace ≡ replicate (rows * cols) 0 → lent filled direction count lengths workspace ≡ gridsOf rows cols side ground g (accepted rules)
   unfolding gridsOf countOf
-  survey-grids g c w = cc
+  survey-grids ready side g c l w =
+      let count-is = c ∙ ap (countsOf rows cols) (r .direction-is) in
+      let lengths-are = l ∙ measured-is ready side rules (r .filled-is) (r .direction-is) count-is in
+      let filled-are = r .filled-is in
+      let direction-is = r .direction-is in
+      cc

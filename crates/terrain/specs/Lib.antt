@@ -6,10 +6,10 @@ pub mod Flat
 pub mod Direction
 pub mod Trail
 pub mod Drainage
-pub mod Answers
-pub mod Inside
 pub mod Settings
 pub mod Length
+pub mod Answers
+pub mod Inside
 pub mod Flood
 pub mod Directed
 pub mod Measure

@@ -1,8 +1,8 @@
--- Document 01, "Quantities": the ranges of rows, columns and heights, and NoData, as the text layer has them. Assumes nothing.
+-- Document 01, "Quantities": the ranges of rows, columns, cell side and heights, and NoData, as the text layer has them. Assumes nothing.
 use mathlib.Core.Bool.{Bool, _||_}
 use Prim.Native.Nat.{ℕ, _≤_, _<_}
 use lib.IntN.{ℤ, pos, negsuc}
-use Rattle.text.specs.Quantities.{extentIn, heightIn, noDataHeight}
+use Rattle.text.specs.Quantities.{extentIn, sideIn, heightIn, noDataHeight}
 use Rattle.text.specs.Heights.{same}
 
 -- "-999,900 means NoData"
@@ -12,6 +12,10 @@ noData = noDataHeight
 -- "rows, columns: each 1 to 1,024"
 unfoldable pub sizeAccepted : ℕ → Bool
 sizeAccepted n = extentIn n
+
+-- "cell side c: whole cm, 1 to 100,000"
+unfoldable pub sideAccepted : ℕ → Bool
+sideAccepted c = sideIn (pos c)
 
 -- what is no cause of refusal 5, "height out of range and not NoData"
 unfoldable pub heightAccepted : ℤ → Bool

@@ -1,22 +1,30 @@
-// The terrain layer: from ground heights to filled heights, directions and flow counts. Document 01, "Filling and directions".
+// The terrain layer: from ground heights to filled heights, directions, flow counts and slope lengths. Document 01, "Filling
+// and directions" and "Length".
 //
-// Every input gets an answer: the call has no `requires`. The modules follow document 01: cells, filled heights, steps over
-// flats, directions, trails.
+// Every input gets an answer: the call has no `requires`. The modules follow document 01: settings, cells, filled heights,
+// steps over flats, directions, trails, lengths.
 mod cells;
 mod direction;
 mod filled;
 mod flat;
+mod length;
 mod queue;
+mod settings;
 mod trail;
+
+pub use settings::Channel;
+pub use settings::Settings;
 
 ghost use mathlib.Core.Path.{_≡_};
 ghost use Prim.Native.Nat.{_*_};
 ghost use lib.ListN.{length};
-ghost use Rattle.terrain.specs.Quantities.{sizeAccepted, heightAccepted};
+ghost use Rattle.terrain.specs.Quantities.{sizeAccepted, sideAccepted, heightAccepted};
 ghost use Rattle.terrain.specs.Cells.{Ready};
 ghost use Rattle.terrain.specs.Drainage.{Drainage};
-ghost use Rattle.terrain.specs.Relief.{Relief};
+ghost use Rattle.terrain.specs.Relief.{Relief, Room};
 ghost use Rattle.terrain.specs.Answers.{told, lent, refusal, accepted, Long, firstBad, answerOf, gridsOf, answer, after};
+use settings::Judged;
+use settings::Rules;
 use text::NO_DATA;
 use text::Refusal;
 
@@ -34,6 +42,16 @@ fn is_size(n: usize) -> bool
         return false;
     }
     n <= 1024
+}
+
+// Whether a cell side, in cm, is accepted.
+fn is_side(side: u32) -> bool
+    ensures { λ r. ⌜ r ≡ sideAccepted side ⌝ }
+{
+    if side < 1 {
+        return false;
+    }
+    side <= 100000
 }
 
 // Whether a height is accepted.
@@ -82,7 +100,7 @@ fn shape(
     count: &mut [u32],
     workspace: &mut [u32],
 ) -> u32
-    requires { ⌜ Ready rows columns (now ground) × Long (rows * columns) (now ground) (lent (now filled) (now direction) (now count) (now workspace)) ⌝ }
+    requires { ⌜ Ready rows columns (now ground) × Room (rows * columns) (now filled) (now direction) (now count) (now workspace) ⌝ }
     ensures { λ r. ⌜ Relief rows columns (now (ground .entry)) (now (filled .exit)) (now (direction .exit)) r ⌝ }
 {
     filled::fill(rows, columns, ground, workspace, count);
@@ -96,17 +114,31 @@ fn shape(
 fn survey(
     rows: usize,
     columns: usize,
+    side: u32,
+    rules: Rules,
     ground: &[i32],
     filled: &mut [i32],
     direction: &mut [u8],
     count: &mut [u32],
+    lengths: &mut [u64],
     workspace: &mut [u32],
 ) -> Answer
-    requires { ⌜ Ready rows columns (now ground) × Long (rows * columns) (now ground) (lent (now filled) (now direction) (now count) (now workspace)) ⌝ }
-    ensures { λ r. ⌜ (told r ≡ answerOf rows columns (now (ground .entry)) accepted) × (lent (now (filled .exit)) (now (direction .exit)) (now (count .exit)) (now (workspace .exit)) ≡ gridsOf rows columns (now (ground .entry)) (lent (now (filled .entry)) (now (direction .entry)) (now (count .entry)) (now (workspace .entry))) accepted) ⌝ }
+    requires { ⌜ Ready rows columns (now ground) × Long (rows * columns) (now ground) (lent (now filled) (now direction) (now count) (now lengths) (now workspace)) ⌝ }
+    ensures { λ r. ⌜ (told r ≡ answerOf rows columns (now (ground .entry)) (accepted rules)) × (lent (now (filled .exit)) (now (direction .exit)) (now (count .exit)) (now (lengths .exit)) (now (workspace .exit)) ≡ gridsOf rows columns side (now (ground .entry)) (lent (now (filled .entry)) (now (direction .entry)) (now (count .entry)) (now (lengths .entry)) (now (workspace .entry))) (accepted rules)) ⌝ }
 {
     let valid = shape(rows, columns, ground, filled, direction, count, workspace);
     trail::count_flow(rows, columns, direction, count, workspace);
+    length::measure(
+        rows,
+        columns,
+        side,
+        rules,
+        filled,
+        direction,
+        count,
+        lengths,
+        workspace,
+    );
     let longest = trail::longest_trail(rows, columns, direction, workspace);
     Answer::Accepted {
         valid: valid,
@@ -114,19 +146,22 @@ fn survey(
     }
 }
 
-// Maps a ground of rows times columns heights, each lent grid and the workspace having one place per cell. A refusal changes
-// nothing that is lent; after success the workspace holds zeros.
+// Maps a ground of rows times columns heights with cells of the given side in cm, each lent grid and the workspace having
+// one place per cell. A refusal changes nothing that is lent; after success the workspace holds zeros.
 pub fn map(
     rows: usize,
     columns: usize,
+    side: u32,
+    settings: Settings,
     ground: &[i32],
     filled: &mut [i32],
     direction: &mut [u8],
     count: &mut [u32],
+    lengths: &mut [u64],
     workspace: &mut [u32],
 ) -> Answer
-    ensures answers { λ r. ⌜ told r ≡ answer rows columns (now (ground .entry)) (lent (now (filled .entry)) (now (direction .entry)) (now (count .entry)) (now (workspace .entry))) ⌝ }
-    ensures leaves { λ _. ⌜ lent (now (filled .exit)) (now (direction .exit)) (now (count .exit)) (now (workspace .exit)) ≡ after rows columns (now (ground .entry)) (lent (now (filled .entry)) (now (direction .entry)) (now (count .entry)) (now (workspace .entry))) ⌝ }
+    ensures answers { λ r. ⌜ told r ≡ answer rows columns side settings (now (ground .entry)) (lent (now (filled .entry)) (now (direction .entry)) (now (count .entry)) (now (lengths .entry)) (now (workspace .entry))) ⌝ }
+    ensures leaves { λ _. ⌜ lent (now (filled .exit)) (now (direction .exit)) (now (count .exit)) (now (lengths .exit)) (now (workspace .exit)) ≡ after rows columns side settings (now (ground .entry)) (lent (now (filled .entry)) (now (direction .entry)) (now (count .entry)) (now (lengths .entry)) (now (workspace .entry))) ⌝ }
     ensures drains { λ r. ⌜ (told r .number ≡ 0 → Drainage rows columns (now (ground .entry)) (now (filled .exit)) (now (direction .exit)) (now (count .exit)) (told r .valids)) ⌝ }
 {
     if !is_size(rows) {
@@ -148,12 +183,34 @@ pub fn map(
     if count.len() != cells {
         return refused(2, 0);
     }
+    if lengths.len() != cells {
+        return refused(2, 0);
+    }
     if workspace.len() != cells {
         return refused(2, 0);
     }
+    if !is_side(side) {
+        return refused(3, 0);
+    }
+    let judged = settings::judge(settings);
+    let rules = match judged {
+        Judged::Accepted(rules) => rules,
+        Judged::Refused(place) => return refused(4, place),
+    };
     let bad = first_bad(ground);
     if bad < cells {
         return refused(5, bad);
     }
-    survey(rows, columns, ground, filled, direction, count, workspace)
+    survey(
+        rows,
+        columns,
+        side,
+        rules,
+        ground,
+        filled,
+        direction,
+        count,
+        lengths,
+        workspace,
+    )
 }
