@@ -14,7 +14,6 @@ mod trail;
 
 pub use settings::Channel;
 pub use settings::Settings;
-
 ghost use mathlib.Core.Path.{_≡_};
 ghost use Prim.Native.Nat.{_*_};
 ghost use lib.ListN.{length};

@@ -1,8 +1,10 @@
-// Maps one field and writes its name, rows and columns; its answer: number, place, valid cells and longest trail; the
-// ground and the three result grids row by row; and what became of the workspace.
+// Maps one field and writes its name, rows and columns; its answer: number, place, valid cells and longest trail; ground,
+// filled heights, directions and counts row by row; and what became of the workspace.
 ghost use Prim.Native.Nat.{_≤_};
 use libc::STDOUT_FILENO;
 use terrain::Answer;
+use terrain::Channel;
+use terrain::Settings;
 
 // A field with one place per height in every lent grid.
 pub(crate) fn field(name: &[u8], rows: usize, columns: usize, ground: &[i32]) {
@@ -10,8 +12,8 @@ pub(crate) fn field(name: &[u8], rows: usize, columns: usize, ground: &[i32]) {
     lent(name, rows, columns, ground, cells, cells, cells, cells);
 }
 
-// A field with the given numbers of places in the lent grids, each at most 1,600. Every place holds 77 beforehand, so
-// that an untouched grid shows.
+// A field with the given numbers of places in the lent grids, each at most 1,600; the lengths have as many as the counts.
+// Every place holds 77 beforehand, so that an untouched grid shows.
 pub(crate) fn lent(
     name: &[u8],
     rows: usize,
@@ -29,6 +31,7 @@ pub(crate) fn lent(
     let mut filled = [77i32; 1600];
     let mut direction = [77u8; 1600];
     let mut count = [77u32; 1600];
+    let mut lengths = [77u64; 1600];
     let mut workspace = [77u32; 1600];
     write(name);
     write_natural(rows as u64);
@@ -40,6 +43,7 @@ pub(crate) fn lent(
         &mut filled[0..filled_end],
         &mut direction[0..direction_end],
         &mut count[0..count_end],
+        &mut lengths[0..count_end],
         &mut workspace[0..workspace_end],
     );
 }
@@ -58,9 +62,19 @@ fn write_map(
     filled: &mut [i32],
     direction: &mut [u8],
     count: &mut [u32],
+    lengths: &mut [u64],
     workspace: &mut [u32],
 ) {
-    map(rows, columns, ground, filled, direction, count, workspace);
+    map(
+        rows,
+        columns,
+        ground,
+        filled,
+        direction,
+        count,
+        lengths,
+        workspace,
+    );
     write_heights(b"\nground", columns, ground);
     write_heights(b"\nfilled", columns, filled);
     write_codes(columns, direction);
@@ -68,7 +82,7 @@ fn write_map(
     write_workspace(workspace);
 }
 
-// Works out the lent grids and writes the answer.
+// Works out the lent grids with cells of 10 m, cutoffs 0.5 and no channels, and writes the answer.
 fn map(
     rows: usize,
     columns: usize,
@@ -76,9 +90,26 @@ fn map(
     filled: &mut [i32],
     direction: &mut [u8],
     count: &mut [u32],
+    lengths: &mut [u64],
     workspace: &mut [u32],
 ) {
-    write_answer(terrain::map(rows, columns, ground, filled, direction, count, workspace));
+    let settings = Settings {
+        low: 0.5,
+        high: 0.5,
+        channel: Channel::NoChannel,
+    };
+    write_answer(terrain::map(
+        rows,
+        columns,
+        1000,
+        settings,
+        ground,
+        filled,
+        direction,
+        count,
+        lengths,
+        workspace,
+    ));
 }
 
 fn write_answer(answer: Answer) {
