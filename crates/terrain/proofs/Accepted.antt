@@ -29,13 +29,13 @@ pub size-some : (n : ℕ) → 1 ≤ n → leb n 1024 ≡ sizeAccepted n
 unfolding sizeAccepted
 size-some n h = and-true-left (leb 1 n) (leb n 1024) (le-leb 1 n h)
 
-pub side-none : (c : ℕ) → c < 1 → false ≡ sideAccepted c
+pub cell-side-none : (c : ℕ) → c < 1 → false ≡ sideAccepted c
 unfolding sideAccepted
-side-none c h = and-false-left (leb 1 c) (leb c 100000) (lt-leb 1 c h)
+cell-side-none c h = and-false-left (leb 1 c) (leb c 100000) (lt-leb 1 c h)
 
-pub side-some : (c : ℕ) → 1 ≤ c → leb c 100000 ≡ sideAccepted c
+pub cell-side-some : (c : ℕ) → 1 ≤ c → leb c 100000 ≡ sideAccepted c
 unfolding sideAccepted
-side-some c h = and-true-left (leb 1 c) (leb c 100000) (le-leb 1 c h)
+cell-side-some c h = and-true-left (leb 1 c) (leb c 100000) (le-leb 1 c h)
 
 -- ---- heights
 

@@ -126,13 +126,12 @@ module _ (rows cols side : ℕ) (settings : Settings) (ground : List ℤ) (g : G
     judge-long l = judge-is ∙ ap₂ (λ (a b : Bool). verdict a b (sideAccepted side) rest) s l
 
     module _ (l : allLong (rows * cols) ground g ≡ true) where
-      judge-side : sideAccepted side ≡ false → judge rows cols side settings ground g ≡ refused 3 0
-      judge-side c = judge-is ∙ ap₂ (λ (a b : Bool). verdict a b (sideAccepted side) rest) s l ∙ ap (λ (c : Bool). verdict true true c rest) c
+      judge-side : {c : Bool} → sideAccepted side ≡ c → judge rows cols side settings ground g ≡ cond c rest (refused 3 0)
+      judge-side e = judge-is ∙ ap₂ (λ (a b : Bool). verdict a b (sideAccepted side) rest) s l ∙ ap (λ (c : Bool). verdict true true c rest) e
 
       -- the settings and the heights decide
       judge-rest : sideAccepted side ≡ true → {j : Judged} → j ≡ judgedOf settings → judge rows cols side settings ground g ≡ judgeRest (rows * cols) ground j
-      judge-rest c e =
-          judge-is ∙ ap₂ (λ (a b : Bool). verdict a b (sideAccepted side) rest) s l ∙ ap (λ (c : Bool). verdict true true c rest) c ∙ ap (judgeRest (rows * cols) ground) (sym e)
+      judge-rest c e = judge-side c ∙ ap (judgeRest (rows * cols) ground) (sym e)
 
   -- ---- an accepted call
 

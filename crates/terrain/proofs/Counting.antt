@@ -122,7 +122,7 @@ module _ {rows cols : ℕ} {dir : List ℕ} (d : Directed rows cols dir) where
           ⊎-elim (λ e. let w = into-flows rows cols dir rank directed-falls rank-le z j e in absurd (true≢false (sym (d .stays (nb z j) (w .0)) ∙ ap (mappedAt rows cols dir) (w .1) ∙ v)))
           (λ e. e) (two (into z j))
 
-  mapped-read : (x : ℕ) → x < rows * cols → mappedAt rows cols dir x ≡ not (eqb (getD dir x 0) 255)
+  pub mapped-read : (x : ℕ) → x < rows * cols → mappedAt rows cols dir x ≡ not (eqb (getD dir x 0) 255)
   unfolding mappedAt
   mapped-read x h = ap (λ (c : ℕ). not (eqb c 255)) (code-read x h)
 

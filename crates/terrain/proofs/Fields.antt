@@ -41,8 +41,8 @@ abbrev pub Holds : Claim → Type 0
 Holds (mapped rows cols ground m) =
     (answer rows cols 1000 half ground (lent (rows * cols)) ≡ record { number = 0; place = 0; valids = m .valids; longest = m .longest })
     × (after rows cols 1000 half ground (lent (rows * cols)) ≡ record { filled = m .filled; direction = m .direction; count = m .count; lengths = m .lengths; workspace = replicate (rows * cols) 0 })
-Holds (refusedAt rows cols side rules ground number place) =
-    (answer rows cols side rules ground (lent 2) ≡ record { number = number; place = place; valids = 0; longest = 0 }) × (after rows cols side rules ground (lent 2) ≡ lent 2)
+Holds (refusedAt rows cols side given ground number place) =
+    (answer rows cols side given ground (lent 2) ≡ record { number = number; place = place; valids = 0; longest = 0 }) × (after rows cols side given ground (lent 2) ≡ lent 2)
 
 abbrev pub All : List Claim → Type 0
 All [] = Unit

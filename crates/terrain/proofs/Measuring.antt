@@ -37,7 +37,7 @@ use Rattle.terrain.specs.Measure.{steepest, AllFine, Charted, Bounded, c
 use Rattle.terrain.proofs.Neighbours.{each-side, across, across-small, side-none, side-leaves, level-fine, level-le, level-at, level-read, fine-fits, height-level, height-none}
 use Rattle.terrain.proofs.Filling.{greatest-fine, filled-long, filled-clear, filled-reached, filled-at, level-filled}
 use Rattle.terrain.proofs.Trails.{is-mapped, mapped-in, flows-mapped, steps-le, into-flows}
-use Rattle.terrain.proofs.Counting.{directed-falls, code-read, bit-of, into-read}
+use Rattle.terrain.proofs.Counting.{directed-falls, code-read, bit-of, into-read, mapped-read}
 use Rattle.terrain.proofs.Following.{most-less}
 use Rattle.terrain.proofs.Lengths.{from-is}
 
@@ -114,9 +114,9 @@ steep-small k d h = go (cardinal k)
 back-some : (k : ℕ) → k < 8 → 0 < backOf k
 back-some = each-side (λ k. 0 < backOf k) (omega arith) (omega arith) (omega arith) (omega arith) (omega arith) (omega arith) (omega arith) (omega arith)
 
--- the code across the side k
-pub back-code : (k : ℕ) → k < 8 → codeOf ((k + 4) % 8) ≡ backOf k
-back-code = each-side (λ k. codeOf ((k + 4) % 8) ≡ backOf k) refl refl refl refl refl refl refl refl
+-- the code of the side across
+pub across-code : (k : ℕ) → k < 8 → codeOf ((k + 4) % 8) ≡ backOf k
+across-code = each-side (λ k. codeOf ((k + 4) % 8) ≡ backOf k) refl refl refl refl refl refl refl refl
 
 -- ---- what one inflow brings, test by test as the code makes it
 
@@ -355,10 +355,6 @@ module _ {rows cols : ℕ} {dir : List ℕ} (d : Directed rows cols dir) (side :
       rw (lt-ltb gathered 1 (omega arith), e))
       (two (someOf into 8))
 
-  mapped-read : mappedAt rows cols dir x ≡ not (eqb (getD dir x 0) 255)
-  unfolding mappedAt
-  mapped-read = ap (λ (c : ℕ). not (eqb c 255)) (code-read d x h)
-
   flip : (b : Bool) (v : ℕ) → cond b 0 v ≡ cond (not b) v 0
   flip true v = refl
   flip false v = refl
@@ -367,7 +363,7 @@ module _ {rows cols : ℕ} {dir : List ℕ} (d : Directed rows cols dir) (side :
   unfolding settledOf
   settled-is b e =
       flip (eqb (getD dir x 0) 255) (cond b 0 (cond (ltb gathered 1) startLength (gathered - 1)))
-      ∙ ap₂ (λ (t : Bool) (v : ℕ). cond t v 0) (sym mapped-read) (ap₂ (λ (t : Bool) (v : ℕ). cond t 0 v) e settle)
+      ∙ ap₂ (λ (t : Bool) (v : ℕ). cond t v 0) (sym (mapped-read d x h)) (ap₂ (λ (t : Bool) (v : ℕ). cond t 0 v) e settle)
       ∙ sym (from-is d side rules lv count (cappedAt l) x)
 
 -- ---- a ground's own filled heights, directions and counts

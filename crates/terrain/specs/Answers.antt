@@ -77,12 +77,13 @@ unfoldable pub firstBad : ℕ → List ℤ → ℕ
 unfolding firstOf heightAccepted
 firstBad n ground = firstOf (λ x. not (heightAccepted (getD ground x noData))) n
 
--- "The map call tests 1, 2, 3, 4, 5 in that order, 5 at the first bad cell in row order." First 4 and 5, by what is found of the settings:
+-- the tests 4 and 5, by what is found of the settings
 unfoldable pub judgeRest : ℕ → List ℤ → Judged → Verdict
 unfolding firstBad
 judgeRest n ground (J.Accepted rules) = cond (ltb (firstBad n ground) n) (refused 5 (firstBad n ground)) (accepted rules)
 judgeRest n ground (J.Refused place) = refused 4 place
 
+-- "The map call tests 1, 2, 3, 4, 5 in that order, 5 at the first bad cell in row order."
 unfoldable pub judge : ℕ → ℕ → ℕ → Settings → List ℤ → Grids → Verdict
 unfolding sizeAccepted allLong sideAccepted judgedOf judgeRest
 judge rows cols side settings ground g =

@@ -1,13 +1,13 @@
 -- `terrain::is_side` meets its contract. Assumes nothing.
-use Rattle.terrain.proofs.Accepted.{side-none, side-some}
+use Rattle.terrain.proofs.Accepted.{cell-side-none, cell-side-some}
 use Rattle.terrain.proofs.is_side.Statement.{statement}
 use Rattle.terrain.proofs.is_side.Tie as tie
 
 returns : tie.Need-returns
-returns c = side-none (c .before .args .side) (c .if1 .taken)
+returns c = cell-side-none (c .before .args .side) (c .if1 .taken)
 
 returns-2 : tie.Need-returns-2
-returns-2 c = side-some (c .before .args .side) (c .if1 .left)
+returns-2 c = cell-side-some (c .before .args .side) (c .if1 .left)
 
 pub is-side-spec : {M : Type 1} → statement M
 is-side-spec = tie.close (tie.spec returns returns-2)

@@ -9,7 +9,7 @@ use Rattle.terrain.specs.Direction.{steepOf}
 use Rattle.terrain.specs.Length.{stepOver, amountOf}
 use Rattle.terrain.specs.Measure.{longest, cappedAt}
 use Rattle.terrain.proofs.Lengths.{step-le, amount-le}
-use Rattle.terrain.proofs.Measuring.{drop-small, steep-small, back-code, inflow-none, inflow-some}
+use Rattle.terrain.proofs.Measuring.{drop-small, steep-small, across-code, inflow-none, inflow-some}
 use Rattle.terrain.proofs.length.gather.Statement.{statement}
 use Rattle.terrain.proofs.length.gather.Tie as tie
 
@@ -25,7 +25,7 @@ code-of-requires c κs = search needs
 returns : tie.Need-returns
 returns c =
     let s = c .before .before .before .before .before in
-    omega (arith, inflow-none (levelsOf (s .args .filled .now)) (s .args .direction .now) (s .args .lengths .now) (s .args .n) (s .args .q) (s .args .x) (s .args .y) (s .args .k) (λ e. c .if1 .taken (e ∙ sym (c .before .code-of .ensures ∙ back-code (s .args .k) (s .pre .side-small)))))
+    omega (arith, inflow-none (levelsOf (s .args .filled .now)) (s .args .direction .now) (s .args .lengths .now) (s .args .n) (s .args .q) (s .args .x) (s .args .y) (s .args .k) (λ e. c .if1 .taken (e ∙ sym (c .before .code-of .ensures ∙ across-code (s .args .k) (s .pre .side-small)))))
 
 drop-of-requires : tie.Need-drop-of-requires
 drop-of-requires c κs = search needs
@@ -68,7 +68,7 @@ returns-2 c =
     let s = c .before .before .before .before .before .before .before .before .before .before .before .before in
     let lv = levelsOf (s .args .filled .now) in
     let e : c .before .brought .result + 1 ≡ amountOf (s .args .n) (s .args .q) (steepOf (s .args .k) (getD lv (s .args .y) 0 - getD lv (s .args .x) 0)) (stepOver (s .args .k)) (cappedAt (s .args .lengths .now) (s .args .y)) + 1 = cc in
-    omega (arith, c .longer .ensures, e, inflow-some (levelsOf (s .args .filled .now)) (s .args .direction .now) (s .args .lengths .now) (s .args .n) (s .args .q) (s .args .x) (s .args .y) (s .args .k) (c .before .before .before .before .before .before .before .if1 .left ∙ c .before .before .before .before .before .before .before .before .code-of .ensures ∙ back-code (s .args .k) (s .pre .side-small)))
+    omega (arith, c .longer .ensures, e, inflow-some (levelsOf (s .args .filled .now)) (s .args .direction .now) (s .args .lengths .now) (s .args .n) (s .args .q) (s .args .x) (s .args .y) (s .args .k) (c .before .before .before .before .before .before .before .if1 .left ∙ c .before .before .before .before .before .before .before .before .code-of .ensures ∙ across-code (s .args .k) (s .pre .side-small)))
 
 pub gather-spec : {M : Type 1} → statement M
 gather-spec =
