@@ -16,6 +16,7 @@ use crate::cells::beside;
 use crate::cells::larger;
 use crate::cells::near;
 use crate::cells::run_end;
+use crate::cells::smaller;
 use crate::direction::NO_CODE;
 use crate::direction::code_of;
 use crate::settings::Rules;
@@ -106,14 +107,8 @@ fn is_cut(n: u32, q: u64, p: u64) -> bool
     requires { ⌜ (q ≤ steepest) × (p ≤ steepest) ⌝ }
     ensures { λ r. ⌜ r ≡ isCut n q p ⌝ }
 {
-    if 100 <= n {
-        return false;
-    }
-    if p <= q {
-        return false;
-    }
-    let left = (100 - n) as u64;
-    10000 * q <= left * left * p
+    let left = (100 - smaller(n, 100)) as u64;
+    (n < 100) & (q < p) & (10000 * q <= left * left * p)
 }
 
 // What an inflow of steepness p brings to a cell of steepness q: the step is the inflow's, and so is the length.
@@ -121,7 +116,7 @@ fn brought(n: u32, q: u64, p: u64, step: u64, length: u64) -> u64
     requires { ⌜ (q ≤ steepest) × (p ≤ steepest) × (step ≤ 14142) × (length ≤ longest) ⌝ }
     ensures { λ r. ⌜ r ≡ amountOf n q p step length ⌝ }
 {
-    if q + p < 1 {
+    if (q == 0) & (p == 0) {
         return START;
     }
     if is_cut(n, q, p) {
