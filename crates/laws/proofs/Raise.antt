@@ -1,5 +1,5 @@
 -- Raising until still: any order of raising in place stays at or below F, and a list that no offer raises is F. Assumes nothing.
-use mathlib.Core.Path.{_≡_, refl, sym, ap, subst, subst₂, _∙_}
+use mathlib.Core.Path.{_≡_, refl, sym, ap, subst₂, _∙_}
 use mathlib.Core.List.{List}
 use mathlib.Core.Bool.{Bool, true, false, cond, _||_, true≢false, false≢true}
 use Prim.Native.Nat.{ℕ, zero, suc, _+_, _-_, _≤_, _<_}
@@ -53,13 +53,6 @@ module _ (F : List ℕ) (offer : List ℕ → ℕ → ℕ) (pot : ℕ → ℕ) (
 
   pub offer-under : (l : List ℕ) → Under F l → (x : ℕ) → x < length F → Under F (set l x (offer l x))
   offer-under l k x h = store-under F l k x (offer l x) h (rule .mono l k x h)
-
-  pub raise-under : (l m : List ℕ) (x : ℕ) → Under F l → x < length F → m ≡ raisedOf offer l x → Under F m
-  raise-under l m x k h e = subst (Under F) (sym e) (go (ltb (getD l x 0) (offer l x)))
-    where
-      go : (t : Bool) → Under F (cond t (set l x (offer l x)) l)
-      go true = offer-under l k x h
-      go false = k
 
   -- ---- a sweep
 

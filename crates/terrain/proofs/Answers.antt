@@ -101,9 +101,6 @@ module _ (rows cols : ℕ) (ground : List ℤ) (g : Grids) where
 
   -- ---- an accepted call
 
-  pub accepted-long : judge rows cols ground g ≡ accepted → Long (rows * cols) ground g
-  accepted-long e = long-is (rows * cols) ground g (tests e .1)
-
   pub accepted-ready : judge rows cols ground g ≡ accepted → Ready rows cols ground
   unfolding firstBad
   accepted-ready e =

@@ -39,7 +39,7 @@ pub record Gathering (rows cols : ℕ) (dir l : List ℕ) (z k sum : ℕ) : Type
   pub is : sum ≡ when (mappedAt rows cols dir z) 1 + sumTo k (λ j. when (intoAt rows cols dir z j) (getD l (neighbour rows cols z j) 0))
   pub small : sum ≤ 1 + k * 1048576
 
-module _ (rows cols : ℕ) (dir : List ℕ) (d : Directed rows cols dir) where
+module _ {rows cols : ℕ} {dir : List ℕ} (d : Directed rows cols dir) where
   abbrev rank : ℕ → ℕ
   rank = stepsIn rows cols dir (rows * cols)
 
@@ -126,33 +126,33 @@ module _ (rows cols : ℕ) (dir : List ℕ) (d : Directed rows cols dir) where
   unfolding mappedAt
   mapped-read x h = ap (λ (c : ℕ). not (eqb c 255)) (code-read x h)
 
-  pub gather-none : (l : List ℕ) (z m : ℕ) → z < rows * cols → m ≡ when (not (eqb (getD dir z 0) 255)) 1 → Gathering rows cols dir l z 0 m
-  gather-none l z m h e =
+  pub gather-none : {l : List ℕ} {z m : ℕ} → z < rows * cols → m ≡ when (not (eqb (getD dir z 0) 255)) 1 → Gathering rows cols dir l z 0 m
+  gather-none {l} {z} h e =
       record {
         sides = omega arith;
         is = omega (arith, e, ap (λ (b : Bool). when b 1) (mapped-read z h), sum-none (λ j. when (into z j) (getD l (nb z j) 0)));
         small = omega (arith, e, when-under (not (eqb (getD dir z 0) 255)) 1);
       }
 
-  pub brought-small : (l : List ℕ) → Counts rows cols l → (y : ℕ) (t : Bool) (b : ℕ) → b ≡ when t (getD l y 0) → b ≤ 1048576
-  brought-small l s y t b e = omega (arith, e, when-under t (getD l y 0), s .small y, d .sized .small)
+  pub brought-small : {l : List ℕ} → Counts rows cols l → (y : ℕ) (t : Bool) {b : ℕ} → b ≡ when t (getD l y 0) → b ≤ 1048576
+  brought-small {l} s y t e = omega (arith, e, when-under t (getD l y 0), s .small y, d .sized .small)
 
-  pub gather-more : (l : List ℕ) → Counts rows cols l → (z k m b : ℕ) → z < rows * cols → k < 8 → Gathering rows cols dir l z k m → b ≡ when (eqb (getD dir (neighbour rows cols z k) 0) (backOf k)) (getD l (neighbour rows cols z k) 0) → Gathering rows cols dir l z (k + 1) (m + b)
-  gather-more l s z k m b h q g e =
+  pub gather-more : {l : List ℕ} {z k m b : ℕ} → Counts rows cols l → z < rows * cols → k < 8 → Gathering rows cols dir l z k m → b ≡ when (eqb (getD dir (neighbour rows cols z k) 0) (backOf k)) (getD l (neighbour rows cols z k) 0) → Gathering rows cols dir l z (k + 1) (m + b)
+  gather-more {l} {z} {k} s h q g e =
       record {
         sides = omega arith;
         is = omega (arith, g .is, e, ap (λ (t : Bool). when t (getD l (nb z k) 0)) (into-read z k h q), sum-more k (λ j. when (into z j) (getD l (nb z j) 0)));
-        small = omega (arith, g .small, brought-small l s (nb z k) (eqb (getD dir (nb z k) 0) (backOf k)) b e);
+        small = omega (arith, g .small, brought-small s (nb z k) (eqb (getD dir (nb z k) 0) (backOf k)) e);
       }
 
-  pub gather-all : (l : List ℕ) (z k m : ℕ) → 8 ≤ k → Gathering rows cols dir l z k m → m ≡ countOffer rows cols dir l z
-  gather-all l z k m h g = let e : k ≡ 8 = omega (arith, g .sides) in g .is ∙ ap (λ (j : ℕ). when (mappedAt rows cols dir z) 1 + sumTo j (λ j. when (into z j) (getD l (nb z j) 0))) e ∙ sym (offer-split l z)
+  pub gather-all : {l : List ℕ} {z k m : ℕ} → 8 ≤ k → Gathering rows cols dir l z k m → m ≡ countOffer rows cols dir l z
+  gather-all {l} {z} {k} h g = let e : k ≡ 8 = omega (arith, g .sides) in g .is ∙ ap (λ (j : ℕ). when (mappedAt rows cols dir z) 1 + sumTo j (λ j. when (into z j) (getD l (nb z j) 0))) e ∙ sym (offer-split l z)
 
   -- ---- counts that are all what is brought
 
   -- one comparison, of a count with the sum that was gathered
-  pub counted-one : (l : List ℕ) (x s m : ℕ) → s ≡ countOffer rows cols dir l x → m ≡ when (not (eqb (getD l x 0) s)) 1 → Failing (Counted rows cols dir l) x (x + 1) m
-  counted-one l x s m e q = failing-one (Counted rows cols dir l) x m (omega (arith, q, when-under (not (eqb (getD l x 0) s)) 1)) (λ z. same z ∙ e)
+  pub counted-one : (l : List ℕ) (x : ℕ) {s m : ℕ} → s ≡ countOffer rows cols dir l x → m ≡ when (not (eqb (getD l x 0) s)) 1 → Failing (Counted rows cols dir l) x (x + 1) m
+  counted-one l x {s} {m} e q = failing-one (Counted rows cols dir l) x m (omega (arith, q, when-under (not (eqb (getD l x 0) s)) 1)) (λ z. same z ∙ e)
     where
       same : m ≡ 0 → getD l x 0 ≡ s
       same z = ⊎-elim (λ t. eqb-true (getD l x 0) s t) (λ t. absurd (omega (arith, q, when-yes 1 (ap not t)))) (two (eqb (getD l x 0) s))
@@ -171,8 +171,8 @@ module _ (rows cols : ℕ) (dir : List ℕ) (d : Directed rows cols dir) where
       )
 
   -- the counts of the definition are the only ones
-  pub counts-only : (l : List ℕ) (n : ℕ) → length l ≡ rows * cols → Failing (Counted rows cols dir l) 0 (rows * cols) n → n < 1 → l ≡ countsOf rows cols dir
-  counts-only l n e c h =
+  pub counts-only : {l : List ℕ} {n : ℕ} → length l ≡ rows * cols → Failing (Counted rows cols dir l) 0 (rows * cols) n → n < 1 → l ≡ countsOf rows cols dir
+  counts-only {l} e c h =
       ext-getD 0 l (countsOf rows cols dir) (e ∙ sym (counts-long rows cols dir rank directed-falls rank-le))
       (λ x i. counts-below l (λ y k. c .all (omega arith) y (omega arith) k) (suc (rows * cols - rank x)) x (omega arith) (omega arith))
 
@@ -184,8 +184,8 @@ module _ (rows cols : ℕ) (dir : List ℕ) (d : Directed rows cols dir) where
   pub counting-long : length (countsOf rows cols dir) ≡ rows * cols
   counting-long = counts-long rows cols dir rank directed-falls rank-le
 
-  pub counting-counts : (l : List ℕ) → Under (countsOf rows cols dir) l → Counts rows cols l
-  counting-counts l u =
+  pub counting-counts : {l : List ℕ} → Under (countsOf rows cols dir) l → Counts rows cols l
+  counting-counts u =
       record {
         long = u .long ∙ counting-long;
         small = (λ y. omega (arith, u .under y, most y));

@@ -11,8 +11,7 @@ use lib.ListN.{length, getD}
 use lib.IntN.{ℤ}
 use lib.Dec.{eqb}
 use borrow.Author.Tests.{ltb-true, lt-ltb, le-ltb, eq-eqb, ne-eqb}
-use Rattle.laws.specs.Sums.{greatestTo, when}
-use Rattle.laws.specs.Raise.{Rule}
+use Rattle.laws.specs.Sums.{when}
 use Rattle.laws.proofs.Tests.{two}
 use Rattle.laws.proofs.Lists.{in-list}
 use Rattle.laws.proofs.Sums.{sum-ext, when-yes, when-no, when-zero}
@@ -20,15 +19,15 @@ use Rattle.terrain.specs.Cells.{neighbour, codeOf, sideOf, Valid, Rim, l
 use Rattle.terrain.specs.Filled.{filledLevels, filledOf}
 use Rattle.terrain.specs.Flat.{farSteps, flatSteps}
 use Rattle.terrain.specs.Direction.{directionsOf}
-use Rattle.terrain.specs.Trail.{Trail, ends, goes, OnValid, NeverRises, Meets, NeverTwice, lastOf, validsOf, mappedAt, flowsAt, nextAt, stepsIn, countAt, countsOf, countOffer, arrivalsOf, arriveOffer}
+use Rattle.terrain.specs.Trail.{Trail, ends, goes, OnValid, NeverRises, Meets, NeverTwice, lastOf, validsOf, mappedAt, flowsAt, nextAt, stepsIn, countAt, countsOf}
 use Rattle.terrain.specs.Drainage.{surfaceOf, outflowOf, Drainage}
-use Rattle.terrain.specs.Answers.{directionOf, countOf, validOf, longestTrail}
+use Rattle.terrain.specs.Answers.{directionOf, countOf, validOf}
 use Rattle.terrain.proofs.Neighbours.{side-code, code-some, code-small, valid-level, level-valid, level-invalid}
 use Rattle.terrain.proofs.Filling.{filled-long, filled-above, filled-some, filled-valid, level-filled}
 use Rattle.terrain.proofs.Surfaces.{filled-le, filled-least, filled-attained, filled-drained, filled-lowest}
 use Rattle.terrain.proofs.Flats.{steps-kept, steps-still, steps-small}
 use Rattle.terrain.proofs.Directions.{Points, down, along, leaves, points, directions-long, direction-at, direction-none}
-use Rattle.terrain.proofs.Trails.{Falls, is-mapped, mapped-none, code-flows, code-next, flows-code, flows-mapped, steps-le, rank-falls, trail-of, leavesAt, total-leaves, counts-at, count-rule, arrival-rule, longest-greatest}
+use Rattle.terrain.proofs.Trails.{Falls, is-mapped, mapped-none, code-flows, code-next, flows-code, flows-mapped, steps-le, rank-falls, trail-of, leavesAt, total-leaves, counts-at}
 
 module _ (rows cols : ℕ) (ground : List ℤ) (ready : Ready rows cols ground) where
   abbrev lv : List ℕ
@@ -168,18 +167,6 @@ module _ (rows cols : ℕ) (ground : List ℤ) (ready : Ready rows cols ground) 
 
   rank-le : (x : ℕ) → rank x ≤ rows * cols
   rank-le x = steps-le rows cols dir (rows * cols) x
-
-  -- the counts' rule of raising: a cell's count from those of the cells that point at it
-  pub counting : Rule (countsOf rows cols (directionsOf rows cols (filledLevels rows cols ground))) (countOffer rows cols (directionsOf rows cols (filledLevels rows cols ground))) (stepsIn rows cols (directionsOf rows cols (filledLevels rows cols ground)) (rows * cols)) (rows * cols)
-  counting = count-rule rows cols dir rank (rank-falls rows cols dir potential falls) rank-le
-
-  -- the arrivals' rule of raising, and the longest trail as the greatest arrival
-  pub arriving : Rule (arrivalsOf rows cols (directionsOf rows cols (filledLevels rows cols ground))) (arriveOffer rows cols (directionsOf rows cols (filledLevels rows cols ground))) (stepsIn rows cols (directionsOf rows cols (filledLevels rows cols ground)) (rows * cols)) (rows * cols)
-  arriving = arrival-rule rows cols dir rank (rank-falls rows cols dir potential falls) rank-le
-
-  pub longest-is : longestTrail rows cols ground ≡ greatestTo (rows * cols) (λ z. getD (arrivalsOf rows cols (directionsOf rows cols (filledLevels rows cols ground))) z 0)
-  unfolding longestTrail directionOf
-  longest-is = longest-greatest rows cols dir rank (rank-falls rows cols dir potential falls) rank-le
 
   leaving : (x : ℕ) → x < rows * cols → when (eqb (getD dir x 255) 0) (getD (countsOf rows cols dir) x 0) ≡ when (leavesAt rows cols dir rank (rank-falls rows cols dir potential falls) x) (countAt rows cols dir x)
   leaving x h = ⊎-elim mapped none (two (mappedAt rows cols dir x))

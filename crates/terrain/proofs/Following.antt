@@ -22,7 +22,7 @@ pub record OnTrail (rows cols : ℕ) (dir : List ℕ) (x : ℕ) : Type 0 where
   pub within : x ≤ rows * cols
   pub live : x < rows * cols → mappedAt rows cols dir x ≡ true
 
-module _ (rows cols : ℕ) (dir : List ℕ) (d : Directed rows cols dir) where
+module _ {rows cols : ℕ} {dir : List ℕ} (d : Directed rows cols dir) where
   abbrev rank : ℕ → ℕ
   rank = stepsIn rows cols dir (rows * cols)
 
@@ -40,20 +40,20 @@ module _ (rows cols : ℕ) (dir : List ℕ) (d : Directed rows cols dir) where
   cells-off x h = cells-none x (mapped-none rows cols dir x (List·getD-eq-default dir 255 {n = x} (omega (arith, d .long))))
 
   pub cells-small : (x : ℕ) → cellsOf rows cols dir x ≤ rows * cols
-  cells-small x = ⊎-elim (λ v. omega (arith, cells-mapped x v, steps-below rows cols dir rank (directed-falls rows cols dir d) (rows * cols) x v)) (λ v. omega (arith, cells-none x v)) (two (mappedAt rows cols dir x))
+  cells-small x = ⊎-elim (λ v. omega (arith, cells-mapped x v, steps-below rows cols dir rank (directed-falls d) (rows * cols) x v)) (λ v. omega (arith, cells-none x v)) (two (mappedAt rows cols dir x))
 
   -- one more than those of the cell that x points at
   cells-next : (x : ℕ) → mappedAt rows cols dir x ≡ true → cellsOf rows cols dir x ≡ cellsOf rows cols dir (receiverOf rows cols dir x) + 1
   cells-next x v =
       ⊎-elim
-      (λ q. omega (arith, cells-mapped x v, rank-next rows cols dir rank (directed-falls rows cols dir d) x q, cells-mapped (nextAt rows cols dir x) (d .stays x q), ap (cellsOf rows cols dir) (receiver-flows rows cols dir d x q)))
-      (λ q. omega (arith, cells-mapped x v, steps-end rows cols dir (rows * cols) x q, cells-off (receiverOf rows cols dir x) (omega (arith, receiver-stops rows cols dir d x q)))) (two (flowsAt rows cols dir x))
+      (λ q. omega (arith, cells-mapped x v, rank-next rows cols dir rank (directed-falls d) x q, cells-mapped (nextAt rows cols dir x) (d .stays x q), ap (cellsOf rows cols dir) (receiver-flows d x q)))
+      (λ q. omega (arith, cells-mapped x v, steps-end rows cols dir (rows * cols) x q, cells-off (receiverOf rows cols dir x) (omega (arith, receiver-stops d x q)))) (two (flowsAt rows cols dir x))
 
   receiver-mapped : (x : ℕ) → receiverOf rows cols dir x < rows * cols → mappedAt rows cols dir (receiverOf rows cols dir x) ≡ true
-  receiver-mapped x h = ⊎-elim (λ q. ap (mappedAt rows cols dir) (receiver-flows rows cols dir d x q) ∙ d .stays x q) (λ q. absurd (omega (arith, receiver-stops rows cols dir d x q))) (two (flowsAt rows cols dir x))
+  receiver-mapped x h = ⊎-elim (λ q. ap (mappedAt rows cols dir) (receiver-flows d x q) ∙ d .stays x q) (λ q. absurd (omega (arith, receiver-stops d x q))) (two (flowsAt rows cols dir x))
 
   pub receiver-le : (x : ℕ) → receiverOf rows cols dir x ≤ rows * cols
-  receiver-le x = ⊎-elim (λ q. omega (arith, receiver-flows rows cols dir d x q, mapped-in rows cols dir (d .long) (nextAt rows cols dir x) (d .stays x q))) (λ q. omega (arith, receiver-stops rows cols dir d x q)) (two (flowsAt rows cols dir x))
+  receiver-le x = ⊎-elim (λ q. omega (arith, receiver-flows d x q, mapped-in rows cols dir (d .long) (nextAt rows cols dir x) (d .stays x q))) (λ q. omega (arith, receiver-stops d x q)) (two (flowsAt rows cols dir x))
 
   -- ---- the code of a cell, as it is read
 
@@ -65,15 +65,15 @@ module _ (rows cols : ℕ) (dir : List ℕ) (d : Directed rows cols dir) where
 
   -- ---- a trail that is followed
 
-  pub trail-starts : (x : ℕ) → mappedAt rows cols dir x ≡ true → OnTrail rows cols dir x
-  trail-starts x v = record { within = omega (arith, mapped-in rows cols dir (d .long) x v); live = (λ h. v) }
+  pub trail-starts : {x : ℕ} → mappedAt rows cols dir x ≡ true → OnTrail rows cols dir x
+  trail-starts {x} v = record { within = omega (arith, mapped-in rows cols dir (d .long) x v); live = (λ h. v) }
 
   pub trail-goes : (x : ℕ) → OnTrail rows cols dir (receiverOf rows cols dir x)
   trail-goes x = record { within = receiver-le x; live = receiver-mapped x }
 
   -- each step leaves one cell less; it is the measure of a loop that follows a trail
-  pub trail-less : (x : ℕ) → x < rows * cols → OnTrail rows cols dir x → cellsOf rows cols dir x ≡ cellsOf rows cols dir (receiverOf rows cols dir x) + 1
-  trail-less x h t = cells-next x (t .live h)
+  pub trail-less : {x : ℕ} → x < rows * cols → OnTrail rows cols dir x → cellsOf rows cols dir x ≡ cellsOf rows cols dir (receiverOf rows cols dir x) + 1
+  trail-less {x} h t = cells-next x (t .live h)
 
   -- ---- what is noted
 
@@ -84,8 +84,8 @@ module _ (rows cols : ℕ) (dir : List ℕ) (d : Directed rows cols dir) where
         right = (λ x h. absurd (omega (arith, getD-zeros n x)));
       }
 
-  pub known-more : (known : List ℕ) (x v : ℕ) → x < rows * cols → Known rows cols dir known → v ≡ cellsOf rows cols dir x → Known rows cols dir (set known x v)
-  known-more known x v h k e =
+  pub known-more : {known : List ℕ} {x v : ℕ} → x < rows * cols → Known rows cols dir known → v ≡ cellsOf rows cols dir x → Known rows cols dir (set known x v)
+  known-more {known} {x} {v} h k e =
       record {
         long = length-set known x v ∙ k .long;
         right = (λ y p. elim (ℕ-discrete y x) [

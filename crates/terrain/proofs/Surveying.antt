@@ -1,27 +1,25 @@
 -- The parts of a survey: what each assumes of the grids that those before it leave, and that together they give what is promised. Assumes nothing.
 use mathlib.Core.Path.{_≡_, sym, ap, ap₂, subst, _∙_}
 use mathlib.Core.List.{List, map}
-use mathlib.Core.Bool.{Bool}
 use Prim.Native.Nat.{ℕ, _*_, _<_}
 use native.Mathlib.Omega.{arith}
 use lib.ListN.{getD, replicate}
 use lib.IntN.{ℤ}
-use Rattle.laws.specs.Sums.{when}
-use Rattle.laws.proofs.Sums.{sum-ext}
-use Rattle.terrain.specs.Cells.{heightOf, levelsOf, validAt, Ready}
+use Rattle.terrain.specs.Cells.{heightOf, Ready}
 use Rattle.terrain.specs.Levels.{Levels}
-use Rattle.terrain.specs.Filled.{top, filledLevels, filledOf}
+use Rattle.terrain.specs.Filled.{top, filledLevels}
 use Rattle.terrain.specs.Direction.{directionsOf}
 use Rattle.terrain.specs.Trail.{validsOf, countsOf, longestOf}
 use Rattle.terrain.specs.Directed.{Directed}
 use Rattle.terrain.specs.Relief.{Relief}
-use Rattle.terrain.specs.Answers.{Grids, acceptance, lent, accepted, directionOf, countOf, validOf, longestTrail, answerOf, gridsOf}
+use Rattle.terrain.specs.Answers.{Grids, acceptance, lent, accepted, directionOf, countOf, longestTrail, answerOf, gridsOf}
 use Rattle.terrain.proofs.Interior.{ready-sized}
-use Rattle.terrain.proofs.Filling.{filled-long, filled-small, filled-valid}
+use Rattle.terrain.proofs.Filling.{filled-long, filled-small}
+use Rattle.terrain.proofs.Flooding.{filled-valids, filled-heights}
 use Rattle.terrain.proofs.Trails.{rank-falls}
 use Rattle.terrain.proofs.Drainage.{potential, falls, stops-zero}
 
-module _ (rows cols : ℕ) (ground : List ℤ) (ready : Ready rows cols ground) where
+module _ {rows cols : ℕ} {ground : List ℤ} (ready : Ready rows cols ground) where
   abbrev lv : List ℕ
   lv = filledLevels rows cols ground
 
@@ -34,14 +32,9 @@ module _ (rows cols : ℕ) (ground : List ℤ) (ready : Ready rows cols ground) 
   pub relief-small : {level : List ℕ} → level ≡ filledLevels rows cols ground → (x : ℕ) → getD level x 0 < top
   relief-small l x = omega (arith, ap (λ (m : List ℕ). getD m x 0) l, filled-small rows cols ground ready x)
 
-  -- the valid cells of the filled levels are those of the ground
-  valids-filled : validsOf rows cols (filledLevels rows cols ground) ≡ validOf rows cols ground
-  unfolding validOf validsOf
-  valids-filled = sum-ext (rows * cols) (λ x. when (validAt lv x) 1) (λ x. when (validAt (levelsOf ground) x) 1) (λ x h. ap (λ (b : Bool). when b 1) (filled-valid rows cols ground ready x))
-
   pub relief : {level direction : List ℕ} {filled : List ℤ} {valid : ℕ} → level ≡ filledLevels rows cols ground → filled ≡ map heightOf level → direction ≡ directionsOf rows cols level → valid ≡ validsOf rows cols level → Relief rows cols ground filled direction valid
-  unfolding filledOf directionOf
-  relief l f d v = record { filled-is = f ∙ ap (map heightOf) l; direction-is = d ∙ ap (directionsOf rows cols) l; valid-is = v ∙ ap (validsOf rows cols) l ∙ valids-filled }
+  unfolding directionOf
+  relief l f d v = record { filled-is = f ∙ ap (map heightOf) l ∙ filled-heights ready; direction-is = d ∙ ap (directionsOf rows cols) l; valid-is = v ∙ ap (validsOf rows cols) l ∙ filled-valids ready }
 
   -- ---- directions
 

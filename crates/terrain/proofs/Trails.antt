@@ -4,20 +4,20 @@ use mathlib.Core.Path.{_≡_, refl, sym, ap, ap₂, subst, _∙_}
 use mathlib.Core.List.{List}
 use mathlib.Core.Logic.{⊎-elim}
 use mathlib.Core.Bool.{Bool, true, false, cond, not, _&&_, true≢false}
-use Prim.Native.Nat.{ℕ, zero, suc, _+_, _-_, _*_, _≤_, _<_}
+use Prim.Native.Nat.{ℕ, zero, suc, _+_, _*_, _≤_, _<_}
 use native.Mathlib.Omega.{arith}
 use native.Mathlib.Decide.{decLt, ℕ-discrete}
 use lib.ListN.{length, getD, List·getD-eq-default}
 use lib.Dec.{eqb}
 use borrow.Author.Tests.{ltb-true, lt-ltb, le-ltb, eqb-true, eqb-false, eq-eqb, ne-eqb, not-true}
-use Rattle.laws.specs.Sums.{sumTo, greatestTo, when}
+use Rattle.laws.specs.Sums.{sumTo, when}
 use Rattle.laws.specs.Raise.{Rule}
 use Rattle.laws.proofs.Tests.{two, and-both}
 use Rattle.laws.proofs.Lists.{length-tab, getD-tab}
 use Rattle.laws.proofs.Pigeon.{pigeon}
-use Rattle.laws.proofs.Sums.{sum-ext, sum-le, sum-zero, sum-ones, sum-add, sum-swap, sum-one, sum-when, when-yes, when-no, when-zero, when-swap, when-add, when-le, when-ext, when-under, greatest-ext, greatest-mono, greatest-ge, greatest-le, greatest-is}
+use Rattle.laws.proofs.Sums.{sum-ext, sum-le, sum-zero, sum-ones, sum-add, sum-swap, sum-one, sum-when, when-yes, when-no, when-zero, when-swap, when-add, when-le, when-ext, when-under}
 use Rattle.terrain.specs.Cells.{neighbour, codeOf, sideOf}
-use Rattle.terrain.specs.Trail.{Trail, ends, goes, steps, mappedAt, flowsAt, nextAt, stepsIn, passesIn, countAt, countsOf, longestOf, intoAt, countOffer, arriveIn, arrivalsOf, arriveOffer}
+use Rattle.terrain.specs.Trail.{Trail, ends, goes, steps, mappedAt, flowsAt, nextAt, stepsIn, passesIn, countAt, countsOf, intoAt, countOffer}
 use Rattle.terrain.proofs.Neighbours.{across, across-small, side-code, code-side, code-small, side-leaves, neighbour-back, neighbour-only}
 
 -- ---- one step
@@ -432,124 +432,6 @@ module _ (rows cols : ℕ) (dir : List ℕ) (pot : ℕ → ℕ) (falls : Falls r
           bounded = bound;
           mono = (λ l u x h. omega (arith, offer-le l (countsOf rows cols dir) x (λ j e. u .under (nb x j)), count-fix x (omega (arith, counts-long))));
           exact = (λ l u x h q. omega (arith, offer-le l (countsOf rows cols dir) x (λ j e. u .under (nb x j)), offer-le (countsOf rows cols dir) l x (λ j e. omega (arith, q (nb x j) (into-above x j e))), count-fix x (omega (arith, counts-long))));
-        }
-
-    -- ---- the longest trail is the longest arrival
-
-    arrive-none : (z : ℕ) → arriveIn rows cols dir 0 z ≡ 0
-    unfolding arriveIn
-    arrive-none z = refl
-
-    arrive-more : (m z : ℕ) → arriveIn rows cols dir (suc m) z ≡ greatestTo 8 (λ k. when (into z k) (arriveIn rows cols dir m (nb z k) + 1))
-    unfolding arriveIn
-    arrive-more m z = refl
-
-    -- as many steps as there are numbers above a cell's are enough
-    arrive-stay : (m z : ℕ) → rows * cols - pot z ≤ m → arriveIn rows cols dir (suc m) z ≡ arriveIn rows cols dir m z
-    arrive-stay zero z h =
-        omega (
-          arith,
-          arrive-none z,
-          arrive-more 0 z,
-          greatest-le 8 (λ k. when (into z k) (arriveIn rows cols dir 0 (nb z k) + 1)) 0
-              (λ k l. omega (arith, term-zero z k (arriveIn rows cols dir 0 (nb z k) + 1) (λ e. absurd (omega (arith, into-above z k e, bound (nb z k)))))),
-        )
-    arrive-stay (suc m) z h =
-        arrive-more (suc m) z
-        ∙ greatest-ext 8 (λ k. when (into z k) (arriveIn rows cols dir (suc m) (nb z k) + 1)) (λ k. when (into z k) (arriveIn rows cols dir m (nb z k) + 1))
-        (λ k l. when-ext (into z k) _ _ (λ e. ap (λ (s : ℕ). s + 1) (arrive-stay m (nb z k) (omega (arith, into-above z k e, bound (nb z k))))))
-        ∙ sym (arrive-more m z)
-
-    pub arrive-local : (z : ℕ) → arriveIn rows cols dir (rows * cols) z ≡ greatestTo 8 (λ k. when (intoAt rows cols dir z k) (arriveIn rows cols dir (rows * cols) (neighbour rows cols z k) + 1))
-    arrive-local z = sym (arrive-stay size z (omega arith)) ∙ arrive-more size z
-
-    -- the trail goes on to a cell with a longer arrival
-    arrive-next : (x : ℕ) → goesOn x ≡ true → arriveIn rows cols dir size x + 1 ≤ arriveIn rows cols dir size (to x)
-    arrive-next x q =
-        let b = side-back x q in
-        let e = flows-into (to x) (side x) (ap goesOn b ∙ q) (ap to b) in
-        omega (
-          arith,
-          arrive-local (to x),
-          greatest-ge 8 (λ k. when (into (to x) k) (arriveIn rows cols dir size (nb (to x) k) + 1)) (side x) (side-small x q),
-          when-yes (arriveIn rows cols dir size (nb (to x) (side x)) + 1) e,
-          ap (arriveIn rows cols dir size) b,
-        )
-
-    abbrev rank : ℕ → ℕ
-    rank = stepsIn rows cols dir (rows * cols)
-
-    abbrev latest : ℕ
-    latest = greatestTo size (λ z. when (cell z) (arriveIn rows cols dir size z))
-
-    steps-latest : (m x : ℕ) → rank x ≤ m → cell x ≡ true → rank x + arriveIn rows cols dir size x ≤ latest
-    steps-latest zero x h v = omega (arith, greatest-ge size (λ z. when (cell z) (arriveIn rows cols dir size z)) x (inside x v), when-yes (arriveIn rows cols dir size x) v)
-    steps-latest (suc m) x h v =
-        ⊎-elim (λ q. omega (arith, rank-next rows cols dir pot falls x q, arrive-next x q, steps-latest m (to x) (omega (arith, rank-next rows cols dir pot falls x q)) (falls .stays x q)))
-        (λ q. omega (arith, steps-end rows cols dir size x q, greatest-ge size (λ z. when (cell z) (arriveIn rows cols dir size z)) x (inside x v), when-yes (arriveIn rows cols dir size x) v)) (two (goesOn x))
-
-    -- some trail makes all the steps that come to z, and then those of z
-    arrive-from : (m z : ℕ) → cell z ≡ true → (x : ℕ) × (cell x ≡ true) × (arriveIn rows cols dir m z + rank z ≤ rank x)
-    arrive-from zero z v = (z, v, omega (arith, arrive-none z))
-    arrive-from (suc m) z v =
-        elim (decLt 0 (arriveIn rows cols dir (suc m) z)) [
-          | yes h ↦ go (greatest-is 8 (λ k. when (into z k) (arriveIn rows cols dir m (nb z k) + 1)) (omega (arith, arrive-more m z))) (λ k w. arrive-from m (nb z k) w)
-          | no f ↦ (z, v, omega arith)
-        ]
-      where
-        go : (k : ℕ) × (k < 8) × (when (into z k) (arriveIn rows cols dir m (nb z k) + 1) ≡ greatestTo 8 (λ k. when (into z k) (arriveIn rows cols dir m (nb z k) + 1))) → ((k : ℕ) → cell (nb z k) ≡ true → (x : ℕ) × (cell x ≡ true) × (arriveIn rows cols dir m (nb z k) + rank (nb z k) ≤ rank x)) → (x : ℕ) × (cell x ≡ true) × (arriveIn rows cols dir (suc m) z + rank z ≤ rank x)
-        go i ih =
-            ⊎-elim
-            (λ e. let w = into-flows z (i .0) e in let r = ih (i .0) (flows-mapped rows cols dir (nb z (i .0)) (w .0)) in
-            (r .0, r .1, omega (arith, r .2, arrive-more m z, i .2, when-yes (arriveIn rows cols dir m (nb z (i .0)) + 1) e, rank-next rows cols dir pot falls (nb z (i .0)) (w .0), ap rank (w .1))))
-            (λ e. (z, v, omega (arith, arrive-more m z, i .2, when-no (arriveIn rows cols dir m (nb z (i .0)) + 1) e)))
-            (two (into z (i .0)))
-
-    pub longest-arrival : longestOf rows cols dir ≡ greatestTo (rows * cols) (λ z. when (mappedAt rows cols dir z) (arriveIn rows cols dir (rows * cols) z))
-    unfolding longestOf
-    longest-arrival =
-        omega (
-          arith,
-          greatest-le size (λ x. when (cell x) (rank x)) latest (λ x l. ⊎-elim (λ v. omega (arith, when-yes (rank x) v, steps-latest (rank x) x (omega arith) v)) (λ v. omega (arith, when-no (rank x) v)) (two (cell x))),
-          greatest-le size (λ z. when (cell z) (arriveIn rows cols dir size z)) (greatestTo size (λ x. when (cell x) (rank x))) (λ z l. ⊎-elim (λ v. let r = arrive-from size z v in omega (arith, when-yes (arriveIn rows cols dir size z) v, r .2, greatest-ge size (λ x. when (cell x) (rank x)) (r .0) (inside (r .0) (r .1)), when-yes (rank (r .0)) (r .1))) (λ v. omega (arith, when-no (arriveIn rows cols dir size z) v)) (two (cell z))),
-        )
-
-    -- ---- the grid of arrivals is what raising to the offers gives
-
-    pub arrivals-long : length (arrivalsOf rows cols dir) ≡ rows * cols
-    unfolding arrivalsOf
-    arrivals-long = length-tab (rows * cols) _
-
-    pub arrivals-at : (z : ℕ) → z < rows * cols → getD (arrivalsOf rows cols dir) z 0 ≡ when (mappedAt rows cols dir z) (arriveIn rows cols dir (rows * cols) z)
-    unfolding arrivalsOf
-    arrivals-at z h = getD-tab (rows * cols) (λ y. when (cell y) (arriveIn rows cols dir size y)) 0 z h
-
-    pub longest-greatest : longestOf rows cols dir ≡ greatestTo (rows * cols) (λ z. getD (arrivalsOf rows cols dir) z 0)
-    longest-greatest = longest-arrival ∙ greatest-ext size (λ z. when (cell z) (arriveIn rows cols dir size z)) (λ z. getD (arrivalsOf rows cols dir) z 0) (λ z l. sym (arrivals-at z l))
-
-    into-arrival : (z k : ℕ) → into z k ≡ true → getD (arrivalsOf rows cols dir) (nb z k) 0 ≡ arriveIn rows cols dir size (nb z k)
-    into-arrival z k e = let v = flows-mapped rows cols dir (nb z k) (into-flows z k e .0) in arrivals-at (nb z k) (inside (nb z k) v) ∙ when-yes (arriveIn rows cols dir size (nb z k)) v
-
-    arrive-fix : (z : ℕ) → z < rows * cols → arriveOffer rows cols dir (arrivalsOf rows cols dir) z ≡ getD (arrivalsOf rows cols dir) z 0
-    unfolding arriveOffer
-    arrive-fix z h =
-        when-ext (cell z) (greatestTo 8 (λ k. when (into z k) (getD (arrivalsOf rows cols dir) (nb z k) 0 + 1))) (arriveIn rows cols dir size z) (λ v.
-        greatest-ext 8 (λ k. when (into z k) (getD (arrivalsOf rows cols dir) (nb z k) 0 + 1)) (λ k. when (into z k) (arriveIn rows cols dir size (nb z k) + 1)) (λ k l. when-ext (into z k) _ _ (λ e. ap (λ (s : ℕ). s + 1) (into-arrival z k e)))
-        ∙ sym (arrive-local z))
-        ∙ sym (arrivals-at z h)
-
-    arrive-le : (l m : List ℕ) (z : ℕ) → ((k : ℕ) → into z k ≡ true → getD l (nb z k) 0 ≤ getD m (nb z k) 0) → arriveOffer rows cols dir l z ≤ arriveOffer rows cols dir m z
-    unfolding arriveOffer
-    arrive-le l m z h =
-        when-le (cell z) (greatestTo 8 (λ k. when (into z k) (getD l (nb z k) 0 + 1))) (greatestTo 8 (λ k. when (into z k) (getD m (nb z k) 0 + 1)))
-        (λ v. greatest-mono 8 (λ k. when (into z k) (getD l (nb z k) 0 + 1)) (λ k. when (into z k) (getD m (nb z k) 0 + 1)) (λ k lt. when-le (into z k) (getD l (nb z k) 0 + 1) (getD m (nb z k) 0 + 1) (λ e. omega (arith, h k e))))
-
-    pub arrival-rule : Rule (arrivalsOf rows cols dir) (arriveOffer rows cols dir) pot (rows * cols)
-    arrival-rule =
-        record {
-          bounded = bound;
-          mono = (λ l u x h. omega (arith, arrive-le l (arrivalsOf rows cols dir) x (λ j e. u .under (nb x j)), arrive-fix x (omega (arith, arrivals-long))));
-          exact = (λ l u x h q. omega (arith, arrive-le l (arrivalsOf rows cols dir) x (λ j e. u .under (nb x j)), arrive-le (arrivalsOf rows cols dir) l x (λ j e. omega (arith, q (nb x j) (into-above x j e))), arrive-fix x (omega (arith, arrivals-long))));
         }
 
     -- ---- the test that a program makes: the neighbour at the side k points across

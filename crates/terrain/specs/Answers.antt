@@ -22,12 +22,14 @@ pub record Grids : Type 0 where
   pub count : List ℕ
   pub workspace : List ℕ
 
+-- number and place, the number of valid cells and the steps of the longest trail
 pub record Answer : Type 0 where
   pub number : ℕ
   pub place : ℕ
   pub valids : ℕ
   pub longest : ℕ
 
+-- the lent slices together
 abbrev pub lent : List ℤ → List ℕ → List ℕ → List ℕ → Grids
 lent filled direction count workspace = record { filled = filled; direction = direction; count = count; workspace = workspace }
 

@@ -96,7 +96,7 @@ module _ (rows cols : ℕ) (dir : List ℕ) where
   unfolding greatestTo when mappedAt stepsIn
   longestOf = greatestTo (rows * cols) (λ x. when (mappedAt x) (stepsIn (rows * cols) x))
 
-  -- ---- counts and the longest trail by raising: what a cell may be raised to
+  -- ---- counts by raising: what a cell may be raised to
 
   -- the neighbour at the side k of z points at z
   unfoldable pub intoAt : ℕ → ℕ → Bool
@@ -107,18 +107,3 @@ module _ (rows cols : ℕ) (dir : List ℕ) where
   unfoldable pub countOffer : List ℕ → ℕ → ℕ
   unfolding sumTo when mappedAt neighbour intoAt
   countOffer l z = when (mappedAt z) (1 + sumTo 8 (λ k. when (intoAt z k) (getD l (neighbour rows cols z k) 0)))
-
-  -- the steps of the longest trail that comes to z, at most m
-  unfoldable pub arriveIn : ℕ → ℕ → ℕ
-  unfolding greatestTo when neighbour intoAt
-  arriveIn zero z = 0
-  arriveIn (suc m) z = greatestTo 8 (λ k. when (intoAt z k) (arriveIn m (neighbour rows cols z k) + 1))
-
-  unfoldable pub arrivalsOf : List ℕ
-  unfolding tab when mappedAt arriveIn
-  arrivalsOf = tab (rows * cols) (λ z. when (mappedAt z) (arriveIn (rows * cols) z))
-
-  -- one step more than the longest that comes to a cell that points at z
-  unfoldable pub arriveOffer : List ℕ → ℕ → ℕ
-  unfolding greatestTo when mappedAt neighbour intoAt
-  arriveOffer l z = when (mappedAt z) (greatestTo 8 (λ k. when (intoAt z k) (getD l (neighbour rows cols z k) 0 + 1)))

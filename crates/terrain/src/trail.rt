@@ -10,7 +10,7 @@ ghost use Rattle.laws.specs.Sums.{greatestTo, when};
 ghost use Rattle.laws.specs.Search.{Failing};
 ghost use Rattle.laws.specs.Raise.{raisedOf, Under, Sweeping};
 ghost use Rattle.terrain.specs.Trail.{mappedAt, countsOf, longestOf, countOffer};
-ghost use Rattle.terrain.specs.Inside.{Inside};
+ghost use Rattle.terrain.specs.Inside.{Inside, RunsTo};
 ghost use Rattle.terrain.specs.Directed.{Directed, Counts, Counted, Known, receiverOf, backOf, cellsOf};
 use crate::cells::beside;
 use crate::cells::clear;
@@ -224,7 +224,7 @@ fn loose_run(
     from: usize,
     to: usize,
 ) -> u32
-    requires { ⌜ Directed rows columns (now direction) × Counts rows columns (now count) × (from ≤ to) × ((y : ℕ) → from ≤ y → y < to → Inside rows columns y) ⌝ }
+    requires { ⌜ Directed rows columns (now direction) × Counts rows columns (now count) × RunsTo rows columns from to ⌝ }
     ensures { λ r. ⌜ Failing (Counted rows columns (now (direction .entry)) (now (count .entry))) from to r ⌝ }
 {
     let mut sum: u32 = 0;

@@ -15,7 +15,7 @@ use mir.Val.{Fits as FitsIn}
 use Rattle.laws.proofs.Tests.{and-both}
 use Rattle.text.specs.Bytes.{bytes}
 use Rattle.text.specs.Quantities.{sideIn}
-use Rattle.text.specs.Reader.{Step, got, refused, Reader}
+use Rattle.text.specs.Reader.{got, refused, Reader}
 use Rattle.text.specs.Words.{wordStart, word}
 use Rattle.text.specs.Numbers.{number, measure, count}
 use Rattle.text.specs.Headers as H

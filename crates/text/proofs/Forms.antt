@@ -3,21 +3,19 @@ use mathlib.Core.Path.{_≡_, refl, sym, ap, _∙_, subst}
 use mathlib.Core.Bool.{Bool, true, false, cond}
 use mathlib.Core.List.{List}
 use Prim.Native.Nat.{ℕ, _+_, _-_, _*_, _≤_, _<_}
-use native.Mathlib.Nat.{le-refl}
 use native.Mathlib.Decide.{decLt}
 use native.Mathlib.Omega.{arith}
-use borrow.Author.Tests.{lt-ltb, le-ltb, eq-eqb, ne-eqb, eqb-true}
+use borrow.Author.Tests.{le-ltb, eq-eqb, ne-eqb, eqb-true}
 use lib.Dec.{eqb, ltb}
 use lib.ListN.{length, getD}
 use Rattle.text.specs.Words.{solid, run, wordEnd}
-use Rattle.text.specs.Numbers as N
 use Rattle.text.specs.Numbers.{digit, zero, value, afterSign, decimals, wholeAndDecimals, numberAt}
 use Rattle.text.specs.declared.numbers.Form.{Form}
 use Rattle.text.specs.declared.numbers.Form.the-variants as F
 use Rattle.text.specs.Inner.{DigitsFrom, HundredthsFrom, TailFrom, Parsed}
 use Rattle.text.proofs.Bytes.{zero-digit}
 use Rattle.text.proofs.Runs.{run-stop, run-lower, run-upper, run-fails, run-passes, run-within, run-split, run-after}
-use Rattle.text.proofs.Ends.{byte-within, end-byte, end-digits, end-lower}
+use Rattle.text.proofs.Ends.{byte-within, end-byte, end-digits}
 use Rattle.text.proofs.Values.{value-wider}
 
 -- ---- zeros from q on, of which at most four are looked at, end at z

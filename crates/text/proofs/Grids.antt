@@ -1,12 +1,12 @@
 -- The readers of the heights, by the answers of the functions that judge and store them. Assumes nothing.
 use mathlib.Core.Path.{_≡_, refl, sym, ap, _∙_, subst}
-use mathlib.Core.Bool.{Bool, true, false, true≢false}
+use mathlib.Core.Bool.{true, false}
 use mathlib.Core.List.{List, [], _∷_, _++_}
 use Prim.Native.Nat.{ℕ, zero, suc, _+_, _-_, _*_, _≤_, _<_}
 use native.Mathlib.Nat.{le-trans, lt-of-le-of-lt}
 use native.Mathlib.Omega.{arith}
-use borrow.Author.Tests.{eq-eqb, ne-eqb, leb-true}
-use lib.Dec.{T, leb, eqb, le→leb, leb→le, lit≤, lit<}
+use borrow.Author.Tests.{eq-eqb, ne-eqb}
+use lib.Dec.{T, le→leb, leb→le, lit≤, lit<}
 use lib.IntN.{ℤ, pos, negsuc, negℤ}
 use lib.ListN.{length, take, set, length-set}
 use lib.Signed.{leZ}
@@ -15,8 +15,8 @@ use mir.Val.{SFits}
 use Rattle.laws.proofs.Tests.{and-both}
 use Rattle.laws.proofs.Filling.{filling-more}
 use Rattle.text.specs.Quantities.{heightIn, noDataHeight}
-use Rattle.text.specs.Reader.{Step, got, refused, Reader, after, give}
-use Rattle.text.specs.Words.{wordStart, word}
+use Rattle.text.specs.Reader.{Step, got, refused, after, give}
+use Rattle.text.specs.Words.{wordStart}
 use Rattle.text.specs.Numbers.{measure}
 use Rattle.text.specs.Headers as H
 use Rattle.text.specs.Heights.{same, height, heights, end, body, grid}
@@ -179,7 +179,7 @@ module _ (s : List ℕ) (at a : ℕ) (p : a ≡ wordStart s at) where
 -- ---- what follows the header
 
 -- what `forget` keeps
-pub kept-on : (x : Step (List ℤ)) (j : ℕ) → forget x ≡ got tt j → Good x × (x ≡ got (valuesOf x) j)
+kept-on : (x : Step (List ℤ)) (j : ℕ) → forget x ≡ got tt j → Good x × (x ≡ got (valuesOf x) j)
 kept-on (got hs i) j e = let q : i ≡ j = cc in (tt, ap (got hs) q)
 kept-on (refused n p) j e = let z : _≡_ {A = ℕ} 0 1 = cc in absurd (omega arith)
 
@@ -187,11 +187,14 @@ kept-off : (x : Step (List ℤ)) (n p : ℕ) → forget x ≡ refused n p → x 
 kept-off (got hs i) n p e = let z : _≡_ {A = ℕ} 0 1 = cc in absurd (omega arith)
 kept-off (refused m q) n p e = cc
 
-pub moved-on : (r : Moved) (x : Step Unit) (k : Cursor) → movedOf r ≡ x → r ≡ On k → x ≡ got tt (k .at)
+moved-on : (r : Moved) (x : Step Unit) (k : Cursor) → movedOf r ≡ x → r ≡ On k → x ≡ got tt (k .at)
 moved-on r x k p q = sym p ∙ ap movedOf q
 
 moved-off : (r : Moved) (x : Step Unit) (f : Refusal) → movedOf r ≡ x → r ≡ Off f → x ≡ refused (f .number) (f .place)
 moved-off r x f p q = sym p ∙ ap movedOf q
+
+pub judged-good : (n : ℤ) (k : ℕ) (s : List ℕ) (at : ℕ) (r : Moved) (c : Cursor) → movedOf r ≡ forget (heights n k s at) → r ≡ On c → Good (heights n k s at)
+judged-good n k s at r c m e = kept-on (heights n k s at) (c .at) (moved-on r _ c m e) .0
 
 module _ (h : H.Header) (k : ℕ) (s : List ℕ) (at : ℕ) where
   pub body-unlike : (k ≡ h .rows * h .columns → ⊥) → body h k s at ≡ refused 2 0

@@ -7,3 +7,4 @@ pub mod Steps
 pub mod Names
 pub mod Fields
 pub mod Grids
+pub mod Examples

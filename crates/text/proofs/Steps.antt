@@ -1,17 +1,15 @@
 -- The readers of words and numbers, by the answers of the functions that read them. Assumes nothing.
-use mathlib.Core.Path.{_≡_, refl, sym, ap, _∙_, subst}
-use mathlib.Core.Bool.{Bool, true, false, not, _&&_}
+use mathlib.Core.Path.{_≡_, sym, ap, _∙_, subst}
+use mathlib.Core.Bool.{Bool, true, false}
 use mathlib.Core.List.{List}
-use Prim.Native.Nat.{ℕ, _+_, _-_, _≤_, _<_}
+use Prim.Native.Nat.{ℕ, _+_, _≤_, _<_}
 use native.Mathlib.Omega.{arith}
 use borrow.Author.Tests.{le-leb, lt-leb, eq-eqb, ne-eqb, eqb-true}
-use lib.ListN.{length, getD}
+use lib.ListN.{length}
 use lib.Dec.{eqb}
-use lib.IntN.{ℤ}
-use Rattle.text.specs.Reader.{Step, got, refused, Reader, after, _>>=_, _>>_, check, give}
-use Rattle.text.specs.Words.{run, wordStart, wordEnd, word}
-use Rattle.text.specs.Numbers as N
-use Rattle.text.specs.Numbers.{digit, numberAt, countAt, number, measure, count, centimetres}
+use Rattle.text.specs.Reader.{got, refused, _>>=_, _>>_}
+use Rattle.text.specs.Words.{wordStart, wordEnd, word}
+use Rattle.text.specs.Numbers.{numberAt, countAt, number, measure, count, centimetres}
 use Rattle.text.specs.declared.words.Next.the-variants.{Word}
 use Rattle.text.specs.declared.numbers.Form.{Form}
 use Rattle.text.specs.declared.numbers.Form.the-variants as F
@@ -19,7 +17,7 @@ use Rattle.text.specs.declared.numbers.Number as D
 use Rattle.text.specs.declared.numbers.Numbered.{Numbered}
 use Rattle.text.specs.declared.numbers.Numbered.the-variants.{Number, NoNumber}
 use Rattle.text.specs.declared.Refusal.{Refusal}
-use Rattle.text.specs.Inner.{wordOf, Inside, formOf, EndsAt, Parsed, DigitsFrom, numberedOf, Sized}
+use Rattle.text.specs.Inner.{wordOf, formOf, EndsAt, Parsed, DigitsFrom, numberedOf}
 use Rattle.text.proofs.Ends.{first-solid, word-found, word-none, end-byte, end-digits, end-lower, end-upper}
 
 pub word-step : (s : List ℕ) (at a e : ℕ) → a ≡ wordStart s at → e ≡ wordEnd s a → a < length s

@@ -1,7 +1,7 @@
 // The header: five names, each followed by its number, and optionally the NoData number.
 ghost use mathlib.Core.Path.{_≡_};
 ghost use Prim.Native.Nat.{_≤_};
-ghost use lib.ListN.{length, getD};
+ghost use lib.ListN.{length};
 ghost use Rattle.text.specs.Quantities.{sideIn};
 ghost use Rattle.text.specs.Numbers.{count};
 ghost use Rattle.text.specs.Headers.{lower, letter, letterNext, named, name, corner, side, field, anyMeasure, noData, extent, corners, sideAndNoData, header};

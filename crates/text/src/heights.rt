@@ -1,6 +1,5 @@
 // The heights and the text's end: all is judged before the first height is stored.
 ghost use mathlib.Core.Path.{_≡_};
-ghost use mathlib.Core.Bool.{true};
 ghost use lib.ListN.{length};
 ghost use Rattle.text.specs.Quantities.{heightIn};
 ghost use Rattle.text.specs.Heights.{same, height, heights, end, body};

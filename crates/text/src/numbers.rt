@@ -1,10 +1,10 @@
 // Numbers, read from their first byte in one pass: a sign, whole digits, a point, decimals, and the word's end.
 ghost use mathlib.Core.Path.{_≡_};
 ghost use mathlib.Core.Bool.{true};
-ghost use Prim.Native.Nat.{_+_, _-_, _*_, _^_, _≤_, _<_};
-ghost use lib.Dec.{eqb, ltb};
+ghost use Prim.Native.Nat.{_+_, _-_, _*_, _≤_, _<_};
+ghost use lib.Dec.{eqb};
 ghost use lib.ListN.{length, getD};
-ghost use Rattle.text.specs.Words.{run, solid, wordStart, wordEnd};
+ghost use Rattle.text.specs.Words.{run, solid, wordEnd};
 ghost use Rattle.text.specs.Numbers.{digit, digitOf, zero, afterSign, value, numberAt, decimals, centimetres, number};
 ghost use Rattle.text.specs.Numbers as D;
 ghost use Rattle.text.specs.Inner.{Limit, DigitsFrom, HundredthsFrom, TailFrom, Parsed, numberedOf, Sized, measuredOf, countedOf, CountFits};
@@ -125,12 +125,6 @@ fn read_tail(s: &[u8], p: usize, q: usize) -> Tail
     requires { ⌜ (p ≤ length (now s)) × (q ≡ run digit (now s) p 2) ⌝ }
     ensures { λ r. ⌜ TailFrom (now (s .entry)) p (r .end) (r .fine) ⌝ }
 {
-    if ends(s, q) {
-        return Tail {
-            end: q,
-            fine: false,
-        };
-    }
     if q - p < 2 {
         return Tail {
             end: q,
@@ -170,6 +164,14 @@ fn read_decimals(s: &[u8], minus: bool, size: u64, p: usize) -> Form
     let q = h.end;
     if q == p {
         return Form::Malformed { at: p };
+    }
+    if ends(s, q) {
+        return Form::Number {
+            minus,
+            size: size + h.value,
+            fine: false,
+            end: q,
+        };
     }
     let t = read_tail(s, p, q);
     let f = t.end;

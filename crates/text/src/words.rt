@@ -1,6 +1,6 @@
 // Blanks and words. Words are read left to right, each from where the last ended.
 ghost use mathlib.Core.Path.{_≡_};
-ghost use Prim.Native.Nat.{_≤_, _<_};
+ghost use Prim.Native.Nat.{_<_};
 ghost use lib.ListN.{length};
 ghost use Rattle.text.specs.Words.{blank, wordStart, wordEnd, word};
 ghost use Rattle.text.specs.Inner.{wordOf, Inside};

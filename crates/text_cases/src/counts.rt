@@ -1,7 +1,7 @@
 // The two counts: digits only, each 1 to 1,024, columns first.
 use crate::show::case;
 
-pub fn run() {
+pub(crate) fn run() {
     ranges();
     digits();
 }

@@ -1,7 +1,7 @@
 // Where a text ends too early or goes on too long, and the lent length, tested between header and heights.
 use crate::show::case;
 
-pub fn run() {
+pub(crate) fn run() {
     too_early();
     words_after();
     lent_lengths();

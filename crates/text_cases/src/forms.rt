@@ -1,7 +1,7 @@
 // The form of a number, at corners, side, NoData number and heights, and numbers that are too fine.
 use crate::show::case;
 
-pub fn run() {
+pub(crate) fn run() {
     header_numbers();
     first_height();
     later_height();

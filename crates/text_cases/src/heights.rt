@@ -1,7 +1,7 @@
 // Heights in cm: fineness, then the NoData number, then the range of -50,000 to 900,000.
 use crate::show::case;
 
-pub fn run() {
+pub(crate) fn run() {
     ranges();
     no_data();
     grids();

@@ -1,7 +1,7 @@
 // The names of the header, and the eleventh word, which is nodata_value or the first height.
 use crate::show::case;
 
-pub fn run() {
+pub(crate) fn run() {
     letter_case();
     other_names();
     eleventh_word();

@@ -10,7 +10,7 @@ use text::Refusal;
 const MARK: i32 = 77;
 
 // One case, with `cells` lent heights: the first line of `lines` is its name, and the text is all that follows.
-pub fn case(cells: usize, lines: &[u8])
+pub(crate) fn case(cells: usize, lines: &[u8])
     requires { ⌜ cells ≤ 9 ⌝ }
 {
     let mut lent = [MARK; 9];

@@ -1,7 +1,7 @@
 // The cell side: form, then fineness, then the range of 1 to 100,000 cm.
 use crate::show::case;
 
-pub fn run() {
+pub(crate) fn run() {
     in_range();
     too_fine();
     out_of_range();

@@ -1,7 +1,7 @@
 // Blanks and words: which bytes part words, and texts that end inside the header.
 use crate::show::case;
 
-pub fn run() {
+pub(crate) fn run() {
     blanks();
     word_bytes();
     cut_short();

@@ -8,7 +8,7 @@ use Rattle.terrain.proofs.shape.Tie as tie
 
 -- the levels after the filling
 levels : (c : tie.After-fill) → Levels (c .before .before .before .before .before .before .args .rows) (c .before .before .before .before .before .before .args .columns) (c .fill .last .1 .1 .1 .0)
-levels c = let s = c .before .before .before .before .before .before in relief-levels (s .args .rows) (s .args .columns) (s .args .ground .now) (s .pre .0) (c .fill .ensures)
+levels c = let s = c .before .before .before .before .before .before in relief-levels (s .pre .0) (c .fill .ensures)
 
 fill-requires : tie.Need-fill-requires
 fill-requires c κs = search needs
@@ -23,7 +23,7 @@ write-heights-requires : tie.Need-write-heights-requires
 write-heights-requires c κs =
     let s = c .before .before .before .before .before .before .before .before .before .before .before .before .before .before .before .before .before .before .before .before .before .before .before .before .before in
     let f = c .before .before .before .before .before .before .before .before .before .before .before .before .before .before .before .before .before .before .before in
-    (levels f .long ∙ sym (c .before .before .before .before .before .before .before .before .filled .given ∙ s .pre .1 .filled-long), relief-small (s .args .rows) (s .args .columns) (s .args .ground .now) (s .pre .0) (f .fill .ensures))
+    (levels f .long ∙ sym (c .before .before .before .before .before .before .before .before .filled .given ∙ s .pre .1 .filled-long), relief-small (s .pre .0) (f .fill .ensures))
 
 valid-cells-requires : tie.Need-valid-cells-requires
 valid-cells-requires c κs = search needs
@@ -44,7 +44,7 @@ returns : tie.Need-returns
 returns c =
     let s = c .before .before .before .before .before .before .before .before .before .before .before .before .before .before .before .before .before .before .before .before .before .before .before .before .before .before .before .before .before in
     let f = c .before .before .before .before .before .before .before .before .before .before .before .before .before .before .before .before .before .before .before .before .before .before .before in
-    relief (s .args .rows) (s .args .columns) (s .args .ground .now) (s .pre .0) (f .fill .ensures) (c .before .before .before .write-heights .ensures) (c .before .before .before .before .before .before .before .before .point .ensures) (c .valid-cells .ensures (s .args .rows) (s .args .columns) (levels f .long))
+    relief (s .pre .0) (f .fill .ensures) (c .before .before .before .write-heights .ensures) (c .before .before .before .before .before .before .before .before .point .ensures) (c .valid-cells .ensures (s .args .rows) (s .args .columns) (levels f .long))
 
 pub shape-spec : {M : Type 1} → statement M
 shape-spec =

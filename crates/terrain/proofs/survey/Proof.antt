@@ -12,12 +12,12 @@ shape-requires c κs = search needs
 count-flow-requires : tie.Need-count-flow-requires
 count-flow-requires c κs =
     let s = c .before .before .before .before .before .before .before .before .before .before .before .before .before .before .before .before .before .before in
-    (relief-directed (s .args .rows) (s .args .columns) (s .args .ground .now) (s .pre .0) (c .before .before .before .before .before .before .before .before .before .before .shape .ensures .direction-is), c .before .before .before .before .before .before .count .given ∙ s .pre .1 .count-long, c .before .before .before .before .workspace .given ∙ s .pre .1 .workspace-long)
+    (relief-directed (s .pre .0) (c .before .before .before .before .before .before .before .before .before .before .shape .ensures .direction-is), c .before .before .before .before .before .before .count .given ∙ s .pre .1 .count-long, c .before .before .before .before .workspace .given ∙ s .pre .1 .workspace-long)
 
 longest-trail-requires : tie.Need-longest-trail-requires
 longest-trail-requires c κs =
     let s = c .before .before .before .before .before .before .before .before .before .before .before .before .before .before .before .before .before .before .before .before .before .before .before .before .before in
-    (relief-directed (s .args .rows) (s .args .columns) (s .args .ground .now) (s .pre .0) (c .before .before .before .before .before .before .before .before .before .before .before .before .before .before .before .before .before .shape .ensures .direction-is), c .before .before .before .workspace2 .given ∙ c .before .before .before .before .before .before .before .before .before .before .before .workspace .given ∙ s .pre .1 .workspace-long)
+    (relief-directed (s .pre .0) (c .before .before .before .before .before .before .before .before .before .before .before .before .before .before .before .before .before .shape .ensures .direction-is), c .before .before .before .workspace2 .given ∙ c .before .before .before .before .before .before .before .before .before .before .before .workspace .given ∙ s .pre .1 .workspace-long)
 
 same-length : tie.Need-same-length
 same-length c = search needs

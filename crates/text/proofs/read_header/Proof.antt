@@ -1,5 +1,5 @@
 -- `text::read_header` meets its contract. Assumes nothing.
-use mathlib.Core.Path.{_≡_, sym, ap, _∙_}
+use mathlib.Core.Path.{sym, ap, _∙_}
 use Rattle.text.specs.Answers.{headerOutcome}
 use Rattle.text.specs.Inner.{headedOf}
 use borrow.Author.Needs.{needs}

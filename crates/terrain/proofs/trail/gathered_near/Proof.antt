@@ -25,7 +25,7 @@ own-requires : tie.Need-own-requires Inv-loop μ-loop
 own-requires c κs = search needs
 
 loop-holds : tie.Need-loop-holds Inv-loop μ-loop
-loop-holds c = let s = c .before .before .before .before in gather-none (s .args .rows) (s .args .columns) (s .args .direction .now) (s .pre .0) (s .args .count .now) (s .args .x) (c .own .result) (s .pre .2) (c .own .ensures)
+loop-holds c = let s = c .before .before .before .before in gather-none (s .pre .0) (s .pre .2) (c .own .ensures)
 
 near-requires : tie.Need-near-requires Inv-loop μ-loop
 near-requires c κs = let s = c .before .before .before .before .before .before in (s .pre .0 .sized, omega arith, omega arith)
@@ -48,8 +48,7 @@ add-sum c =
     let w = c .before in
     omega (
       arith,
-      brought-small (s .args .rows) (s .args .columns) (s .args .direction .now) (s .pre .0) (s .args .count .now) (s .pre .1) (w .before .before .before .near .result) (eqb (w .before .before .code-at .result) (w .before .back-of .result)) (c .brought .result)
-          (c .brought .ensures ∙ ap (when (eqb (w .before .before .code-at .result) (w .before .back-of .result))) (w .value-at .ensures)),
+      brought-small (s .pre .0) (s .pre .1) (w .before .before .before .near .result) (eqb (w .before .before .code-at .result) (w .before .back-of .result)) (c .brought .ensures ∙ ap (when (eqb (w .before .before .code-at .result) (w .before .back-of .result))) (w .value-at .ensures)),
     )
 
 add-k : tie.Need-add-k Inv-loop μ-loop
@@ -64,10 +63,10 @@ loop-again c =
     let p = c .before .before .before .before .before .before .loop in
     let y = neighbour (s .args .rows) (s .args .columns) (s .args .x) (p .k) in
     let e : c .brought .result ≡ when (eqb (getD (s .args .direction .now) y 0) (backOf (p .k))) (getD (s .args .count .now) y 0) = cc in
-    gather-more (s .args .rows) (s .args .columns) (s .args .direction .now) (s .pre .0) (s .args .count .now) (s .pre .1) (s .args .x) (p .k) (p .sum) (c .brought .result) (s .pre .2) (c .before .before .before .before .before .loop-test .taken) (p .inv) e
+    gather-more (s .pre .0) (s .pre .1) (s .pre .2) (c .before .before .before .before .before .loop-test .taken) (p .inv) e
 
 returns : tie.Need-returns Inv-loop μ-loop
-returns c = let s = c .before .before .before .before .before .before in let p = c .before .loop in gather-all (s .args .rows) (s .args .columns) (s .args .direction .now) (s .pre .0) (s .args .count .now) (s .args .x) (p .k) (p .sum) (c .loop-test .left) (p .inv)
+returns c = let s = c .before .before .before .before .before .before in let p = c .before .loop in gather-all (s .pre .0) (c .loop-test .left) (p .inv)
 
 pub gathered-near-spec : {M : Type 1} → statement M
 gathered-near-spec =

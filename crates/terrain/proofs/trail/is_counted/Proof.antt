@@ -20,7 +20,7 @@ loose-cells-requires : tie.Need-loose-cells-requires
 loose-cells-requires c κs = let s = c .before .before .before .before in (s .pre .0, record { long = s .pre .1; small = (λ y. omega (arith, c .before .largest .ensures y)) })
 
 returns-2 : tie.Need-returns-2
-returns-2 c = let s = c .before .before .before .before .before in λ e. counts-only (s .args .rows) (s .args .columns) (s .args .direction .now) (s .pre .0) (s .args .count .now) (c .loose-cells .result) (s .pre .1) (c .loose-cells .ensures) (ltb-true (c .loose-cells .result) 1 e)
+returns-2 c = let s = c .before .before .before .before .before in λ e. counts-only (s .pre .0) (s .pre .1) (c .loose-cells .ensures) (ltb-true (c .loose-cells .result) 1 e)
 
 pub is-counted-spec : {M : Type 1} → statement M
 is-counted-spec =

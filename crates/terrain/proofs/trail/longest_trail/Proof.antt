@@ -15,7 +15,7 @@ clear-requires c κs = search needs
 longest-cells-requires : tie.Need-longest-cells-requires
 longest-cells-requires c κs =
     let s = c .before .before .before .before .before .before .before in
-    (s .pre .0, subst (Known (s .args .rows) (s .args .columns) (s .args .direction .now)) (sym (c .before .before .before .clear .ensures)) (known-none (s .args .rows) (s .args .columns) (s .args .direction .now) (s .pre .0) _ (s .pre .1)))
+    (s .pre .0, subst (Known (s .args .rows) (s .args .columns) (s .args .direction .now)) (sym (c .before .before .before .clear .ensures)) (known-none (s .pre .0) _ (s .pre .1)))
 
 clear-requires-2 : tie.Need-clear-requires-2
 clear-requires-2 c κs = search needs

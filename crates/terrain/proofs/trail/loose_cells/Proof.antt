@@ -21,13 +21,13 @@ abbrev μ-loop : tie.MeasureT-loop
 μ-loop rows columns direction count sum₀ x₀ sum x = rows * columns - x
 
 loop-holds : tie.Need-loop-holds Inv-loop μ-loop
-loop-holds c = let s = c .before .before in (omega arith, failing-none (Counted (s .args .rows) (s .args .columns) (s .args .direction .now) (s .args .count .now)) 0)
+loop-holds c = (omega arith, failing-none _ 0)
 
 run-end-requires : tie.Need-run-end-requires Inv-loop μ-loop
 run-end-requires c κs = (c .before .before .before .before .pre .0 .sized, omega arith)
 
 loose-run-requires : tie.Need-loose-run-requires Inv-loop μ-loop
-loose-run-requires c κs = let s = c .before .before .before .before .before in (s .pre .0, s .pre .1, c .run-end .ensures .from, c .run-end .ensures .inside)
+loose-run-requires c κs = let s = c .before .before .before .before .before in (s .pre .0, s .pre .1, c .run-end .ensures)
 
 add-sum : tie.Need-add-sum Inv-loop μ-loop
 add-sum c = omega arith
@@ -59,7 +59,7 @@ loop-again : tie.Need-loop-again Inv-loop μ-loop
 loop-again c =
     let s = c .before .before .before .before .before .before .before .before .before in
     let end = c .before .before .before .before .run-end in
-    (omega arith, failing-join (failing-join (c .before .before .before .before .before .before .loop .inv .1) (c .before .before .before .loose-run .ensures)) (counted-one (s .args .rows) (s .args .columns) (s .args .direction .now) (s .pre .0) (s .args .count .now) (end .result) (c .before .gathered-near .result) (c .loose .result) (c .before .gathered-near .ensures) (c .loose .ensures)))
+    (omega arith, failing-join (failing-join (c .before .before .before .before .before .before .loop .inv .1) (c .before .before .before .loose-run .ensures)) (counted-one (s .pre .0) (s .args .count .now) (end .result) (c .before .gathered-near .ensures) (c .loose .ensures)))
 
 returns : tie.Need-returns Inv-loop μ-loop
 returns c = let p = c .before .loop in let s = c .before .before .before .before in let e : p .x ≡ s .args .rows * s .args .columns = omega arith in rw e at (p .inv .1)

@@ -21,28 +21,25 @@ abbrev μ-loop : tie.MeasureT-loop
 μ-loop rows columns direction count from to sum₀ x₀ sum x = to - x
 
 loop-holds : tie.Need-loop-holds Inv-loop μ-loop
-loop-holds c = let s = c .before .before in (omega arith, s .pre .2, failing-none (Counted (s .args .rows) (s .args .columns) (s .args .direction .now) (s .args .count .now)) (s .args .from))
+loop-holds c = let s = c .before .before in (omega arith, s .pre .2 .from, failing-none _ (s .args .from))
 
 mul-loose : tie.Need-mul-loose Inv-loop μ-loop
-mul-loose c = let s = c .before .before .before .before in let p = c .before .loop in omega (arith, s .pre .3 (p .x) (p .inv .0) (c .loop-test .taken) .down)
+mul-loose c = omega arith
 
 shared-slice-read-loose : tie.Need-shared-slice-read-loose Inv-loop μ-loop
-shared-slice-read-loose c = let s = c .before .before .before .before .before in let p = c .before .before .loop in omega (arith, s .pre .3 (p .x) (p .inv .0) (c .before .loop-test .taken) .down)
+shared-slice-read-loose c = omega arith
 
 gathered-inside-requires : tie.Need-gathered-inside-requires Inv-loop μ-loop
-gathered-inside-requires c κs = let s = c .before .before .before .before .before in let p = c .before .before .loop in (s .pre .0, s .pre .1, s .pre .3 (p .x) (p .inv .0) (c .before .loop-test .taken))
+gathered-inside-requires c κs = let s = c .before .before .before .before .before in let p = c .before .before .loop in (s .pre .0, s .pre .1, s .pre .2 .inside (p .x) (p .inv .0) (c .before .loop-test .taken))
 
 loose-requires : tie.Need-loose-requires Inv-loop μ-loop
 loose-requires c κs = search needs
 
 add-sum : tie.Need-add-sum Inv-loop μ-loop
-add-sum c =
-    let s = c .before .before .before .before .before .before .before in
-    let p = c .before .before .before .before .loop in
-    omega (arith, s .pre .3 (p .x) (p .inv .0) (c .before .before .before .loop-test .taken) .down, p .inv .2 .few, when-under (not (eqb (getD (s .args .count .now) (p .x) 0) (c .before .gathered-inside .result))) 1)
+add-sum c = omega (arith, when-under (not (eqb (getD (c .before .before .before .before .before .before .before .args .count .now) (c .before .before .before .before .loop .x) 0) (c .before .gathered-inside .result))) 1)
 
 add-x : tie.Need-add-x Inv-loop μ-loop
-add-x c = let s = c .before .before .before .before .before .before .before in let p = c .before .before .before .before .loop in omega (arith, s .pre .3 (p .x) (p .inv .0) (c .before .before .before .loop-test .taken) .down)
+add-x c = omega arith
 
 loop-less : tie.Need-loop-less Inv-loop μ-loop
 loop-less c = omega arith
@@ -51,7 +48,7 @@ loop-again : tie.Need-loop-again Inv-loop μ-loop
 loop-again c =
     let s = c .before .before .before .before .before .before .before in
     let p = c .before .before .before .before .loop in
-    (omega arith, omega arith, failing-join (p .inv .2) (counted-one (s .args .rows) (s .args .columns) (s .args .direction .now) (s .pre .0) (s .args .count .now) (p .x) (c .before .gathered-inside .result) (c .loose .result) (c .before .gathered-inside .ensures) (c .loose .ensures)))
+    (omega arith, omega arith, failing-join (p .inv .2) (counted-one (s .pre .0) (s .args .count .now) (p .x) (c .before .gathered-inside .ensures) (c .loose .ensures)))
 
 returns : tie.Need-returns Inv-loop μ-loop
 returns c = let p = c .before .loop in let e : p .x ≡ c .before .before .before .before .args .to = omega arith in rw e at (p .inv .2)

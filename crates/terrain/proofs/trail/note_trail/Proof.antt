@@ -14,7 +14,7 @@ abbrev μ-loop : tie.MeasureT-loop
 μ-loop rows columns direction known₀ start cells left₀ x₀ known left x = cellsOf rows columns direction x
 
 loop-holds : tie.Need-loop-holds Inv-loop μ-loop
-loop-holds c = let s = c .before .before in (s .pre .1, trail-starts (s .args .rows) (s .args .columns) (s .args .direction .now) (s .pre .0) (s .args .start) (s .pre .2), s .pre .3)
+loop-holds c = let s = c .before .before in (s .pre .1, trail-starts (s .pre .0) (s .pre .2), s .pre .3)
 
 mul-if1 : tie.Need-mul-if1 Inv-loop μ-loop
 mul-if1 c = search needs
@@ -35,7 +35,7 @@ slice-write-known : tie.Need-slice-write-known Inv-loop μ-loop
 slice-write-known c = omega arith
 
 sub-left : tie.Need-sub-left Inv-loop μ-loop
-sub-left c = let s = c .before .before .before .before .before .before in let p = c .before .before .before .loop in omega (arith, trail-less (s .args .rows) (s .args .columns) (s .args .direction .now) (s .pre .0) (p .x) (omega arith) (p .inv .1))
+sub-left c = let s = c .before .before .before .before .before .before in let p = c .before .before .before .loop in omega (arith, trail-less (s .pre .0) (omega arith) (p .inv .1))
 
 receiver-requires : tie.Need-receiver-requires Inv-loop μ-loop
 receiver-requires c κs = (c .before .before .before .before .before .before .pre .0, omega arith)
@@ -44,14 +44,14 @@ loop-less : tie.Need-loop-less Inv-loop μ-loop
 loop-less c =
     let s = c .before .before .before .before .before .before .before in
     let p = c .before .before .before .before .loop in
-    rw (c .receiver .ensures) (omega (arith, trail-less (s .args .rows) (s .args .columns) (s .args .direction .now) (s .pre .0) (p .x) (omega arith) (p .inv .1)))
+    rw (c .receiver .ensures) (omega (arith, trail-less (s .pre .0) (omega arith) (p .inv .1)))
 
 loop-again : tie.Need-loop-again Inv-loop μ-loop
 loop-again c =
     let s = c .before .before .before .before .before .before .before in
     let p = c .before .before .before .before .loop in
     rw (c .receiver .ensures)
-    (known-more (s .args .rows) (s .args .columns) (s .args .direction .now) (s .pre .0) (p .known) (p .x) (p .left) (omega arith) (p .inv .0) (p .inv .2), trail-goes (s .args .rows) (s .args .columns) (s .args .direction .now) (s .pre .0) (p .x), omega (arith, trail-less (s .args .rows) (s .args .columns) (s .args .direction .now) (s .pre .0) (p .x) (omega arith) (p .inv .1)))
+    (known-more (s .pre .0) (omega arith) (p .inv .0) (p .inv .2), trail-goes (s .pre .0) (p .x), omega (arith, trail-less (s .pre .0) (omega arith) (p .inv .1)))
 
 same-length-2 : tie.Need-same-length-2 Inv-loop μ-loop
 same-length-2 c = search needs

@@ -26,7 +26,7 @@ loop-holds : tie.Need-loop-holds Inv-loop μ-loop
 loop-holds c =
     let s = c .before .before .before .before .before .before in
     subst (λ (l : List ℕ). Raising (countsOf (s .args .rows) (s .args .columns) (s .args .direction .now)) l true) (sym (c .before .before .clear .ensures))
-    (raising-none _ _ _ _ (counting-rule (s .args .rows) (s .args .columns) (s .args .direction .now) (s .pre .0)) _ (zeros-under _ _ (s .pre .1 ∙ sym (counting-long (s .args .rows) (s .args .columns) (s .args .direction .now) (s .pre .0)))))
+    (raising-none _ _ _ _ (counting-rule (s .pre .0)) _ (zeros-under _ _ (s .pre .1 ∙ sym (counting-long (s .pre .0)))))
 
 sweep-requires : tie.Need-sweep-requires Inv-loop μ-loop
 sweep-requires c κs = (c .before .before .before .before .before .before .before .before .before .pre .0, c .before .before .loop .inv .kept)
@@ -36,17 +36,17 @@ loop-less c =
     let s = c .before .before .before .before .before .before .before .before .before .before .before .before in
     let p = c .before .before .before .before .before .loop in
     let w = c .before .before .sweep in
-    rw (c .before .before .before .before .loop-test .taken) (raising-less _ _ _ _ (counting-rule (s .args .rows) (s .args .columns) (s .args .direction .now) (s .pre .0)) (p .count) (w .last .1 .1 .1 .0) _ (w .result) (w .ensures))
+    rw (c .before .before .before .before .loop-test .taken) (raising-less _ _ _ _ (counting-rule (s .pre .0)) (p .count) (w .last .1 .1 .1 .0) _ (w .result) (w .ensures))
 
 loop-again : tie.Need-loop-again Inv-loop μ-loop
 loop-again c =
     let s = c .before .before .before .before .before .before .before .before .before .before .before .before in
     let p = c .before .before .before .before .before .loop in
     let w = c .before .before .sweep in
-    raising-more _ _ _ _ (counting-rule (s .args .rows) (s .args .columns) (s .args .direction .now) (s .pre .0)) (p .count) (w .last .1 .1 .1 .0) _ (w .result) (sym (counting-long (s .args .rows) (s .args .columns) (s .args .direction .now) (s .pre .0))) (w .ensures)
+    raising-more _ _ _ _ (counting-rule (s .pre .0)) (p .count) (w .last .1 .1 .1 .0) _ (w .result) (sym (counting-long (s .pre .0))) (w .ensures)
 
 same-length : tie.Need-same-length Inv-loop μ-loop
-same-length c = let s = c .before .before .before .before .before .before .before .before in c .before .loop .inv .kept .long ∙ counting-long (s .args .rows) (s .args .columns) (s .args .direction .now) (s .pre .0) ∙ sym (s .pre .1)
+same-length c = let s = c .before .before .before .before .before .before .before .before in c .before .loop .inv .kept .long ∙ counting-long (s .pre .0) ∙ sym (s .pre .1)
 
 returns : tie.Need-returns Inv-loop μ-loop
 returns c = c .before .loop .inv .done (c .loop-test .left)

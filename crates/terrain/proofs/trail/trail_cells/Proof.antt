@@ -15,7 +15,7 @@ abbrev μ-loop : tie.MeasureT-loop
 μ-loop rows columns direction known start passed₀ x₀ passed x = cellsOf rows columns direction x
 
 loop-holds : tie.Need-loop-holds Inv-loop μ-loop
-loop-holds c = let s = c .before .before in (trail-starts (s .args .rows) (s .args .columns) (s .args .direction .now) (s .pre .0) (s .args .start) (s .pre .2), omega arith)
+loop-holds c = let s = c .before .before in (trail-starts (s .pre .0) (s .pre .2), omega arith)
 
 mul-if1 : tie.Need-mul-if1 Inv-loop μ-loop
 mul-if1 c = search needs
@@ -30,13 +30,13 @@ shared-slice-read-result : tie.Need-shared-slice-read-result Inv-loop μ-loop
 shared-slice-read-result c = search needs
 
 add-result : tie.Need-add-result Inv-loop μ-loop
-add-result c = let s = c .before .before .before .before .before .before .before in omega (arith, s .pre .1 .right (c .before .before .before .before .loop .x) (c .before .if1 .taken), cells-small (s .args .rows) (s .args .columns) (s .args .direction .now) (s .pre .0) (s .args .start))
+add-result c = let s = c .before .before .before .before .before .before .before in omega (arith, s .pre .1 .right (c .before .before .before .before .loop .x) (c .before .if1 .taken), cells-small (s .pre .0) (s .args .start))
 
 returns : tie.Need-returns Inv-loop μ-loop
 returns c = let s = c .before .before .before .before .before .before .before in omega (arith, s .pre .1 .right (c .before .before .before .before .loop .x) (c .before .if1 .taken))
 
 add-passed : tie.Need-add-passed Inv-loop μ-loop
-add-passed c = let s = c .before .before .before .before .before .before in omega (arith, cells-small (s .args .rows) (s .args .columns) (s .args .direction .now) (s .pre .0) (s .args .start))
+add-passed c = let s = c .before .before .before .before .before .before in omega (arith, cells-small (s .pre .0) (s .args .start))
 
 receiver-requires : tie.Need-receiver-requires Inv-loop μ-loop
 receiver-requires c κs = (c .before .before .before .before .before .before .pre .0, omega arith)
@@ -45,16 +45,16 @@ loop-less : tie.Need-loop-less Inv-loop μ-loop
 loop-less c =
     let s = c .before .before .before .before .before .before .before in
     let p = c .before .before .before .before .loop in
-    rw (c .receiver .ensures) (omega (arith, trail-less (s .args .rows) (s .args .columns) (s .args .direction .now) (s .pre .0) (p .x) (omega arith) (p .inv .0)))
+    rw (c .receiver .ensures) (omega (arith, trail-less (s .pre .0) (omega arith) (p .inv .0)))
 
 loop-again : tie.Need-loop-again Inv-loop μ-loop
 loop-again c =
     let s = c .before .before .before .before .before .before .before in
     let p = c .before .before .before .before .loop in
-    rw (c .receiver .ensures) (trail-goes (s .args .rows) (s .args .columns) (s .args .direction .now) (s .pre .0) (p .x), omega (arith, trail-less (s .args .rows) (s .args .columns) (s .args .direction .now) (s .pre .0) (p .x) (omega arith) (p .inv .0)))
+    rw (c .receiver .ensures) (trail-goes (s .pre .0) (p .x), omega (arith, trail-less (s .pre .0) (omega arith) (p .inv .0)))
 
 returns-2 : tie.Need-returns-2 Inv-loop μ-loop
-returns-2 c = let s = c .before .before .before .before in omega (arith, cells-off (s .args .rows) (s .args .columns) (s .args .direction .now) (s .pre .0) (c .before .loop .x) (omega arith))
+returns-2 c = let s = c .before .before .before .before in omega (arith, cells-off (s .pre .0) (c .before .loop .x) (omega arith))
 
 pub trail-cells-spec : {M : Type 1} → statement M
 trail-cells-spec =

@@ -8,13 +8,13 @@ shared-slice-read-if1 : tie.Need-shared-slice-read-if1
 shared-slice-read-if1 c = search needs
 
 returns : tie.Need-returns
-returns c = let s = c .before .before .before .before in (code-none (s .args .rows) (s .args .columns) (s .args .direction .now) (s .pre .0) (s .args .x) (s .pre .2) (c .if1 .taken), s .pre .1)
+returns c = let s = c .before .before .before .before in (code-none (s .pre .0) (s .args .x) (s .pre .2) (c .if1 .taken), s .pre .1)
 
 trail-cells-requires : tie.Need-trail-cells-requires
-trail-cells-requires c κs = let s = c .before .before .before .before .before in (s .pre .0, s .pre .1, code-mapped (s .args .rows) (s .args .columns) (s .args .direction .now) (s .pre .0) (s .args .x) (s .pre .2) (c .before .if1 .left))
+trail-cells-requires c κs = let s = c .before .before .before .before .before in (s .pre .0, s .pre .1, code-mapped (s .pre .0) (s .args .x) (s .pre .2) (c .before .if1 .left))
 
 note-trail-requires : tie.Need-note-trail-requires
-note-trail-requires c κs = let s = c .before .before .before .before .before .before .before in (s .pre .0, s .pre .1, code-mapped (s .args .rows) (s .args .columns) (s .args .direction .now) (s .pre .0) (s .args .x) (s .pre .2) (c .before .before .before .if1 .left), c .before .trail-cells .ensures)
+note-trail-requires c κs = let s = c .before .before .before .before .before .before .before in (s .pre .0, s .pre .1, code-mapped (s .pre .0) (s .args .x) (s .pre .2) (c .before .before .before .if1 .left), c .before .trail-cells .ensures)
 
 same-length : tie.Need-same-length
 same-length c = search needs

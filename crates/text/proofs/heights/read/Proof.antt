@@ -8,10 +8,9 @@ use mir.Syntax.{w64}
 use mir.Val.{toZ, ofZ}
 use lib.ListN.{length}
 use denote.Ref.{now}
-use Rattle.text.specs.Heights.{heights}
 use Rattle.text.specs.Answers.{accepted, headerOf}
 use Rattle.text.specs.Inner.{bodyOutcome}
-use Rattle.text.proofs.Grids.{kept-on, moved-on, body-unlike, body-off, body-more, body-on}
+use Rattle.text.proofs.Grids.{judged-good, body-unlike, body-off, body-more, body-on}
 use borrow.Author.Needs.{needs}
 use Rattle.text.proofs.heights.read.Statement.{statement}
 use Rattle.text.proofs.heights.read.Tie as tie
@@ -49,8 +48,10 @@ enum-told c = search needs
 store-heights-requires : tie.Need-store-heights-requires
 store-heights-requires c κs =
     let a = c .before .before .before .before .before .before .before .before .before .before .before .before .before .args in
-    kept-on (heights (toZ w64 (ofZ w64 (a .header .«no_data»))) (length (now (a .out))) (now (a .s)) (a .k .at)) _
-    (moved-on _ _ _ (c .before .before .before .before .before .before .before .before .judge-heights .ensures) (c .before .before .before .before .before .before .rest .given .1)) .0
+    let n = toZ w64 (ofZ w64 (a .header .«no_data»)) in
+    judged-good n (length (now (a .out))) (now (a .s)) (a .k .at) _ _
+    (c .before .before .before .before .before .before .before .before .judge-heights .ensures)
+    (c .before .before .before .before .before .before .rest .given .1)
 
 returns-3 : tie.Need-returns-3
 returns-3 c =

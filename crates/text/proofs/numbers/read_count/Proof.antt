@@ -1,5 +1,5 @@
 -- `text::numbers::read_count` meets its contract. Assumes nothing.
-use mathlib.Core.Path.{_≡_, refl, sym, ap, _∙_}
+use mathlib.Core.Path.{sym, _∙_}
 use borrow.Author.Tests.{not-true, not-false}
 use Rattle.text.proofs.Steps.{count-none, count-empty, count-off, count-low, count-high, count-on}
 use borrow.Author.Needs.{needs}

@@ -1,6 +1,7 @@
 -- `text::numbers::read_decimals` meets its contract. Assumes nothing.
-use mathlib.Core.Path.{_≡_, refl, sym, ap, _∙_}
-use Rattle.text.proofs.Forms.{decimals-none, decimals-on, decimals-off}
+use mathlib.Core.Path.{sym, _∙_}
+use Rattle.text.proofs.Ends.{end-no-digit}
+use Rattle.text.proofs.Forms.{tail-none, decimals-none, decimals-on, decimals-off}
 use borrow.Author.Needs.{needs}
 use Rattle.text.proofs.numbers.read_decimals.Statement.{statement}
 use Rattle.text.proofs.numbers.read_decimals.Tie as tie
@@ -11,9 +12,6 @@ read-hundredths-requires c κs = search needs
 returns : tie.Need-returns
 returns c = decimals-none _ _ _ _ (c .before .read-hundredths .ensures) _ _ (c .before .before .before .pre .0) (c .if1 .taken)
 
-read-tail-requires : tie.Need-read-tail-requires
-read-tail-requires c κs = search needs
-
 ends-requires : tie.Need-ends-requires
 ends-requires c κs = search needs
 
@@ -21,10 +19,26 @@ add-t11 : tie.Need-add-t11
 add-t11 c = search needs
 
 returns-2 : tie.Need-returns-2
-returns-2 c = decimals-on _ _ _ _ (c .before .before .before .before .before .read-hundredths .ensures) _ _ (c .before .before .before .before .before .before .before .pre .0) (c .before .before .before .before .if1 .left) _ _ (c .before .before .before .read-tail .ensures) (c .before .before .before .before .before .before .before .pre .1) (sym (c .before .before .ends .ensures) ∙ c .before .if2 .taken)
+returns-2 c =
+    let w = c .before .before .before .before .read-hundredths .ensures in
+    let h = c .before .before .before .before .before .before .pre .0 in
+    let e = sym (c .before .before .ends .ensures) ∙ c .before .if2 .taken in
+    decimals-on _ _ _ _ w _ _ h (c .before .before .before .if1 .left) _ _ (tail-none _ _ _ h (w .ends) (end-no-digit _ _ e)) (c .before .before .before .before .before .before .pre .1) e
+
+read-tail-requires : tie.Need-read-tail-requires
+read-tail-requires c κs = search needs
+
+ends-requires-2 : tie.Need-ends-requires-2
+ends-requires-2 c κs = search needs
+
+add-t13 : tie.Need-add-t13
+add-t13 c = search needs
 
 returns-3 : tie.Need-returns-3
-returns-3 c = decimals-off _ _ _ _ (c .before .before .before .before .read-hundredths .ensures) _ _ (c .before .before .before .before .before .before .pre .0) (c .before .before .before .if1 .left) _ _ (c .before .before .read-tail .ensures) (sym (c .before .ends .ensures) ∙ c .if2 .left)
+returns-3 c = decimals-on _ _ _ _ (c .before .before .before .before .before .before .before .read-hundredths .ensures) _ _ (c .before .before .before .before .before .before .before .before .before .pre .0) (c .before .before .before .before .before .before .if1 .left) _ _ (c .before .before .before .read-tail .ensures) (c .before .before .before .before .before .before .before .before .before .pre .1) (sym (c .before .before .ends2 .ensures) ∙ c .before .if3 .taken)
+
+returns-4 : tie.Need-returns-4
+returns-4 c = decimals-off _ _ _ _ (c .before .before .before .before .before .before .read-hundredths .ensures) _ _ (c .before .before .before .before .before .before .before .before .pre .0) (c .before .before .before .before .before .if1 .left) _ _ (c .before .before .read-tail .ensures) (sym (c .before .ends2 .ensures) ∙ c .if3 .left)
 
 pub read-decimals-spec : {M : Type 1} → statement M
 read-decimals-spec =
@@ -32,8 +46,11 @@ read-decimals-spec =
     (tie.spec
     read-hundredths-requires
     returns
-    read-tail-requires
     ends-requires
     add-t11
     returns-2
-    returns-3)
+    read-tail-requires
+    ends-requires-2
+    add-t13
+    returns-3
+    returns-4)

@@ -1,5 +1,5 @@
 -- `text::numbers::read_form` meets its contract. Assumes nothing.
-use mathlib.Core.Path.{_≡_, refl, sym, ap, _∙_}
+use mathlib.Core.Path.{sym, _∙_}
 use native.Mathlib.Omega.{arith}
 use denote.Ref.{now}
 use Rattle.text.proofs.Forms.{sign-within, point-within, form-none, form-point, form-on, form-off}

@@ -1,5 +1,4 @@
 -- `text::numbers::read_hundredths` meets its contract. Assumes nothing.
-use native.Mathlib.Omega.{arith}
 use Rattle.text.proofs.Values.{hundredths-short, hundredths-full}
 use borrow.Author.Needs.{needs}
 use Rattle.text.proofs.numbers.read_hundredths.Statement.{statement}

@@ -1,0 +1,6 @@
+pub mod Greatest
+pub mod Tables
+pub mod Power
+pub mod Sines
+pub mod Factors
+pub mod Examples

@@ -1,0 +1,66 @@
+-- `factor::cell::factor_of` meets its contract: the exponent is one of the four, and every product fits. Assumes nothing.
+use borrow.Author.Needs.{needs}
+use Prim.Native.Nat.{_*_, _≤_}
+use native.Mathlib.Nat.{mul-le-mul, le-of-lt}
+use native.Mathlib.Omega.{arith}
+use Rattle.factor.proofs.Factors.{exponent-in, product-within, factor-long, factor-short}
+use Rattle.factor.proofs.cell.factor_of.Statement.{statement}
+use Rattle.factor.proofs.cell.factor_of.Tie as tie
+
+mul-mm : tie.Need-mul-mm
+mul-mm c =
+    let pre = c .before .before .before .before .pre in
+    omega (arith, mul-le-mul (le-of-lt (pre .length-small)) (pre .sloping .side-small))
+
+returns : tie.Need-returns
+returns c =
+    let a = c .before .before .before .before .before .args in
+    factor-long (a .side) (a .q) (a .length) (c .if1 .taken)
+
+exponent-of-requires : tie.Need-exponent-of-requires
+exponent-of-requires c κs = search needs
+
+cast-length-factor : tie.Need-cast-length-factor
+cast-length-factor c = search needs
+
+length-factor-requires : tie.Need-length-factor-requires
+length-factor-requires c κs =
+    let start = c .before .before .before .before .before .before in
+    let in-range = exponent-in (start .args .side) (start .args .q) in
+    record {
+      least = omega (arith, c .exponent-of .ensures, in-range);
+      most = omega (arith, c .exponent-of .ensures, in-range);
+      length-in = search needs;
+      listed = start .pre .listed;
+    }
+
+steepness-factor-requires : tie.Need-steepness-factor-requires
+steepness-factor-requires c κs = search needs
+
+small : (c : tie.After-steepness-factor) → c .before .length-factor .result * c .steepness-factor .result ≤ 70035000
+small c = rw (c .before .length-factor .ensures, c .steepness-factor .ensures) (product-within _ _ _ _)
+
+mul-result : tie.Need-mul-result
+mul-result c = omega (arith, small c)
+
+cast-result : tie.Need-cast-result
+cast-result c = omega (arith, small c)
+
+returns-2 : tie.Need-returns-2
+returns-2 c =
+    let a = c .before .before .before .before .before .before .before .before .args in
+    factor-short (a .side) (a .q) (a .length) (c .before .before .before .if1 .left) (c .before .before .exponent-of .ensures) (c .before .length-factor .ensures) (c .steepness-factor .ensures)
+
+pub factor-of-spec : {M : Type 1} → statement M
+factor-of-spec =
+    tie.close
+    (tie.spec
+    mul-mm
+    returns
+    exponent-of-requires
+    cast-length-factor
+    length-factor-requires
+    steepness-factor-requires
+    mul-result
+    cast-result
+    returns-2)

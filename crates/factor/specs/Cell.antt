@@ -1,0 +1,15 @@
+-- Document 01, "LS": what one valid cell's LS is, by the cell side c, its steepness q and its length. Assumes nothing.
+use Prim.Native.Nat.{ℕ, _*_}
+use mathlib.Core.Bool.{cond}
+use lib.Dec.{ltb}
+use Rattle.factor.specs.Quantities.{tooLong}
+use Rattle.factor.specs.Exponent.{exponentOf}
+use Rattle.factor.specs.LengthFactor.{millimetres, longest, lengthFactor}
+use Rattle.factor.specs.Steepness.{steepnessFactor}
+
+-- "LS = t·S", in hundred-thousandths, up to 304,800 mm; above: too long
+unfoldable pub factorOf : ℕ → ℕ → ℕ → ℕ
+unfolding exponentOf lengthFactor steepnessFactor
+factorOf c q length =
+    let mm = millimetres c length in
+    cond (ltb longest mm) tooLong (lengthFactor (exponentOf c q) mm * steepnessFactor c q)

@@ -1,0 +1,26 @@
+// Maps fields of every kind with the call of `terrain` and writes its answers and grids, for document 01's headings
+// "Filling and directions" and "Numbers of refusal". What must be written, the file `stdout`, is worked out from that
+// document.
+mod drawn;
+mod land;
+mod listed;
+mod refusals;
+mod show;
+mod spiral;
+
+fn main() {
+    listed::drops();
+    drawn::basins();
+    drawn::slopes();
+    drawn::no_data();
+    drawn::strips();
+    drawn::pits_in_strips();
+    refusals::sizes();
+    refusals::lengths();
+    refusals::heights();
+    refusals::heights_near_no_data();
+    refusals::of_two();
+    drawn::plateau();
+    land::shapes();
+    land::strips_and_noise();
+}

@@ -1,0 +1,114 @@
+-- Document 01's examples of the text, computed from the definitions. Assumes nothing.
+use mathlib.Core.Path.{_≡_, refl}
+use mathlib.Core.List.{List, [], _∷_, map}
+use Prim.Native.Nat.{ℕ}
+use Prim.Native.String.{String}
+use lib.IntN.{ℤ, pos, negℤ}
+use lib.ListN.{replicate}
+use Rattle.text.specs.Bytes.{bytes}
+use Rattle.text.specs.Reader.{Step, got, refused}
+use Rattle.text.specs.Words.{run, wordStart, wordEnd, word}
+use Rattle.text.specs.Numbers.{Placed, value, countAt, decimals, numberAt, count, number, measure}
+use Rattle.text.specs.Headers.{named, name, corner, side, field, anyMeasure, noData, extent, corners, sideAndNoData, header}
+use Rattle.text.specs.Heights.{height, heights, end, body, grid}
+use Rattle.text.specs.Answers.{GridOutcome, headerAnswer, gridAnswer}
+
+-- ---- numbers, each as the only word of a text
+
+pub data Read : Type 0 where
+  cm : ℤ → Read
+  wrong : ℕ → ℕ → Read
+
+abbrev pub readOf : Step (Placed ℤ) → Read
+readOf (got x i) = cm (x .is)
+readOf (refused n p) = wrong n p
+
+pub record Single : Type 0 where
+  pub text : String
+  pub gives : Read
+
+unfoldable pub singles : List Single
+singles =
+    record { text = "12.5000"; gives = cm (pos 1250) } ∷
+    record { text = "-0"; gives = cm (pos 0) } ∷
+    record { text = "12.505"; gives = wrong 8 0 } ∷
+    record { text = "12,5"; gives = wrong 7 0 } ∷
+    record { text = ".5"; gives = wrong 7 0 } ∷
+    record { text = "5."; gives = wrong 7 0 } ∷
+    record { text = "+5"; gives = wrong 7 0 } ∷
+    record { text = ""; gives = wrong 9 0 } ∷
+    record { text = " -9999 "; gives = cm (negℤ (pos 999900)) } ∷
+    record { text = "-"; gives = wrong 7 0 } ∷
+    record { text = "1234567890"; gives = wrong 7 0 } ∷
+    record { text = "1.1234567"; gives = wrong 7 0 } ∷
+    record { text = "0.001"; gives = wrong 8 0 } ∷
+    record { text = "-0.070000"; gives = cm (negℤ (pos 7)) } ∷
+    record { text = "999999999.99"; gives = cm (pos 99999999999) } ∷ []
+
+pub singles-hold : map (λ (x : Single). readOf (measure (bytes (x .text)) 0)) singles ≡ map (λ (x : Single). x .gives) singles
+unfolding singles bytes run wordStart wordEnd word value decimals numberAt number measure
+singles-hold = refl
+
+-- ---- whole texts, with so many heights lent, each 77 beforehand
+
+pub record Whole : Type 0 where
+  pub lent : ℕ
+  pub text : String
+  pub number : ℕ
+  pub place : ℕ
+  pub heights : List ℤ
+
+abbrev pub markers : ℕ → List ℤ
+markers n = replicate n (pos 77)
+
+unfoldable pub wholes : List Whole
+wholes =
+    record {
+      lent = 9;
+      text = "ncols 3 nrows 3 xllcorner 0 yllcorner 0 cellsize 10\n5 5 5\n5 2 4\n5 5 5\n";
+      number = 0;
+      place = 0;
+      heights = pos 500 ∷ pos 500 ∷ pos 500 ∷ pos 500 ∷ pos 200 ∷ pos 400 ∷ pos 500 ∷ pos 500 ∷ pos 500 ∷ [];
+    } ∷
+    record {
+      lent = 2;
+      text = "NCOLS 2 nRows 1 xllcorner 0 yllcorner -1.5 cellsize 10 NODATA_value 9000.01 9000.01 -500";
+      number = 0;
+      place = 0;
+      heights = negℤ (pos 999900) ∷ negℤ (pos 50000) ∷ [];
+    } ∷
+    record { lent = 1; text = ""; number = 9; place = 0; heights = markers 1 } ∷
+    record { lent = 1; text = "ncols 0 x"; number = 1; place = 6; heights = markers 1 } ∷
+    record { lent = 3; text = "ncols 2 nrows 1 xllcorner 0 yllcorner 0 cellsize 10 1,0 2"; number = 2; place = 0; heights = markers 3 } ∷
+    record { lent = 2; text = "ncols 2 nrows 1 xllcorner 0 yllcorner 0 cellsize 0 1 2"; number = 3; place = 49; heights = markers 2 } ∷
+    record { lent = 2; text = "ncols 2 nrows 1 xllcorner 0 yllcorner 0 cellsize 10 1 9000.01"; number = 5; place = 54; heights = markers 2 } ∷
+    record { lent = 2; text = "ncols 2 nrows 1 xllcorner 0 yllcorner 0 cellsize 10 data 1"; number = 6; place = 52; heights = markers 2 } ∷
+    record { lent = 2; text = "ncols 2 nrows 1 xllcorner 0 yllcorner 0 cellsize 10 12,5 2"; number = 7; place = 52; heights = markers 2 } ∷
+    record { lent = 2; text = "ncols 2 nrows 1 xllcorner 0 yllcorner 0 cellsize 10 1 12.505"; number = 8; place = 54; heights = markers 2 } ∷
+    record { lent = 2; text = "ncols 2 nrows 1 xllcorner 0 yllcorner 0 cellsize 10 1 "; number = 9; place = 54; heights = markers 2 } ∷
+    record { lent = 2; text = "ncols 2 nrows 1 xllcorner 0 yllcorner 0 cellsize 10 1 2 3"; number = 10; place = 56; heights = markers 2 } ∷ []
+
+pub record Told : Type 0 where
+  pub number : ℕ
+  pub place : ℕ
+  pub heights : List ℤ
+
+abbrev pub toldOf : GridOutcome → Told
+toldOf r = record { number = r .answer .number; place = r .answer .place; heights = r .heights }
+
+pub wholes-hold : map (λ (x : Whole). toldOf (gridAnswer (markers (x .lent)) (bytes (x .text)))) wholes
+    ≡ map (λ (x : Whole). record { number = x .number; place = x .place; heights = x .heights }) wholes
+unfolding wholes bytes run wordStart wordEnd word value countAt decimals numberAt count number measure named name corner side field anyMeasure noData extent corners sideAndNoData header height heights end body grid
+wholes-hold = refl
+
+-- ---- the header call: it judges nothing after the header, but the eleventh word belongs to it
+
+pub header-alone : headerAnswer (bytes "ncols 2 nrows 1 xllcorner 0 yllcorner 0 cellsize 12.5 1,0")
+    ≡ record { number = 0; place = 0; rows = 1; columns = 2; side = pos 1250; noData = negℤ (pos 999900) }
+unfolding bytes run wordStart wordEnd word value countAt decimals numberAt count number measure named name corner side field anyMeasure noData extent corners sideAndNoData header
+header-alone = refl
+
+pub eleventh-word : headerAnswer (bytes "ncols 2 nrows 1 xllcorner 0 yllcorner 0 cellsize 12.5 nan")
+    ≡ record { number = 6; place = 54; rows = 0; columns = 0; side = pos 0; noData = pos 0 }
+unfolding bytes run wordStart wordEnd word value countAt decimals numberAt count number measure named name corner side field anyMeasure noData extent corners sideAndNoData header
+eleventh-word = refl
