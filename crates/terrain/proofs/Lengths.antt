@@ -84,10 +84,10 @@ module _ {rows cols : ℕ} {dir : List ℕ} (d : Directed rows cols dir) (side :
 
   -- an inflow is a cell of the grid, and stands higher
   into-in : (z k : ℕ) → into z k ≡ true → nb z k < rows * cols
-  into-in z k e = mapped-in rows cols dir (d .long) (nb z k) (flows-mapped rows cols dir (nb z k) (into-flows rows cols dir rank (directed-falls rows cols dir d) rank-le z k e .0))
+  into-in z k e = mapped-in rows cols dir (d .long) (nb z k) (flows-mapped rows cols dir (nb z k) (into-flows rows cols dir rank (directed-falls d) rank-le z k e .0))
 
   above : (z k : ℕ) → into z k ≡ true → rank z < rank (nb z k)
-  above z k e = into-above rows cols dir rank (directed-falls rows cols dir d) rank-le z k e
+  above z k e = into-above rows cols dir rank (directed-falls d) rank-le z k e
 
   -- ---- the rule of a cell's length
 

@@ -174,14 +174,14 @@ bounded rows cols rules count most top e g m =
 
 module _ {rows cols : ℕ} {dir : List ℕ} (d : Directed rows cols dir) (x : ℕ) (h : x < rows * cols) where
   pub no-side : getD dir x 0 ≡ 255 → 8 ≡ sideOf (getD dir x 255)
-  no-side e = sym (ap sideOf (code-read rows cols dir d x h ∙ e) ∙ side-none)
+  no-side e = sym (ap sideOf (code-read d x h ∙ e) ∙ side-none)
 
   pub bit-side : (getD dir x 0 ≡ 255 → ⊥) → trailingZeros 8 (getD dir x 0) ≡ sideOf (getD dir x 255)
   bit-side f =
-      ⊎-elim (λ q. bit-of rows cols dir d x h q)
+      ⊎-elim (λ q. bit-of d x h q)
       (λ q.
-      let e = d .stops x (is-mapped rows cols dir x (λ i. f (sym (code-read rows cols dir d x h) ∙ i))) q in
-      ap (trailingZeros 8) (sym (code-read rows cols dir d x h) ∙ e) ∙ trailing-of-zero 8 ∙ sym side-leaves ∙ sym (ap sideOf e)) (two (flowsAt rows cols dir x))
+      let e = d .stops x (is-mapped rows cols dir x (λ i. f (sym (code-read d x h) ∙ i))) q in
+      ap (trailingZeros 8) (sym (code-read d x h) ∙ e) ∙ trailing-of-zero 8 ∙ sym side-leaves ∙ sym (ap sideOf e)) (two (flowsAt rows cols dir x))
 
   -- the neighbour that it points at is a cell of the grid
   side-flows : sideOf (getD dir x 255) < 8 → flowsAt rows cols dir x ≡ true
@@ -306,13 +306,13 @@ module _ {rows cols : ℕ} {dir : List ℕ} (d : Directed rows cols dir) (side :
   -- an inflow's steepness and step are those of the side that it lies at
   inflow-side : (k : ℕ) → k < 8 → into k ≡ true → sideOf (getD dir (nb k) 255) ≡ across k
   inflow-side k s e =
-      let w = into-flows rows cols dir (stepsIn rows cols dir (rows * cols)) (directed-falls rows cols dir d) rank-le x k e in
+      let w = into-flows rows cols dir (stepsIn rows cols dir (rows * cols)) (directed-falls d) rank-le x k e in
       let i = mapped-in rows cols dir (d .long) (nb k) (flows-mapped rows cols dir (nb k) (w .0)) in
-      ap sideOf (code-read rows cols dir d (nb k) i ∙ eqb-true (getD dir (nb k) 0) (backOf k) (into-read rows cols dir d x k h s ∙ e)) ∙ back-side k s
+      ap sideOf (code-read d (nb k) i ∙ eqb-true (getD dir (nb k) 0) (backOf k) (into-read d x k h s ∙ e)) ∙ back-side k s
 
   inflow-steep : (k : ℕ) → k < 8 → into k ≡ true → steepOf k (getD lv (nb k) 0 - getD lv x 0) ≡ steepnessAt rows cols lv dir (nb k)
   inflow-steep k s e =
-      let w = into-flows rows cols dir (stepsIn rows cols dir (rows * cols)) (directed-falls rows cols dir d) rank-le x k e in
+      let w = into-flows rows cols dir (stepsIn rows cols dir (rows * cols)) (directed-falls d) rank-le x k e in
       let i = mapped-in rows cols dir (d .long) (nb k) (flows-mapped rows cols dir (nb k) (w .0)) in
       let a = inflow-side k s e in
       sym (across-steep k (getD lv (nb k) 0 - getD lv x 0) s)
@@ -325,7 +325,7 @@ module _ {rows cols : ℕ} {dir : List ℕ} (d : Directed rows cols dir) (side :
   inflow-is : (k : ℕ) → k < 8 → inflowOf lv dir l cutoff own x (nb k) k ≡ when (into k) (brings k + 1)
   unfolding inflowOf
   inflow-is k s =
-      ap (λ (t : Bool). when t (amountOf cutoff own (steepOf k (getD lv (nb k) 0 - getD lv x 0)) (stepOver k) (cappedAt l (nb k)) + 1)) (into-read rows cols dir d x k h s)
+      ap (λ (t : Bool). when t (amountOf cutoff own (steepOf k (getD lv (nb k) 0 - getD lv x 0)) (stepOver k) (cappedAt l (nb k)) + 1)) (into-read d x k h s)
       ∙ when-ext (into k) (amountOf cutoff own (steepOf k (getD lv (nb k) 0 - getD lv x 0)) (stepOver k) (cappedAt l (nb k)) + 1) (brings k + 1) (λ e. ap (λ (a : ℕ). a + 1) (brings-is k s e))
 
   abbrev gathered : ℕ
@@ -353,7 +353,7 @@ module _ {rows cols : ℕ} {dir : List ℕ} (d : Directed rows cols dir) (side :
 
   mapped-read : mappedAt rows cols dir x ≡ not (eqb (getD dir x 0) 255)
   unfolding mappedAt
-  mapped-read = ap (λ (c : ℕ). not (eqb c 255)) (code-read rows cols dir d x h)
+  mapped-read = ap (λ (c : ℕ). not (eqb c 255)) (code-read d x h)
 
   flip : (b : Bool) (v : ℕ) → cond b 0 v ≡ cond (not b) v 0
   flip true v = refl
