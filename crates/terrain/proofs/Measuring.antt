@@ -120,23 +120,19 @@ across-code = each-side (λ k. codeOf ((k + 4) % 8) ≡ backOf k) refl refl refl
 
 -- ---- what one inflow brings, test by test as the code makes it
 
-not-flat : (q p : ℕ) → 1 ≤ q + p → (eqb q 0 && eqb p 0) ≡ false
-not-flat q p h = elim (ℕ-discrete q 0) [ yes e ↦ simp (eq-eqb q 0 e, ne-eqb p 0 (λ i. omega arith)) | no f ↦ simp (ne-eqb q 0 f) ]
-
 module _ (n q p s l : ℕ) where
-  pub amount-flat : q + p < 1 → startLength ≡ amountOf n q p s l
+  amount-by : (b : Bool) → (eqb q 0 && eqb p 0) ≡ b → amountOf n q p s l ≡ cond b startLength (cond (isCut n q p) 0 (l + s))
   unfolding amountOf
-  amount-flat h = simp (eq-eqb q 0 (omega arith), eq-eqb p 0 (omega arith))
+  amount-by b e = ap (λ (t : Bool). cond t startLength (cond (isCut n q p) 0 (l + s))) e
 
-  amount-by : 1 ≤ q + p → amountOf n q p s l ≡ cond (isCut n q p) 0 (l + s)
-  unfolding amountOf
-  amount-by h = ap (λ (t : Bool). cond t startLength (cond (isCut n q p) 0 (l + s))) (not-flat q p h)
+  pub amount-flat : (eqb q 0 && eqb p 0) ≡ true → startLength ≡ amountOf n q p s l
+  amount-flat e = sym (amount-by true e)
 
-  pub amount-cut : 1 ≤ q + p → isCut n q p ≡ true → 0 ≡ amountOf n q p s l
-  amount-cut h e = sym (amount-by h ∙ ap (λ (t : Bool). cond t 0 (l + s)) e)
+  pub amount-cut : (eqb q 0 && eqb p 0) ≡ false → isCut n q p ≡ true → 0 ≡ amountOf n q p s l
+  amount-cut e c = sym (amount-by false e ∙ ap (λ (t : Bool). cond t 0 (l + s)) c)
 
-  pub amount-sum : 1 ≤ q + p → isCut n q p ≡ false → l + s ≡ amountOf n q p s l
-  amount-sum h e = sym (amount-by h ∙ ap (λ (t : Bool). cond t 0 (l + s)) e)
+  pub amount-sum : (eqb q 0 && eqb p 0) ≡ false → isCut n q p ≡ false → l + s ≡ amountOf n q p s l
+  amount-sum e c = sym (amount-by false e ∙ ap (λ (t : Bool). cond t 0 (l + s)) c)
 
 -- ---- what a neighbour adds
 

@@ -28,7 +28,7 @@ cutoffFor low high side q = cond (ltb (200 * q) (side * side)) low high
 
 -- "Cut, for receiving q, inflow p and n percent: n is below 100, q < p, and 10,000·q ≤ (100 - n)²·p."
 unfoldable pub isCut : ℕ → ℕ → ℕ → Bool
-isCut n q p = ltb n 100 && (ltb q p && leb (10000 * q) ((100 - n) * (100 - n) * p))
+isCut n q p = (ltb n 100 && ltb q p) && leb (10000 * q) ((100 - n) * (100 - n) * p)
 
 -- where a length starts: "No inflow: 5,000", and between two flat cells
 abbrev pub startLength : ℕ

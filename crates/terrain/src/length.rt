@@ -16,6 +16,7 @@ use crate::cells::beside;
 use crate::cells::larger;
 use crate::cells::near;
 use crate::cells::run_end;
+use crate::cells::smaller;
 use crate::direction::NO_CODE;
 use crate::direction::code_of;
 use crate::settings::Rules;
@@ -30,6 +31,15 @@ const START: u64 = 5000;
 
 // No less than any length.
 const LONGEST: u64 = 15000000000;
+
+// What lengths are measured by: the size of the map, its cell side in cm, the rules, and the greatest count that is no channel's.
+struct Terms {
+    rows: usize,
+    columns: usize,
+    side: u32,
+    rules: Rules,
+    most: u64,
+}
 
 // The drop from the cell x to the cell y; 0 where y is not lower.
 fn drop_of(filled: &[i32], x: usize, y: usize) -> u64
@@ -106,14 +116,8 @@ fn is_cut(n: u32, q: u64, p: u64) -> bool
     requires { ⌜ (q ≤ steepest) × (p ≤ steepest) ⌝ }
     ensures { λ r. ⌜ r ≡ isCut n q p ⌝ }
 {
-    if 100 <= n {
-        return false;
-    }
-    if p <= q {
-        return false;
-    }
-    let left = (100 - n) as u64;
-    10000 * q <= left * left * p
+    let left = (100 - smaller(n, 100)) as u64;
+    (n < 100) & (q < p) & (10000 * q <= left * left * p)
 }
 
 // What an inflow of steepness p brings to a cell of steepness q: the step is the inflow's, and so is the length.
@@ -121,7 +125,7 @@ fn brought(n: u32, q: u64, p: u64, step: u64, length: u64) -> u64
     requires { ⌜ (q ≤ steepest) × (p ≤ steepest) × (step ≤ 14142) × (length ≤ longest) ⌝ }
     ensures { λ r. ⌜ r ≡ amountOf n q p step length ⌝ }
 {
-    if q + p < 1 {
+    if (q == 0) & (p == 0) {
         return START;
     }
     if is_cut(n, q, p) {
@@ -167,25 +171,16 @@ fn gather(
 }
 
 // What the neighbours of a cell x that is inside bring: one more than the greatest amount, 0 for none.
-fn gathered_inside(
-    rows: usize,
-    columns: usize,
-    side: u32,
-    rules: Rules,
-    filled: &[i32],
-    direction: &[u8],
-    lengths: &[u64],
-    x: usize,
-) -> u64
-    requires { ⌜ Charted rows columns (now filled) (now direction) × (length (now lengths) ≡ rows * columns) × Inside rows columns x ⌝ }
-    ensures { λ r. ⌜ r ≡ gatheredOf rows columns side rules (levelsOf (now (filled .entry))) (now (direction .entry)) (now (lengths .entry)) x 8 ⌝ }
+fn gathered_inside(terms: Terms, filled: &[i32], direction: &[u8], lengths: &[u64], x: usize) -> u64
+    requires { ⌜ Charted (terms .rows) (terms .columns) (now filled) (now direction) × (length (now lengths) ≡ terms .rows * terms .columns) × Inside (terms .rows) (terms .columns) x ⌝ }
+    ensures { λ r. ⌜ r ≡ gatheredOf (terms .rows) (terms .columns) (terms .side) (terms .rules) (levelsOf (now (filled .entry))) (now (direction .entry)) (now (lengths .entry)) x 8 ⌝ }
 {
-    let q = steepness(rows, columns, filled, direction, x);
-    let n = cutoff_for(side, rules, q);
+    let q = steepness(terms.rows, terms.columns, filled, direction, x);
+    let n = cutoff_for(terms.side, terms.rules, q);
     let mut gathered: u64 = 0;
     let mut k: usize = 0;
     while k < 8 {
-        let y = beside(columns, x, k);
+        let y = beside(terms.columns, x, k);
         gathered = gather(filled, direction, lengths, n, q, x, y, k, gathered);
         k += 1;
     }
@@ -214,25 +209,16 @@ fn gather_near(
 }
 
 // What the neighbours of any cell x bring.
-fn gathered_near(
-    rows: usize,
-    columns: usize,
-    side: u32,
-    rules: Rules,
-    filled: &[i32],
-    direction: &[u8],
-    lengths: &[u64],
-    x: usize,
-) -> u64
-    requires { ⌜ Charted rows columns (now filled) (now direction) × (length (now lengths) ≡ rows * columns) × (x < rows * columns) ⌝ }
-    ensures { λ r. ⌜ r ≡ gatheredOf rows columns side rules (levelsOf (now (filled .entry))) (now (direction .entry)) (now (lengths .entry)) x 8 ⌝ }
+fn gathered_near(terms: Terms, filled: &[i32], direction: &[u8], lengths: &[u64], x: usize) -> u64
+    requires { ⌜ Charted (terms .rows) (terms .columns) (now filled) (now direction) × (length (now lengths) ≡ terms .rows * terms .columns) × (x < terms .rows * terms .columns) ⌝ }
+    ensures { λ r. ⌜ r ≡ gatheredOf (terms .rows) (terms .columns) (terms .side) (terms .rules) (levelsOf (now (filled .entry))) (now (direction .entry)) (now (lengths .entry)) x 8 ⌝ }
 {
-    let q = steepness(rows, columns, filled, direction, x);
-    let n = cutoff_for(side, rules, q);
+    let q = steepness(terms.rows, terms.columns, filled, direction, x);
+    let n = cutoff_for(terms.side, terms.rules, q);
     let mut gathered: u64 = 0;
     let mut k: usize = 0;
     while k < 8 {
-        let y = near(rows, columns, x, k);
+        let y = near(terms.rows, terms.columns, x, k);
         gathered = gather_near(filled, direction, lengths, n, q, x, y, k, gathered);
         k += 1;
     }
@@ -257,42 +243,34 @@ fn settled(code: u8, most: u64, count: u32, gathered: u64) -> u64
 
 // The length of a cell x that is inside, by those of its inflows.
 fn length_inside(
-    rows: usize,
-    columns: usize,
-    side: u32,
-    rules: Rules,
-    most: u64,
+    terms: Terms,
     filled: &[i32],
     direction: &[u8],
     count: &[u32],
     lengths: &[u64],
     x: usize,
 ) -> u64
-    requires { ⌜ Charted rows columns (now filled) (now direction) × Bounded rows columns rules most (now count) × (length (now lengths) ≡ rows * columns) × Inside rows columns x ⌝ }
-    ensures { λ r. ⌜ r ≡ lengthOffer rows columns side rules (now (filled .entry)) (now (direction .entry)) (now (count .entry)) (now (lengths .entry)) x ⌝ }
+    requires { ⌜ Charted (terms .rows) (terms .columns) (now filled) (now direction) × Bounded (terms .rows) (terms .columns) (terms .rules) (terms .most) (now count) × (length (now lengths) ≡ terms .rows * terms .columns) × Inside (terms .rows) (terms .columns) x ⌝ }
+    ensures { λ r. ⌜ r ≡ lengthOffer (terms .rows) (terms .columns) (terms .side) (terms .rules) (now (filled .entry)) (now (direction .entry)) (now (count .entry)) (now (lengths .entry)) x ⌝ }
 {
-    let gathered = gathered_inside(rows, columns, side, rules, filled, direction, lengths, x);
-    settled(direction[x], most, count[x], gathered)
+    let gathered = gathered_inside(terms, filled, direction, lengths, x);
+    settled(direction[x], terms.most, count[x], gathered)
 }
 
 // The same of any cell x.
 fn length_near(
-    rows: usize,
-    columns: usize,
-    side: u32,
-    rules: Rules,
-    most: u64,
+    terms: Terms,
     filled: &[i32],
     direction: &[u8],
     count: &[u32],
     lengths: &[u64],
     x: usize,
 ) -> u64
-    requires { ⌜ Charted rows columns (now filled) (now direction) × Bounded rows columns rules most (now count) × (length (now lengths) ≡ rows * columns) × (x < rows * columns) ⌝ }
-    ensures { λ r. ⌜ r ≡ lengthOffer rows columns side rules (now (filled .entry)) (now (direction .entry)) (now (count .entry)) (now (lengths .entry)) x ⌝ }
+    requires { ⌜ Charted (terms .rows) (terms .columns) (now filled) (now direction) × Bounded (terms .rows) (terms .columns) (terms .rules) (terms .most) (now count) × (length (now lengths) ≡ terms .rows * terms .columns) × (x < terms .rows * terms .columns) ⌝ }
+    ensures { λ r. ⌜ r ≡ lengthOffer (terms .rows) (terms .columns) (terms .side) (terms .rules) (now (filled .entry)) (now (direction .entry)) (now (count .entry)) (now (lengths .entry)) x ⌝ }
 {
-    let gathered = gathered_near(rows, columns, side, rules, filled, direction, lengths, x);
-    settled(direction[x], most, count[x], gathered)
+    let gathered = gathered_near(terms, filled, direction, lengths, x);
+    settled(direction[x], terms.most, count[x], gathered)
 }
 
 // The largest flow count.
@@ -357,10 +335,7 @@ fn settle(
 
 // Hands the length of the cell x on over side k to the cell y. How many cells y waits for still.
 fn hand_on(
-    rows: usize,
-    columns: usize,
-    side: u32,
-    rules: Rules,
+    terms: Terms,
     filled: &[i32],
     direction: &[u8],
     count: &[u32],
@@ -370,11 +345,11 @@ fn hand_on(
     k: usize,
     y: usize,
 ) -> u32
-    requires { ⌜ Working rows columns (now filled) (now direction) (now count) (now lengths) (now waiting) × (x < rows * columns) × (y < rows * columns) ⌝ }
+    requires { ⌜ Working (terms .rows) (terms .columns) (now filled) (now direction) (now count) (now lengths) (now waiting) × (x < terms .rows * terms .columns) × (y < terms .rows * terms .columns) ⌝ }
 {
-    let q = steepness(rows, columns, filled, direction, y);
+    let q = steepness(terms.rows, terms.columns, filled, direction, y);
     let p = steep_of(k, drop_of(filled, x, y));
-    let n = cutoff_for(side, rules, q);
+    let n = cutoff_for(terms.side, terms.rules, q);
     let amount = brought(n, q, p, step_over(k), capped(lengths[x]));
     lengths[y] = longer(lengths[y], amount + 1);
     waiting[y] = wrapping_sub_u32(waiting[y], count[x]);
@@ -383,11 +358,7 @@ fn hand_on(
 
 // Settles the cells of the trail from a cell that waits for nothing, as far as no cell waits.
 fn follow(
-    rows: usize,
-    columns: usize,
-    side: u32,
-    rules: Rules,
-    most: u64,
+    terms: Terms,
     filled: &[i32],
     direction: &[u8],
     count: &[u32],
@@ -395,33 +366,18 @@ fn follow(
     waiting: &mut [u32],
     start: usize,
 )
-    requires { ⌜ Working rows columns (now filled) (now direction) (now count) (now lengths) (now waiting) × (start < rows * columns) ⌝ }
+    requires { ⌜ Working (terms .rows) (terms .columns) (now filled) (now direction) (now count) (now lengths) (now waiting) × (start < terms .rows * terms .columns) ⌝ }
 {
     let mut x = start;
     let mut turns: usize = 0;
     while turns < lengths.len() {
-        settle(most, direction, count, lengths, waiting, x);
-        let k = side_of(rows, columns, direction, x);
+        settle(terms.most, direction, count, lengths, waiting, x);
+        let k = side_of(terms.rows, terms.columns, direction, x);
         if 8 <= k {
             return;
         }
-        let y = beside(columns, x, k);
-        if 0
-            < hand_on(
-                rows,
-                columns,
-                side,
-                rules,
-                filled,
-                direction,
-                count,
-                lengths,
-                waiting,
-                x,
-                k,
-                y,
-            )
-        {
+        let y = beside(terms.columns, x, k);
+        if 0 < hand_on(terms, filled, direction, count, lengths, waiting, x, k, y) {
             return;
         }
         x = y;
@@ -431,11 +387,7 @@ fn follow(
 
 // The same from the cell x, if it waits for nothing.
 fn begin(
-    rows: usize,
-    columns: usize,
-    side: u32,
-    rules: Rules,
-    most: u64,
+    terms: Terms,
     filled: &[i32],
     direction: &[u8],
     count: &[u32],
@@ -443,67 +395,35 @@ fn begin(
     waiting: &mut [u32],
     x: usize,
 )
-    requires { ⌜ Working rows columns (now filled) (now direction) (now count) (now lengths) (now waiting) × (x < rows * columns) ⌝ }
+    requires { ⌜ Working (terms .rows) (terms .columns) (now filled) (now direction) (now count) (now lengths) (now waiting) × (x < terms .rows * terms .columns) ⌝ }
 {
     if 0 < waiting[x] {
         return;
     }
-    follow(
-        rows,
-        columns,
-        side,
-        rules,
-        most,
-        filled,
-        direction,
-        count,
-        lengths,
-        waiting,
-        x,
-    );
+    follow(terms, filled, direction, count, lengths, waiting, x);
 }
 
 // Hands lengths on from the ridges down.
 fn descend(
-    rows: usize,
-    columns: usize,
-    side: u32,
-    rules: Rules,
-    most: u64,
+    terms: Terms,
     filled: &[i32],
     direction: &[u8],
     count: &[u32],
     lengths: &mut [u64],
     waiting: &mut [u32],
 )
-    requires { ⌜ Working rows columns (now filled) (now direction) (now count) (now lengths) (now waiting) ⌝ }
+    requires { ⌜ Working (terms .rows) (terms .columns) (now filled) (now direction) (now count) (now lengths) (now waiting) ⌝ }
 {
     let mut x: usize = 0;
     while x < lengths.len() {
-        begin(
-            rows,
-            columns,
-            side,
-            rules,
-            most,
-            filled,
-            direction,
-            count,
-            lengths,
-            waiting,
-            x,
-        );
+        begin(terms, filled, direction, count, lengths, waiting, x);
         x += 1;
     }
 }
 
 // Whether each length of a run of cells that are inside is what its inflows give.
 fn is_settled_run(
-    rows: usize,
-    columns: usize,
-    side: u32,
-    rules: Rules,
-    most: u64,
+    terms: Terms,
     filled: &[i32],
     direction: &[u8],
     count: &[u32],
@@ -511,23 +431,12 @@ fn is_settled_run(
     from: usize,
     to: usize,
 ) -> bool
-    requires { ⌜ Charted rows columns (now filled) (now direction) × Bounded rows columns rules most (now count) × (length (now lengths) ≡ rows * columns) × RunsTo rows columns from to ⌝ }
-    ensures { λ r. ⌜ (r ≡ true → SettledIn rows columns side rules (now (filled .entry)) (now (direction .entry)) (now (count .entry)) (now (lengths .entry)) from to) ⌝ }
+    requires { ⌜ Charted (terms .rows) (terms .columns) (now filled) (now direction) × Bounded (terms .rows) (terms .columns) (terms .rules) (terms .most) (now count) × (length (now lengths) ≡ terms .rows * terms .columns) × RunsTo (terms .rows) (terms .columns) from to ⌝ }
+    ensures { λ r. ⌜ (r ≡ true → SettledIn (terms .rows) (terms .columns) (terms .side) (terms .rules) (now (filled .entry)) (now (direction .entry)) (now (count .entry)) (now (lengths .entry)) from to) ⌝ }
 {
     let mut x = from;
     while x < to {
-        let length = length_inside(
-            rows,
-            columns,
-            side,
-            rules,
-            most,
-            filled,
-            direction,
-            count,
-            lengths,
-            x,
-        );
+        let length = length_inside(terms, filled, direction, count, lengths, x);
         if lengths[x] != length {
             return false;
         }
@@ -538,49 +447,22 @@ fn is_settled_run(
 
 // Whether each length is what its inflows give.
 fn is_settled(
-    rows: usize,
-    columns: usize,
-    side: u32,
-    rules: Rules,
-    most: u64,
+    terms: Terms,
     filled: &[i32],
     direction: &[u8],
     count: &[u32],
     lengths: &[u64],
 ) -> bool
-    requires { ⌜ Charted rows columns (now filled) (now direction) × Bounded rows columns rules most (now count) × (length (now lengths) ≡ rows * columns) ⌝ }
-    ensures { λ r. ⌜ (r ≡ true → SettledIn rows columns side rules (now (filled .entry)) (now (direction .entry)) (now (count .entry)) (now (lengths .entry)) 0 (rows * columns)) ⌝ }
+    requires { ⌜ Charted (terms .rows) (terms .columns) (now filled) (now direction) × Bounded (terms .rows) (terms .columns) (terms .rules) (terms .most) (now count) × (length (now lengths) ≡ terms .rows * terms .columns) ⌝ }
+    ensures { λ r. ⌜ (r ≡ true → SettledIn (terms .rows) (terms .columns) (terms .side) (terms .rules) (now (filled .entry)) (now (direction .entry)) (now (count .entry)) (now (lengths .entry)) 0 (terms .rows * terms .columns)) ⌝ }
 {
     let mut x: usize = 0;
     while x < lengths.len() {
-        let end = run_end(rows, columns, x);
-        if !is_settled_run(
-            rows,
-            columns,
-            side,
-            rules,
-            most,
-            filled,
-            direction,
-            count,
-            lengths,
-            x,
-            end,
-        ) {
+        let end = run_end(terms.rows, terms.columns, x);
+        if !is_settled_run(terms, filled, direction, count, lengths, x, end) {
             return false;
         }
-        let length = length_near(
-            rows,
-            columns,
-            side,
-            rules,
-            most,
-            filled,
-            direction,
-            count,
-            lengths,
-            end,
-        );
+        let length = length_near(terms, filled, direction, count, lengths, end);
         if lengths[end] != length {
             return false;
         }
@@ -591,32 +473,17 @@ fn is_settled(
 
 // Raises the length of the cell x to what its inflows give. True if it was less.
 fn raise(
-    rows: usize,
-    columns: usize,
-    side: u32,
-    rules: Rules,
-    most: u64,
+    terms: Terms,
     filled: &[i32],
     direction: &[u8],
     count: &[u32],
     lengths: &mut [u64],
     x: usize,
 ) -> bool
-    requires { ⌜ Charted rows columns (now filled) (now direction) × Bounded rows columns rules most (now count) × (length (now lengths) ≡ rows * columns) × (x < rows * columns) ⌝ }
-    ensures { λ r. ⌜ (r ≡ ltb (getD (now (lengths .entry)) x 0) (lengthOffer rows columns side rules (now (filled .entry)) (now (direction .entry)) (now (count .entry)) (now (lengths .entry)) x)) × (now (lengths .exit) ≡ raisedOf (lengthOffer rows columns side rules (now (filled .entry)) (now (direction .entry)) (now (count .entry))) (now (lengths .entry)) x) ⌝ }
+    requires { ⌜ Charted (terms .rows) (terms .columns) (now filled) (now direction) × Bounded (terms .rows) (terms .columns) (terms .rules) (terms .most) (now count) × (length (now lengths) ≡ terms .rows * terms .columns) × (x < terms .rows * terms .columns) ⌝ }
+    ensures { λ r. ⌜ (r ≡ ltb (getD (now (lengths .entry)) x 0) (lengthOffer (terms .rows) (terms .columns) (terms .side) (terms .rules) (now (filled .entry)) (now (direction .entry)) (now (count .entry)) (now (lengths .entry)) x)) × (now (lengths .exit) ≡ raisedOf (lengthOffer (terms .rows) (terms .columns) (terms .side) (terms .rules) (now (filled .entry)) (now (direction .entry)) (now (count .entry))) (now (lengths .entry)) x) ⌝ }
 {
-    let length = length_near(
-        rows,
-        columns,
-        side,
-        rules,
-        most,
-        filled,
-        direction,
-        count,
-        lengths,
-        x,
-    );
+    let length = length_near(terms, filled, direction, count, lengths, x);
     if length <= lengths[x] {
         return false;
     }
@@ -625,35 +492,14 @@ fn raise(
 }
 
 // Raises every length once. True if some length was raised.
-fn sweep(
-    rows: usize,
-    columns: usize,
-    side: u32,
-    rules: Rules,
-    most: u64,
-    filled: &[i32],
-    direction: &[u8],
-    count: &[u32],
-    lengths: &mut [u64],
-) -> bool
-    requires { ⌜ Charted rows columns (now filled) (now direction) × Bounded rows columns rules most (now count) × Under (lengthsOf rows columns side rules (levelsOf (now filled)) (now direction) (now count)) (now lengths) ⌝ }
-    ensures { λ r. ⌜ Sweeping (lengthsOf rows columns side rules (levelsOf (now (filled .entry))) (now (direction .entry)) (now (count .entry))) (lengthOffer rows columns side rules (now (filled .entry)) (now (direction .entry)) (now (count .entry))) (now (lengths .entry)) (now (lengths .exit)) (rows * columns) r ⌝ }
+fn sweep(terms: Terms, filled: &[i32], direction: &[u8], count: &[u32], lengths: &mut [u64]) -> bool
+    requires { ⌜ Charted (terms .rows) (terms .columns) (now filled) (now direction) × Bounded (terms .rows) (terms .columns) (terms .rules) (terms .most) (now count) × Under (lengthsOf (terms .rows) (terms .columns) (terms .side) (terms .rules) (levelsOf (now filled)) (now direction) (now count)) (now lengths) ⌝ }
+    ensures { λ r. ⌜ Sweeping (lengthsOf (terms .rows) (terms .columns) (terms .side) (terms .rules) (levelsOf (now (filled .entry))) (now (direction .entry)) (now (count .entry))) (lengthOffer (terms .rows) (terms .columns) (terms .side) (terms .rules) (now (filled .entry)) (now (direction .entry)) (now (count .entry))) (now (lengths .entry)) (now (lengths .exit)) (terms .rows * terms .columns) r ⌝ }
 {
     let mut raised = false;
     let mut x: usize = 0;
     while x < lengths.len() {
-        if raise(
-            rows,
-            columns,
-            side,
-            rules,
-            most,
-            filled,
-            direction,
-            count,
-            lengths,
-            x,
-        ) {
+        if raise(terms, filled, direction, count, lengths, x) {
             raised = true;
         }
         x += 1;
@@ -662,34 +508,14 @@ fn sweep(
 }
 
 // Measures anew, raising until no length can be raised.
-fn remeasure(
-    rows: usize,
-    columns: usize,
-    side: u32,
-    rules: Rules,
-    most: u64,
-    filled: &[i32],
-    direction: &[u8],
-    count: &[u32],
-    lengths: &mut [u64],
-)
-    requires { ⌜ Charted rows columns (now filled) (now direction) × Bounded rows columns rules most (now count) × (length (now lengths) ≡ rows * columns) ⌝ }
-    ensures { λ r. ⌜ now (lengths .exit) ≡ lengthsOf rows columns side rules (levelsOf (now (filled .entry))) (now (direction .entry)) (now (count .entry)) ⌝ }
+fn remeasure(terms: Terms, filled: &[i32], direction: &[u8], count: &[u32], lengths: &mut [u64])
+    requires { ⌜ Charted (terms .rows) (terms .columns) (now filled) (now direction) × Bounded (terms .rows) (terms .columns) (terms .rules) (terms .most) (now count) × (length (now lengths) ≡ terms .rows * terms .columns) ⌝ }
+    ensures { λ r. ⌜ now (lengths .exit) ≡ lengthsOf (terms .rows) (terms .columns) (terms .side) (terms .rules) (levelsOf (now (filled .entry))) (now (direction .entry)) (now (count .entry)) ⌝ }
 {
     clear(lengths);
     let mut again = true;
     while again {
-        again = sweep(
-            rows,
-            columns,
-            side,
-            rules,
-            most,
-            filled,
-            direction,
-            count,
-            lengths,
-        );
+        again = sweep(terms, filled, direction, count, lengths);
     }
 }
 
@@ -710,42 +536,18 @@ pub(crate) fn measure(
 {
     let threshold = rules.threshold;
     let most = channel_bound(threshold, largest(count));
+    let terms = Terms {
+        rows: rows,
+        columns: columns,
+        side: side,
+        rules: rules,
+        most: most,
+    };
     clear(lengths);
     await_all(count, workspace);
-    descend(
-        rows,
-        columns,
-        side,
-        rules,
-        most,
-        filled,
-        direction,
-        count,
-        lengths,
-        workspace,
-    );
-    if is_settled(
-        rows,
-        columns,
-        side,
-        rules,
-        most,
-        filled,
-        direction,
-        count,
-        lengths,
-    ) {
+    descend(terms, filled, direction, count, lengths, workspace);
+    if is_settled(terms, filled, direction, count, lengths) {
         return;
     }
-    remeasure(
-        rows,
-        columns,
-        side,
-        rules,
-        most,
-        filled,
-        direction,
-        count,
-        lengths,
-    );
+    remeasure(terms, filled, direction, count, lengths);
 }

@@ -8,11 +8,11 @@ use Rattle.terrain.proofs.length.descend.Statement.{statement}
 use Rattle.terrain.proofs.length.descend.Tie as tie
 
 abbrev Inv-loop : tie.InvT-loop
-Inv-loop rows columns side rules most filled direction count lengths₀ waiting₀ x₀ lengths waiting x =
+Inv-loop terms filled direction count lengths₀ waiting₀ x₀ lengths waiting x =
     (length lengths ≡ length lengths₀) × (length waiting ≡ length waiting₀) × (x ≤ length lengths₀)
 
 abbrev μ-loop : tie.MeasureT-loop
-μ-loop rows columns side rules most filled direction count lengths₀ waiting₀ x₀ lengths waiting x = length lengths₀ - x
+μ-loop terms filled direction count lengths₀ waiting₀ x₀ lengths waiting x = length lengths₀ - x
 
 loop-holds : tie.Need-loop-holds Inv-loop μ-loop
 loop-holds c = (refl, refl, omega arith)

@@ -10,10 +10,10 @@ use Rattle.terrain.proofs.length.follow.Statement.{statement}
 use Rattle.terrain.proofs.length.follow.Tie as tie
 
 abbrev Inv-loop : tie.InvT-loop
-Inv-loop rows columns side rules most filled direction count lengths₀ waiting₀ start x₀ turns₀ lengths waiting x turns = (length lengths ≡ length lengths₀) × (length waiting ≡ length waiting₀) × (x < rows * columns)
+Inv-loop terms filled direction count lengths₀ waiting₀ start x₀ turns₀ lengths waiting x turns = (length lengths ≡ length lengths₀) × (length waiting ≡ length waiting₀) × (x < terms .rows * terms .columns)
 
 abbrev μ-loop : tie.MeasureT-loop
-μ-loop rows columns side rules most filled direction count lengths₀ waiting₀ start x₀ turns₀ lengths waiting x turns = length lengths₀ - turns
+μ-loop terms filled direction count lengths₀ waiting₀ start x₀ turns₀ lengths waiting x turns = length lengths₀ - turns
 
 loop-holds : tie.Need-loop-holds Inv-loop μ-loop
 loop-holds c = (refl, refl, omega arith)
@@ -38,7 +38,7 @@ beside-requires c κs =
     let s = c .before .before .before .before .before .before .before .before .before .before .before .before .before .before .before in
     let p = c .before .before .before .before .before .before .before .before .before .before .loop in
     let k = c .before .side-of in
-    beside-room (s .args .rows) (s .args .columns) (p .x) (k .result) (s .pre .0 .charted .directed .sized) (omega (arith, s .pre .0 .charted .directed .sized .small)) (c .if1 .left) (next-in (s .pre .0 .charted .directed) (p .x) (p .inv .2) (k .result) (k .ensures) (c .if1 .left))
+    beside-room (s .args .terms .rows) (s .args .terms .columns) (p .x) (k .result) (s .pre .0 .charted .directed .sized) (omega (arith, s .pre .0 .charted .directed .sized .small)) (c .if1 .left) (next-in (s .pre .0 .charted .directed) (p .x) (p .inv .2) (k .result) (k .ensures) (c .if1 .left))
 
 hand-on-requires : tie.Need-hand-on-requires Inv-loop μ-loop
 hand-on-requires c κs =
@@ -46,7 +46,7 @@ hand-on-requires c κs =
     let p = c .before .before .before .before .before .before .before .before .before .before .before .before .before .loop in
     let k = c .before .before .before .before .side-of in
     let i = next-in (s .pre .0 .charted .directed) (p .x) (p .inv .2) (k .result) (k .ensures) (c .before .before .before .if1 .left) in
-    (record { charted = s .pre .0 .charted; count-long = s .pre .0 .count-long; lengths-long = omega (arith, s .pre .0 .lengths-long); waiting-long = omega (arith, s .pre .0 .waiting-long) }, p .inv .2, omega (arith, c .before .before .beside .ensures, beside-is (s .args .rows) (s .args .columns) (p .x) (k .result) i))
+    (record { charted = s .pre .0 .charted; count-long = s .pre .0 .count-long; lengths-long = omega (arith, s .pre .0 .lengths-long); waiting-long = omega (arith, s .pre .0 .waiting-long) }, p .inv .2, omega (arith, c .before .before .beside .ensures, beside-is (s .args .terms .rows) (s .args .terms .columns) (p .x) (k .result) i))
 
 same-length-3 : tie.Need-same-length-3 Inv-loop μ-loop
 same-length-3 c = search needs
@@ -72,7 +72,7 @@ loop-again c =
     let p = c .before .before .before .before .before .before .before .before .before .before .before .before .before .before .before .before .before .before .before .loop in
     let k = c .before .before .before .before .before .before .before .before .before .before .side-of in
     let i = next-in (s .pre .0 .charted .directed) (p .x) (p .inv .2) (k .result) (k .ensures) (c .before .before .before .before .before .before .before .before .before .if1 .left) in
-    (c .before .before .before .before .lengths2 .given ∙ c .before .before .before .before .before .before .before .before .before .before .before .before .before .before .lengths .given ∙ p .inv .0, c .before .before .waiting2 .given ∙ c .before .before .before .before .before .before .before .before .before .before .before .before .waiting .given ∙ p .inv .1, omega (arith, c .before .before .before .before .before .before .before .before .beside .ensures, beside-is (s .args .rows) (s .args .columns) (p .x) (k .result) i))
+    (c .before .before .before .before .lengths2 .given ∙ c .before .before .before .before .before .before .before .before .before .before .before .before .before .before .lengths .given ∙ p .inv .0, c .before .before .waiting2 .given ∙ c .before .before .before .before .before .before .before .before .before .before .before .before .waiting .given ∙ p .inv .1, omega (arith, c .before .before .before .before .before .before .before .before .beside .ensures, beside-is (s .args .terms .rows) (s .args .terms .columns) (p .x) (k .result) i))
 
 same-length-5 : tie.Need-same-length-5 Inv-loop μ-loop
 same-length-5 c = search needs

@@ -10,10 +10,10 @@ use Rattle.terrain.proofs.length.gathered_inside.Statement.{statement}
 use Rattle.terrain.proofs.length.gathered_inside.Tie as tie
 
 abbrev Inv-loop : tie.InvT-loop
-Inv-loop rows columns side filled direction lengths x q n gathered₀ k₀ gathered k = Gathering rows columns (levelsOf filled) direction lengths n q x k gathered
+Inv-loop terms filled direction lengths x q n gathered₀ k₀ gathered k = Gathering (terms .rows) (terms .columns) (levelsOf filled) direction lengths n q x k gathered
 
 abbrev μ-loop : tie.MeasureT-loop
-μ-loop rows columns side filled direction lengths x q n gathered₀ k₀ gathered k = 8 - k
+μ-loop terms filled direction lengths x q n gathered₀ k₀ gathered k = 8 - k
 
 steepness-requires : tie.Need-steepness-requires Inv-loop μ-loop
 steepness-requires c κs =
@@ -31,7 +31,7 @@ loop-holds c = gather-none
 beside-requires : tie.Need-beside-requires Inv-loop μ-loop
 beside-requires c κs =
     let s = c .before .before .before .before .before .before in
-    inside-beside (s .args .rows) (s .args .columns) (s .args .x) (c .before .loop .k) (s .pre .0 .directed .sized) (s .pre .2) (c .loop-test .taken)
+    inside-beside (s .args .terms .rows) (s .args .terms .columns) (s .args .x) (c .before .loop .k) (s .pre .0 .directed .sized) (s .pre .2) (c .loop-test .taken)
 
 gather-requires : tie.Need-gather-requires Inv-loop μ-loop
 gather-requires c κs =
@@ -39,7 +39,7 @@ gather-requires c κs =
     let p = c .before .before .loop in
     let t = c .before .loop-test in
     let q = c .before .before .before .before .steepness in
-    meeting (s .pre .0) (s .args .lengths .now) (q .result) (s .args .x) (c .beside .result) (p .k) (s .pre .1) (omega (arith, q .ensures, steepness-small (s .pre .0) (s .args .x) (omega (arith, s .pre .2 .down)))) (omega (arith, s .pre .2 .down)) (omega (arith, c .beside .ensures ∙ inside-is (s .args .rows) (s .args .columns) (s .args .x) (p .k) (s .pre .2) (t .taken), inside-neighbour (s .args .rows) (s .args .columns) (s .args .x) (p .k) (s .pre .2) (t .taken))) (t .taken)
+    meeting (s .pre .0) (s .args .lengths .now) (q .result) (s .args .x) (c .beside .result) (p .k) (s .pre .1) (omega (arith, q .ensures, steepness-small (s .pre .0) (s .args .x) (omega (arith, s .pre .2 .down)))) (omega (arith, s .pre .2 .down)) (omega (arith, c .beside .ensures ∙ inside-is (s .args .terms .rows) (s .args .terms .columns) (s .args .x) (p .k) (s .pre .2) (t .taken), inside-neighbour (s .args .terms .rows) (s .args .terms .columns) (s .args .x) (p .k) (s .pre .2) (t .taken))) (t .taken)
 
 add-k : tie.Need-add-k Inv-loop μ-loop
 add-k c = search needs
@@ -52,13 +52,13 @@ loop-again c =
     let s = c .before .before .before .before .before .before .before .before in
     let p = c .before .before .before .loop in
     let t = c .before .before .loop-test in
-    gather-more (t .taken) (c .before .beside .ensures ∙ inside-is (s .args .rows) (s .args .columns) (s .args .x) (p .k) (s .pre .2) (t .taken)) (p .inv) (c .gather .ensures)
+    gather-more (t .taken) (c .before .beside .ensures ∙ inside-is (s .args .terms .rows) (s .args .terms .columns) (s .args .x) (p .k) (s .pre .2) (t .taken)) (p .inv) (c .gather .ensures)
 
 returns : tie.Need-returns Inv-loop μ-loop
 returns c =
     let s = c .before .before .before .before .before .before in
     let p = c .before .loop in
-    gather-all (s .args .side) (s .args .rules) (c .loop-test .left) (p .inv) (c .before .before .cutoff-for .ensures) (c .before .before .before .steepness .ensures)
+    gather-all (s .args .terms .side) (s .args .terms .rules) (c .loop-test .left) (p .inv) (c .before .before .cutoff-for .ensures) (c .before .before .before .steepness .ensures)
 
 pub gathered-inside-spec : {M : Type 1} → statement M
 gathered-inside-spec =

@@ -9,10 +9,10 @@ use Rattle.terrain.proofs.length.gathered_near.Statement.{statement}
 use Rattle.terrain.proofs.length.gathered_near.Tie as tie
 
 abbrev Inv-loop : tie.InvT-loop
-Inv-loop rows columns side filled direction lengths x q n gathered₀ k₀ gathered k = Gathering rows columns (levelsOf filled) direction lengths n q x k gathered
+Inv-loop terms filled direction lengths x q n gathered₀ k₀ gathered k = Gathering (terms .rows) (terms .columns) (levelsOf filled) direction lengths n q x k gathered
 
 abbrev μ-loop : tie.MeasureT-loop
-μ-loop rows columns side filled direction lengths x q n gathered₀ k₀ gathered k = 8 - k
+μ-loop terms filled direction lengths x q n gathered₀ k₀ gathered k = 8 - k
 
 steepness-requires : tie.Need-steepness-requires Inv-loop μ-loop
 steepness-requires c κs =
@@ -57,7 +57,7 @@ returns : tie.Need-returns Inv-loop μ-loop
 returns c =
     let s = c .before .before .before .before .before .before in
     let p = c .before .loop in
-    gather-all (s .args .side) (s .args .rules) (c .loop-test .left) (p .inv) (c .before .before .cutoff-for .ensures) (c .before .before .before .steepness .ensures)
+    gather-all (s .args .terms .side) (s .args .terms .rules) (c .loop-test .left) (p .inv) (c .before .before .cutoff-for .ensures) (c .before .before .before .steepness .ensures)
 
 pub gathered-near-spec : {M : Type 1} → statement M
 gathered-near-spec =

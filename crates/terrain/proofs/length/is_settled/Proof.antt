@@ -11,15 +11,15 @@ use Rattle.terrain.proofs.length.is_settled.Statement.{statement}
 use Rattle.terrain.proofs.length.is_settled.Tie as tie
 
 abbrev Inv-loop : tie.InvT-loop
-Inv-loop rows columns side rules most filled direction count lengths x₀ x = SettledIn rows columns side rules filled direction count lengths 0 x × (x ≤ rows * columns)
+Inv-loop terms filled direction count lengths x₀ x = SettledIn (terms .rows) (terms .columns) (terms .side) (terms .rules) filled direction count lengths 0 x × (x ≤ terms .rows * terms .columns)
 
 abbrev μ-loop : tie.MeasureT-loop
-μ-loop rows columns side rules most filled direction count lengths x₀ x = rows * columns - x
+μ-loop terms filled direction count lengths x₀ x = terms .rows * terms .columns - x
 
 loop-holds : tie.Need-loop-holds Inv-loop μ-loop
 loop-holds c =
     let s = c .before .before .before in
-    (range-none (λ y. getD (s .args .lengths .now) y 0 ≡ lengthOffer (s .args .rows) (s .args .columns) (s .args .side) (s .args .rules) (s .args .filled .now) (s .args .direction .now) (s .args .count .now) (s .args .lengths .now) y) 0, omega arith)
+    (range-none (λ y. getD (s .args .lengths .now) y 0 ≡ lengthOffer (s .args .terms .rows) (s .args .terms .columns) (s .args .terms .side) (s .args .terms .rules) (s .args .filled .now) (s .args .direction .now) (s .args .count .now) (s .args .lengths .now) y) 0, omega arith)
 
 run-end-requires : tie.Need-run-end-requires Inv-loop μ-loop
 run-end-requires c κs = (c .before .before .before .before .before .pre .0 .directed .sized, omega arith)
@@ -63,13 +63,13 @@ loop-again c =
     let s = c .before .before .before .before .before .before .before .before .before .before .before in
     let p = c .before .before .before .before .before .before .before .loop in
     let end = c .before .before .before .before .before .run-end in
-    (range-more (λ y. getD (s .args .lengths .now) y 0 ≡ lengthOffer (s .args .rows) (s .args .columns) (s .args .side) (s .args .rules) (s .args .filled .now) (s .args .direction .now) (s .args .count .now) (s .args .lengths .now) y) 0 (end .result) (range-join (λ y. getD (s .args .lengths .now) y 0 ≡ lengthOffer (s .args .rows) (s .args .columns) (s .args .side) (s .args .rules) (s .args .filled .now) (s .args .direction .now) (s .args .count .now) (s .args .lengths .now) y) 0 (p .x) (end .result) (p .inv .0) (c .before .before .before .before .is-settled-run .ensures (not-false _ (c .before .before .before .if1 .left)))) (c .if2 .left ∙ c .before .before .length-near .ensures), omega (arith, end .ensures .within))
+    (range-more (λ y. getD (s .args .lengths .now) y 0 ≡ lengthOffer (s .args .terms .rows) (s .args .terms .columns) (s .args .terms .side) (s .args .terms .rules) (s .args .filled .now) (s .args .direction .now) (s .args .count .now) (s .args .lengths .now) y) 0 (end .result) (range-join (λ y. getD (s .args .lengths .now) y 0 ≡ lengthOffer (s .args .terms .rows) (s .args .terms .columns) (s .args .terms .side) (s .args .terms .rules) (s .args .filled .now) (s .args .direction .now) (s .args .count .now) (s .args .lengths .now) y) 0 (p .x) (end .result) (p .inv .0) (c .before .before .before .before .is-settled-run .ensures (not-false _ (c .before .before .before .if1 .left)))) (c .if2 .left ∙ c .before .before .length-near .ensures), omega (arith, end .ensures .within))
 
 returns-3 : tie.Need-returns-3 Inv-loop μ-loop
 returns-3 c =
     let s = c .before .before .before .before .before in
     let p = c .before .loop in
-    let e : p .x ≡ s .args .rows * s .args .columns = omega arith in
+    let e : p .x ≡ s .args .terms .rows * s .args .terms .columns = omega arith in
     λ t. rw e at (p .inv .0)
 
 pub is-settled-spec : {M : Type 1} → statement M

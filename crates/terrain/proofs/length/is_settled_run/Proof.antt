@@ -10,15 +10,15 @@ use Rattle.terrain.proofs.length.is_settled_run.Statement.{statement}
 use Rattle.terrain.proofs.length.is_settled_run.Tie as tie
 
 abbrev Inv-loop : tie.InvT-loop
-Inv-loop rows columns side rules most filled direction count lengths from to x₀ x = SettledIn rows columns side rules filled direction count lengths from x × (from ≤ x) × (x ≤ to)
+Inv-loop terms filled direction count lengths from to x₀ x = SettledIn (terms .rows) (terms .columns) (terms .side) (terms .rules) filled direction count lengths from x × (from ≤ x) × (x ≤ to)
 
 abbrev μ-loop : tie.MeasureT-loop
-μ-loop rows columns side rules most filled direction count lengths from to x₀ x = to - x
+μ-loop terms filled direction count lengths from to x₀ x = to - x
 
 loop-holds : tie.Need-loop-holds Inv-loop μ-loop
 loop-holds c =
     let s = c .before .before .before in
-    (range-none (λ y. getD (s .args .lengths .now) y 0 ≡ lengthOffer (s .args .rows) (s .args .columns) (s .args .side) (s .args .rules) (s .args .filled .now) (s .args .direction .now) (s .args .count .now) (s .args .lengths .now) y) (s .args .from), omega arith, s .pre .3 .from)
+    (range-none (λ y. getD (s .args .lengths .now) y 0 ≡ lengthOffer (s .args .terms .rows) (s .args .terms .columns) (s .args .terms .side) (s .args .terms .rules) (s .args .filled .now) (s .args .direction .now) (s .args .count .now) (s .args .lengths .now) y) (s .args .from), omega arith, s .pre .3 .from)
 
 length-inside-requires : tie.Need-length-inside-requires Inv-loop μ-loop
 length-inside-requires c κs =
@@ -51,7 +51,7 @@ loop-again : tie.Need-loop-again Inv-loop μ-loop
 loop-again c =
     let s = c .before .before .before .before .before .before .before .before in
     let p = c .before .before .before .before .loop in
-    (range-more (λ y. getD (s .args .lengths .now) y 0 ≡ lengthOffer (s .args .rows) (s .args .columns) (s .args .side) (s .args .rules) (s .args .filled .now) (s .args .direction .now) (s .args .count .now) (s .args .lengths .now) y) (s .args .from) (p .x) (p .inv .0) (c .if1 .left ∙ c .before .before .length-inside .ensures), omega arith, omega arith)
+    (range-more (λ y. getD (s .args .lengths .now) y 0 ≡ lengthOffer (s .args .terms .rows) (s .args .terms .columns) (s .args .terms .side) (s .args .terms .rules) (s .args .filled .now) (s .args .direction .now) (s .args .count .now) (s .args .lengths .now) y) (s .args .from) (p .x) (p .inv .0) (c .if1 .left ∙ c .before .before .length-inside .ensures), omega arith, omega arith)
 
 returns-2 : tie.Need-returns-2 Inv-loop μ-loop
 returns-2 c =

@@ -30,9 +30,9 @@ unfolding lengthOffer
 returns c =
     let s = c .before .before .before .before .before .before .before in
     let g = c .before .before .before .gathered-inside in
-    let t = ltb (s .args .most) (getD (s .args .count .now) (s .args .x) 0) in
+    let t = ltb (s .args .terms .most) (getD (s .args .count .now) (s .args .x) 0) in
     c .settled .ensures ∙ ap (settledOf (getD (s .args .direction .now) (s .args .x) 0) t) (g .ensures)
-    ∙ settled-is (s .pre .0 .directed) (s .args .side) (s .args .rules) (levelsOf (s .args .filled .now)) (s .args .count .now) (s .args .lengths .now) (s .args .x) (omega (arith, s .pre .3 .down)) t (s .pre .1 .channel (s .args .x) (omega (arith, s .pre .3 .down)))
+    ∙ settled-is (s .pre .0 .directed) (s .args .terms .side) (s .args .terms .rules) (levelsOf (s .args .filled .now)) (s .args .count .now) (s .args .lengths .now) (s .args .x) (omega (arith, s .pre .3 .down)) t (s .pre .1 .channel (s .args .x) (omega (arith, s .pre .3 .down)))
 
 pub length-inside-spec : {M : Type 1} → statement M
 length-inside-spec =

@@ -21,7 +21,7 @@ returns : tie.Need-returns
 returns c =
     let s = c .before .before .before .before .before .before .before in
     let v = c .before .before .length-near in
-    raise-keep (lengthOffer (s .args .rows) (s .args .columns) (s .args .side) (s .args .rules) (s .args .filled .now) (s .args .direction .now) (s .args .count .now)) (s .args .lengths .now) (s .args .x) (v .result) (v .ensures) (c .if1 .taken)
+    raise-keep (lengthOffer (s .args .terms .rows) (s .args .terms .columns) (s .args .terms .side) (s .args .terms .rules) (s .args .filled .now) (s .args .direction .now) (s .args .count .now)) (s .args .lengths .now) (s .args .x) (v .result) (v .ensures) (c .if1 .taken)
 
 mul-lengths : tie.Need-mul-lengths
 mul-lengths c = search needs
@@ -36,7 +36,7 @@ returns-2 : tie.Need-returns-2
 returns-2 c =
     let s = c .before .before .before .before .before .before .before in
     let v = c .before .before .length-near in
-    raise-up (lengthOffer (s .args .rows) (s .args .columns) (s .args .side) (s .args .rules) (s .args .filled .now) (s .args .direction .now) (s .args .count .now)) (s .args .lengths .now) (s .args .x) (v .result) (v .ensures) (c .if1 .left)
+    raise-up (lengthOffer (s .args .terms .rows) (s .args .terms .columns) (s .args .terms .side) (s .args .terms .rules) (s .args .filled .now) (s .args .direction .now) (s .args .count .now)) (s .args .lengths .now) (s .args .x) (v .result) (v .ensures) (c .if1 .left)
 
 pub raise-spec : {M : Type 1} → statement M
 raise-spec =
