@@ -29,7 +29,7 @@ use Rattle.terrain.specs.Cells.{neighbour, codeOf, sideOf, cardinal, lev
 use Rattle.terrain.specs.Surfaces.{greatest}
 use Rattle.terrain.specs.Filled.{filledLevels, filledOf}
 use Rattle.terrain.specs.Direction.{steepOf}
-use Rattle.terrain.specs.Trail.{mappedAt, flowsAt, nextAt, stepsIn, intoAt}
+use Rattle.terrain.specs.Trail.{flowsAt, nextAt, stepsIn, intoAt}
 use Rattle.terrain.specs.Answers.{directionOf, countOf}
 use Rattle.terrain.specs.Directed.{Directed, backOf}
 use Rattle.terrain.specs.Length.{isChannel, largestOf, cutoffFor, isCut, startLength, stepOver, amountOf, steepnessAt, channelAt, cutoffAt, bringsAt, lengthFrom, lengthsOf, lengthOf}
