@@ -1,5 +1,5 @@
 -- Laws of a sheet's lines: what a cell shows, by its ground, and the lines of one cell more. Assumes nothing.
-use mathlib.Core.Path.{_≡_, refl, ap}
+use mathlib.Core.Path.{_≡_, refl, ap, ap₂}
 use mathlib.Core.Bool.{Bool, true, false, cond, _&&_}
 use mathlib.Core.List.{List, _∷_, _++_}
 use Prim.Native.Nat.{ℕ, _+_, _/_, _%_}
@@ -15,6 +15,8 @@ use Rattle.text.specs.Heights.{same}
 use Rattle.text.specs.Quantities.{noDataHeight}
 use Rattle.sheet.specs.Words.{decimal, line}
 use Rattle.sheet.specs.Lines.{valueWords, shownWords, cellLine, Grids, cellOf, cellLines}
+use Rattle.sheet.specs.Writing.{Wrote}
+use Rattle.sheet.proofs.Writing.{wrote-none, wrote-as, wrote-then}
 use Rattle.sheet.specs.declared.lines.Cell.{Cell}
 
 either : (b : Bool) (w v x y : List ℕ) (xs ys : List (List ℕ)) → line (w ∷ v ∷ cond b (x ∷ xs) (y ∷ ys)) ≡ w ++ (32 ∷ (v ++ (32 ∷ line (cond b (x ∷ xs) (y ∷ ys)))))
@@ -36,10 +38,6 @@ pub shown-values : (c : Cell) → same (c .ground) noDataHeight ≡ false → sh
 unfolding shownWords
 shown-values c h = ap (λ (b : Bool). cond b (replicate 6 (bytes "-")) (valueWords c)) h
 
-pub cell-lines-more : (columns : ℕ) (g : Grids) (x : ℕ) → cellLines columns g (x + 1) ≡ cellLines columns g x ++ cellLine (x / columns) (x % columns) (cellOf g x)
-unfolding cellLines
-cell-lines-more columns g x = rw add-one
-
 -- a height is NoData, or the test says that it is not
 pub same-not : (z : ℤ) → (z ≡ noDataHeight → ⊥) → same z noDataHeight ≡ false
 same-not (pos n) d = refl
@@ -55,3 +53,19 @@ same-not (negsuc n) d =
     and-off : (b : Bool) → (b && false) ≡ false
     and-off true = refl
     and-off false = refl
+
+-- ---- the lines of a map's cells
+
+-- the cell x, with its two heights as they were read
+abbrev cellWith : Grids → ℕ → ℤ → ℤ → Cell
+cellWith g x ground filled =
+    record { ground = ground; filled = filled; direction = cellOf g x .direction; count = cellOf g x .count; length = cellOf g x .length; factor = cellOf g x .factor }
+
+module _ (columns : ℕ) (g : Grids) where
+  pub cells-none : (room : List ℕ) (at : ℕ) → Wrote room at (cellLines columns g 0) at room
+  unfolding cellLines
+  cells-none room at = wrote-none room at
+
+  pub cells-more : {room mid after : List ℕ} {at next end : ℕ} {ground filled : ℤ} (x : ℕ) → ground ≡ cellOf g x .ground → filled ≡ cellOf g x .filled → Wrote room at (cellLines columns g x) next mid → Wrote mid next (cellLine (x / columns) (x % columns) (cellWith g x ground filled)) end after → Wrote room at (cellLines columns g (x + 1)) end after
+  unfolding cellLines
+  cells-more x eg ef p q = rw add-one (wrote-then p (wrote-as (ap₂ (λ (ground filled : ℤ). cellLine (x / columns) (x % columns) (cellWith g x ground filled)) eg ef) q))

@@ -1,6 +1,7 @@
 // The lines of a sheet: a map's shape, its cells, and a refusal.
 ghost use mathlib.Core.List.{[], _∷_, _++_};
 ghost use Prim.Native.Nat.{_+_, _*_, _≤_, _<_, _^_};
+ghost use lib.ListN.{length};
 ghost use Rattle.sheet.specs.Words.{decimal, integer, line};
 ghost use Rattle.sheet.specs.Writing.{Wrote};
 ghost use Rattle.sheet.specs.Lines.{refusalLine, factorWord, valueWords, shownWords, cellLine, shapeLine, cellLines, mapLines, gridsOf, Long};
@@ -109,4 +110,65 @@ pub(crate) fn put_refusal(out: &mut [u8], number: u32, place: usize) -> usize
     let b = put_number(out, a, number as u64, b' ');
     let c = writer::put_all(out, b, b"at ");
     put_number(out, c, place as u64, b'\n')
+}
+
+// The lines of a map's cells.
+fn put_cells(
+    out: &mut [u8],
+    at: usize,
+    columns: usize,
+    ground: &[i32],
+    filled: &[i32],
+    direction: &[u8],
+    count: &[u32],
+    lengths: &[u64],
+    factors: &[u32],
+) -> usize
+    requires { ⌜ (at ≤ 105) × (0 < columns) × Long (length (now ground)) (gridsOf (now ground) (now filled) (now direction) (now count) (now lengths) (now factors)) ⌝ }
+    ensures { λ r. ⌜ (Wrote (now (out .entry)) at (cellLines columns (gridsOf (now (ground .entry)) (now (filled .entry)) (now (direction .entry)) (now (count .entry)) (now (lengths .entry)) (now (factors .entry))) (length (now (ground .entry)))) r (now (out .exit))) × (r ≤ at + 150 * length (now (ground .entry))) ⌝ }
+{
+    let mut next = at;
+    let mut x = 0;
+    while x < ground.len() {
+        let cell = Cell {
+            ground: ground[x],
+            filled: filled[x],
+            direction: direction[x],
+            count: count[x],
+            length: lengths[x],
+            factor: factors[x],
+        };
+        next = put_cell(out, next, x / columns, x % columns, cell);
+        x += 1;
+    }
+    next
+}
+
+// All lines of a map, whose grids stand in row order.
+pub(crate) fn put_map(
+    out: &mut [u8],
+    shape: Shape,
+    ground: &[i32],
+    filled: &[i32],
+    direction: &[u8],
+    count: &[u32],
+    lengths: &[u64],
+    factors: &[u32],
+) -> usize
+    requires { ⌜ (0 < shape .columns) × Long (shape .rows * shape .columns) (gridsOf (now ground) (now filled) (now direction) (now count) (now lengths) (now factors)) ⌝ }
+    ensures { λ r. ⌜ (Wrote (now (out .entry)) 0 (mapLines shape (gridsOf (now (ground .entry)) (now (filled .entry)) (now (direction .entry)) (now (count .entry)) (now (lengths .entry)) (now (factors .entry)))) r (now (out .exit))) × (r ≤ 105 + 150 * (shape .rows * shape .columns)) ⌝ }
+{
+    let columns = shape.columns;
+    let next = put_shape(out, 0, shape);
+    put_cells(
+        out,
+        next,
+        columns,
+        ground,
+        filled,
+        direction,
+        count,
+        lengths,
+        factors,
+    )
 }
