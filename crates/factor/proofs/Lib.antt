@@ -3,4 +3,5 @@ pub mod Tables
 pub mod Power
 pub mod Sines
 pub mod Factors
+pub mod Grids
 pub mod Examples

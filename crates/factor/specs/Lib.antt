@@ -4,4 +4,5 @@ pub mod Exponent
 pub mod LengthFactor
 pub mod Steepness
 pub mod Cell
+pub mod Grid
 pub mod Inner
