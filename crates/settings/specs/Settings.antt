@@ -5,13 +5,13 @@ use lib.IntN.{pos}
 use lib.Dec.{leb}
 use lib.Ieee.{Float, binary64, div, ofInt, eq}
 use Rattle.laws.specs.First.{firstOf}
-use Rattle.terrain.specs.declared.settings.Channel.{Channel}
-use Rattle.terrain.specs.declared.settings.Channel.the-variants.{Percentage, Cells, NoChannel}
-use Rattle.terrain.specs.declared.settings.Settings.{Settings}
-use Rattle.terrain.specs.declared.settings.Threshold.{Threshold}
-use Rattle.terrain.specs.declared.settings.Threshold.the-variants.{Share, Over, Never}
-use Rattle.terrain.specs.declared.settings.Judged.{Judged}
-use Rattle.terrain.specs.declared.settings.Judged.the-variants.{Accepted, Refused}
+use Rattle.settings.specs.declared.Channel.{Channel}
+use Rattle.settings.specs.declared.Channel.the-variants.{Percentage, Cells, NoChannel}
+use Rattle.settings.specs.declared.Settings.{Settings}
+use Rattle.settings.specs.declared.Threshold.{Threshold}
+use Rattle.settings.specs.declared.Threshold.the-variants.{Share, Over, Never}
+use Rattle.settings.specs.declared.Judged.{Judged}
+use Rattle.settings.specs.declared.Judged.the-variants.{Accepted, Refused}
 
 -- the float quotient n / d, rounded once
 unfoldable pub quotient : ℕ → ℕ → Float

@@ -14,14 +14,14 @@ use lib.Ieee.Positive.{num, den, den-pos}
 use borrow.Author.Tests.{le-leb, lt-leb}
 use Rattle.laws.proofs.Tests.{two}
 use Rattle.laws.proofs.First.{first-is, first-holds}
-use Rattle.terrain.specs.declared.settings.Channel.{Channel}
-use Rattle.terrain.specs.declared.settings.Channel.the-variants.{Percentage, Cells, NoChannel}
-use Rattle.terrain.specs.declared.settings.Settings.{Settings}
-use Rattle.terrain.specs.declared.settings.Threshold.{Threshold}
-use Rattle.terrain.specs.declared.settings.Threshold.the-variants.{Share, Over, Never}
-use Rattle.terrain.specs.declared.settings.Judged.{Judged}
-use Rattle.terrain.specs.declared.settings.Judged.the-variants.{Accepted, Refused}
-use Rattle.terrain.specs.Settings.{quotient, wholeOf, thresholdOf, thresholdAccepted, verdictOf, judgedOf, defaultSettings}
+use Rattle.settings.specs.declared.Channel.{Channel}
+use Rattle.settings.specs.declared.Channel.the-variants.{Percentage, Cells, NoChannel}
+use Rattle.settings.specs.declared.Settings.{Settings}
+use Rattle.settings.specs.declared.Threshold.{Threshold}
+use Rattle.settings.specs.declared.Threshold.the-variants.{Share, Over, Never}
+use Rattle.settings.specs.declared.Judged.{Judged}
+use Rattle.settings.specs.declared.Judged.the-variants.{Accepted, Refused}
+use Rattle.settings.specs.Settings.{quotient, wholeOf, thresholdOf, thresholdAccepted, verdictOf, judgedOf, defaultSettings}
 
 -- ---- the quotients rise
 

@@ -3,9 +3,9 @@ use mathlib.Core.Path.{_≡_, refl}
 use mathlib.Core.List.{List, [], _∷_}
 use Prim.Native.Nat.{ℕ}
 use lib.IntN.{ℤ, pos, negsuc}
-use Rattle.terrain.specs.declared.settings.Threshold.{Threshold}
-use Rattle.terrain.specs.declared.settings.Threshold.the-variants.{Share, Over, Never}
-use Rattle.terrain.specs.declared.settings.Rules.{Rules}
+use Rattle.settings.specs.declared.Threshold.{Threshold}
+use Rattle.settings.specs.declared.Threshold.the-variants.{Share, Over, Never}
+use Rattle.settings.specs.declared.Rules.{Rules}
 use Rattle.terrain.specs.Quantities.{noData}
 use Rattle.terrain.specs.Length.{lengthOf}
 

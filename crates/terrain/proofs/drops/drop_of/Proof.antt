@@ -1,10 +1,10 @@
--- `terrain::length::drop_of` meets its contract. Assumes nothing.
+-- `terrain::drops::drop_of` meets its contract. Assumes nothing.
 use mathlib.Core.Path.{ap}
 use lib.IntN.{natAbs}
 use borrow.Author.Needs.{needs}
 use Rattle.terrain.proofs.Measuring.{drop-none, drop-fits, drop-casts, drop-word}
-use Rattle.terrain.proofs.length.drop_of.Statement.{statement}
-use Rattle.terrain.proofs.length.drop_of.Tie as tie
+use Rattle.terrain.proofs.drops.drop_of.Statement.{statement}
+use Rattle.terrain.proofs.drops.drop_of.Tie as tie
 
 mul-a : tie.Need-mul-a
 mul-a c = search needs

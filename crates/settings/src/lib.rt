@@ -1,7 +1,7 @@
 // The settings of a map: the two cutoffs and the channel rule, judged and turned into whole percentages. Document 01, "Quantities".
 ghost use mathlib.Core.Path.{_≡_};
 ghost use Prim.Native.Nat.{_≤_};
-ghost use Rattle.terrain.specs.Settings.{wholeOf, judgedOf, defaultSettings};
+ghost use Rattle.settings.specs.Settings.{wholeOf, judgedOf, defaultSettings};
 
 // Above which flow count a cell is a channel: a percentage of the largest flow count, a number of cells, or none.
 pub enum Channel {
@@ -66,7 +66,7 @@ fn whole_of(x: f64, parts: u32, top: u32) -> u32
 }
 
 // Judges the low cutoff, the high one and the channel rule, in that order.
-pub(crate) fn judge(s: Settings) -> Judged
+pub fn judge(s: Settings) -> Judged
     ensures { λ r. ⌜ r ≡ judgedOf s ⌝ }
 {
     let low = whole_of(s.low, 100, 100);

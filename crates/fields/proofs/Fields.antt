@@ -5,11 +5,11 @@ use mathlib.Core.List.{List, [], _∷_}
 use Prim.Native.Nat.{ℕ, _*_}
 use lib.ListN.{replicate}
 use lib.IntN.{ℤ, pos, negsuc}
-use Rattle.terrain.specs.declared.settings.Channel.{Channel}
-use Rattle.terrain.specs.declared.settings.Channel.the-variants.{Percentage, NoChannel}
-use Rattle.terrain.specs.declared.settings.Settings.{Settings}
+use Rattle.settings.specs.declared.Channel.{Channel}
+use Rattle.settings.specs.declared.Channel.the-variants.{Percentage, NoChannel}
+use Rattle.settings.specs.declared.Settings.{Settings}
 use Rattle.terrain.specs.Quantities.{noData}
-use Rattle.terrain.specs.Settings.{quotient}
+use Rattle.settings.specs.Settings.{quotient}
 use Rattle.terrain.specs.Answers.{Grids, answer, after}
 
 -- what a map of rows and columns is claimed to be

@@ -1,8 +1,8 @@
--- `terrain::settings::judge` meets its contract. Assumes nothing.
+-- `settings::judge` meets its contract. Assumes nothing.
 use borrow.Author.Needs.{needs}
-use Rattle.terrain.proofs.Cutoffs.{threshold-share, threshold-over, threshold-never, share-accepted, over-accepted, never-accepted, share-refused, judged-low, judged-high, judged-channel, judged-rules}
-use Rattle.terrain.proofs.settings.judge.Statement.{statement}
-use Rattle.terrain.proofs.settings.judge.Tie as tie
+use Rattle.settings.proofs.Cutoffs.{threshold-share, threshold-over, threshold-never, share-accepted, over-accepted, never-accepted, share-refused, judged-low, judged-high, judged-channel, judged-rules}
+use Rattle.settings.proofs.judge.Statement.{statement}
+use Rattle.settings.proofs.judge.Tie as tie
 
 whole-of-requires : tie.Need-whole-of-requires
 whole-of-requires c κs = search needs

@@ -1,4 +1,4 @@
--- `terrain::settings::whole_of` meets its contract. Assumes nothing.
+-- `settings::whole_of` meets its contract. Assumes nothing.
 use mathlib.Core.Path.{_≡_, sym, _∙_}
 use mathlib.Core.Bool.{false}
 use Prim.Native.Nat.{ℕ, suc, _≤_, _<_, _-_}
@@ -6,9 +6,9 @@ use native.Mathlib.Omega.{arith}
 use lib.Ieee.{eq}
 use borrow.Author.Count.{below-none, below-more}
 use Rattle.laws.proofs.First.{first-is, first-none}
-use Rattle.terrain.specs.Settings.{wholeOf, quotient}
-use Rattle.terrain.proofs.settings.whole_of.Statement.{statement}
-use Rattle.terrain.proofs.settings.whole_of.Tie as tie
+use Rattle.settings.specs.Settings.{wholeOf, quotient}
+use Rattle.settings.proofs.whole_of.Statement.{statement}
+use Rattle.settings.proofs.whole_of.Tie as tie
 
 -- no n so far has the quotient x
 abbrev Inv-loop : tie.InvT-loop

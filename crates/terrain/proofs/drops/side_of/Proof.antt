@@ -1,11 +1,11 @@
--- `terrain::length::side_of` meets its contract. Assumes nothing.
+-- `terrain::drops::side_of` meets its contract. Assumes nothing.
 use native.Mathlib.Omega.{arith}
 use lib.ListN.{getD}
 use lib.Count.{trailing-le}
 use borrow.Author.Needs.{needs}
 use Rattle.terrain.proofs.Measuring.{no-side, bit-side}
-use Rattle.terrain.proofs.length.side_of.Statement.{statement}
-use Rattle.terrain.proofs.length.side_of.Tie as tie
+use Rattle.terrain.proofs.drops.side_of.Statement.{statement}
+use Rattle.terrain.proofs.drops.side_of.Tie as tie
 
 shared-slice-read-code : tie.Need-shared-slice-read-code
 shared-slice-read-code c = search needs
