@@ -108,12 +108,12 @@ module _ {side : ℕ} {direction lengths drops : List ℕ} where
 
 -- ---- the grid is that of document 01
 
-module _ (rows cols side : ℕ) (lv dir drops lengths : List ℕ) where
-  -- the drop of each cell gives the cell's steepness
-  abbrev pub Fallen : Type 0
-  Fallen = (x : ℕ) → x < rows * cols → steepnessAt rows cols lv dir x ≡ steepOf (sideOf (getD dir x 255)) (getD drops x 0)
+-- the drop of each cell gives the cell's steepness
+abbrev pub Fallen : ℕ → ℕ → List ℕ → List ℕ → List ℕ → Type 0
+Fallen rows cols lv dir drops = (x : ℕ) → x < rows * cols → steepnessAt rows cols lv dir x ≡ steepOf (sideOf (getD dir x 255)) (getD drops x 0)
 
-  factor-from-at : (x : ℕ) → x < rows * cols → length dir ≡ rows * cols → Fallen → factorFromAt side dir drops lengths x ≡ factorAt rows cols side lv dir lengths x
+module _ (rows cols side : ℕ) (lv dir drops lengths : List ℕ) where
+  factor-from-at : (x : ℕ) → x < rows * cols → length dir ≡ rows * cols → Fallen rows cols lv dir drops → factorFromAt side dir drops lengths x ≡ factorAt rows cols side lv dir lengths x
   unfolding factorFrom factorAt mappedAt
   factor-from-at x h n f =
       let e : getD dir x 0 ≡ getD dir x 255 = getD-any dir x 0 255 (omega arith) in
@@ -123,7 +123,7 @@ module _ (rows cols side : ℕ) (lv dir drops lengths : List ℕ) where
       turned a true = refl
       turned a false = refl
 
-  pub factors-from : length dir ≡ rows * cols → Fallen → factorsFrom side dir drops lengths ≡ tab (rows * cols) (factorAt rows cols side lv dir lengths)
+  pub factors-from : length dir ≡ rows * cols → Fallen rows cols lv dir drops → factorsFrom side dir drops lengths ≡ tab (rows * cols) (factorAt rows cols side lv dir lengths)
   unfolding factorsFrom
   factors-from n f =
       ap (λ (m : ℕ). tab m (factorFromAt side dir drops lengths)) n ∙ tab-ext (rows * cols) (factorFromAt side dir drops lengths) (factorAt rows cols side lv dir lengths) 0 (λ x h. factor-from-at x h n f)

@@ -4,4 +4,6 @@ pub mod Power
 pub mod Sines
 pub mod Factors
 pub mod Grids
+pub mod Maps
+pub mod Answers
 pub mod Examples

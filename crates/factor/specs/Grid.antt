@@ -5,7 +5,7 @@ use Prim.Native.Nat.{ℕ, _*_}
 use lib.ListN.{getD}
 use lib.IntN.{ℤ}
 use Rattle.laws.specs.Lists.{tab}
-use Rattle.terrain.specs.declared.settings.Rules.{Rules}
+use Rattle.settings.specs.declared.Rules.{Rules}
 use Rattle.terrain.specs.Filled.{filledLevels}
 use Rattle.terrain.specs.Direction.{directionsOf}
 use Rattle.terrain.specs.Trail.{mappedAt}

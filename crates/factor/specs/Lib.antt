@@ -6,3 +6,4 @@ pub mod Steepness
 pub mod Cell
 pub mod Grid
 pub mod Inner
+pub mod Answers
