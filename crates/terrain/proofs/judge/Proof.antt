@@ -35,7 +35,7 @@ unsound-requires : tie.Need-unsound-requires
 unsound-requires c κs = search needs
 
 returns : tie.Need-returns
-returns c = 
+returns c =
     let s = c .before .before .before .before .before .before .before .before in
     c .unsound .ensures ∙ sym (judge-rows (s .args .rows) (s .args .columns) (s .args .side) (s .args .settings) (s .args .ground .now) (grids s) (sym (c .before .before .is-size .ensures) ∙ not-true (c .before .before .is-size .result) (c .before .if1 .taken)))
 
@@ -46,7 +46,7 @@ unsound-requires-2 : tie.Need-unsound-requires-2
 unsound-requires-2 c κs = search needs
 
 returns-2 : tie.Need-returns-2
-returns-2 c = 
+returns-2 c =
     let s = c .before .before .before .before .before .before .before .before .before .before in
     c .unsound2 .ensures ∙ sym (judge-cols (s .args .rows) (s .args .columns) (s .args .side) (s .args .settings) (s .args .ground .now) (grids s) (sym (c .before .before .is-size2 .ensures) ∙ not-true (c .before .before .is-size2 .result) (c .before .if2 .taken)))
 
@@ -60,7 +60,7 @@ unsound-requires-3 : tie.Need-unsound-requires-3
 unsound-requires-3 c κs = search needs
 
 returns-3 : tie.Need-returns-3
-returns-3 c = 
+returns-3 c =
     let s = c .before .before .before .before .before .before .before .before .before .before .before .before in
     let w = c .before .before .before in
     c .unsound3 .ensures ∙ sym (judge-long (s .args .rows) (s .args .columns) (s .args .side) (s .args .settings) (s .args .ground .now) (grids s) (rows-are (w .before .before)) (columns-are w) (sym (c .before .before .are-long .ensures) ∙ not-true (c .before .before .are-long .result) (c .before .if3 .taken)))
@@ -72,7 +72,7 @@ unsound-requires-4 : tie.Need-unsound-requires-4
 unsound-requires-4 c κs = search needs
 
 returns-4 : tie.Need-returns-4
-returns-4 c = 
+returns-4 c =
     let s = c .before .before .before .before .before .before .before .before .before .before .before .before .before .before in
     let l = c .before .before .before in
     let w = l .before .before in
@@ -91,7 +91,7 @@ unsound-requires-5 : tie.Need-unsound-requires-5
 unsound-requires-5 c κs = search needs
 
 returns-5 : tie.Need-returns-5
-returns-5 c = 
+returns-5 c =
     let s = c .before .before .before .before .before .before .before .before .before .before .before .before .before .before .before .before .before .before in
     let d = c .before .before .before .before .before in
     let l = d .before .before in
@@ -106,7 +106,7 @@ unsound-requires-6 : tie.Need-unsound-requires-6
 unsound-requires-6 c κs = search needs
 
 returns-6 : tie.Need-returns-6
-returns-6 c = 
+returns-6 c =
     let s = c .before .before .before .before .before .before .before .before .before .before .before .before .before .before .before .before .before .before .before .before in
     let d = c .before .before .before .before .before .before .before in
     let l = d .before .before in
@@ -116,7 +116,7 @@ returns-6 c =
     c .unsound6 .ensures ∙ sym (judge-height (s .args .rows) (s .args .columns) (s .args .side) (s .args .settings) (s .args .ground .now) (grids s) (rows-are (w .before .before)) (columns-are w) (long-are l) (side-is d) (given .0 .0) (sym (given .1) ∙ c .before .before .before .before .before .before .judge .ensures) (first .result) (first .ensures) (c .before .if5 .taken))
 
 returns-7 : tie.Need-returns-7
-returns-7 c = 
+returns-7 c =
     let s = c .before .before .before .before .before .before .before .before .before .before .before .before .before .before .before .before .before .before .before in
     let d = c .before .before .before .before .before .before in
     let l = d .before .before in

@@ -38,13 +38,13 @@ same-length-6 : tie.Need-same-length-6
 same-length-6 c = search needs
 
 returns : tie.Need-returns
-returns c = 
+returns c =
     let s = c .before .before .before .before .before .before .before .before .before .before .before .before .before .before .before in
     let given = c .before .judgement2 .given in
     refuses (s .args .rows) (s .args .columns) (s .args .side) (s .args .settings) (s .args .ground .now) (grids s) (refusal (given .0 .0 .number) (given .0 .0 .place)) (given .0 .0 .number) (given .0 .0 .place) refl (sym (ap found (given .1)) ∙ c .before .before .before .judge .ensures)
 
 survey-requires : tie.Need-survey-requires
-survey-requires c κs = 
+survey-requires c κs =
     let s = c .before .before .before .before .before .before .before .before .before .before .before .before .before .before .before .before .before .before .before .before .before in
     let given = c .before .before .before .before .before .before .before .judgement .given in
     let j = sym (sym (ap found (given .1)) ∙ c .before .before .before .before .before .before .before .before .before .judge .ensures) in
@@ -69,7 +69,7 @@ same-length-12 : tie.Need-same-length-12
 same-length-12 c = search needs
 
 returns-2 : tie.Need-returns-2
-returns-2 c = 
+returns-2 c =
     let s = c .before .before .before .before .before .before .before .before .before .before .before .before .before .before .before .before .before .before .before .before .before .before .before .before .before .before .before .before .before .before .before .before .before in
     let given = c .before .before .before .before .before .before .before .before .before .before .before .before .before .before .before .before .before .before .before .judgement .given in
     let r = c .before .before .before .before .before .before .before .before .before .before .before .survey in

@@ -7,7 +7,7 @@ use Rattle.terrain.proofs.survey.Statement.{statement}
 use Rattle.terrain.proofs.survey.Tie as tie
 
 shape-requires : tie.Need-shape-requires
-shape-requires c κs = 
+shape-requires c κs =
     let s = c .before .before .before .before .before .before .before .before .before in
     (s .pre .0, record { filled-long = s .pre .1 .filled-long; direction-long = s .pre .1 .direction-long; count-long = s .pre .1 .count-long; workspace-long = s .pre .1 .workspace-long })
 
@@ -15,19 +15,19 @@ measure-requires : tie.Need-measure-requires
 measure-requires c κs = let s = c .before .before .before .before .before .before .before .before .before .before .before .before .before .before .before .before .before .before .before .before in (relief-charted (s .pre .0) (c .before .before .before .before .before .before .before .before .before .before .shape .ensures), s .pre .1 .drops-long)
 
 count-flow-requires : tie.Need-count-flow-requires
-count-flow-requires c κs = 
+count-flow-requires c κs =
     let s = c .before .before .before .before .before .before .before .before .before .before .before .before .before .before .before .before .before .before .before .before .before .before .before .before .before .before in
     (relief-directed (s .pre .0) (c .before .before .before .before .before .before .before .before .before .before .before .before .before .before .before .before .shape .ensures .direction-is), c .before .before .before .before .before .before .before .before .before .before .before .before .count .given ∙ s .pre .1 .count-long, c .before .before .before .before .before .before .before .before .before .before .workspace .given ∙ s .pre .1 .workspace-long)
 
 measure-requires-2 : tie.Need-measure-requires-2
-measure-requires-2 c κs = 
+measure-requires-2 c κs =
     let s = c .before .before .before .before .before .before .before .before .before .before .before .before .before .before .before .before .before .before .before .before .before .before .before .before .before .before .before .before .before .before .before .before .before .before .before .before in
     let count = c .before .before .before .before .before .before .before .before .count2 .given ∙ c .before .before .before .before .before .before .before .before .before .before .before .before .before .before .before .before .before .before .before .before .before .before .count .given ∙ s .pre .1 .count-long in
     let workspace = c .before .before .before .before .before .before .workspace2 .given ∙ c .before .before .before .before .before .before .before .before .before .before .before .before .before .before .before .before .before .before .before .before .workspace .given ∙ s .pre .1 .workspace-long in
     relief-working (s .pre .0) (c .before .before .before .before .before .before .before .before .before .before .before .before .before .before .before .before .before .before .before .before .before .before .before .before .before .before .shape .ensures) count (s .pre .1 .lengths-long) workspace
 
 longest-trail-requires : tie.Need-longest-trail-requires
-longest-trail-requires c κs = 
+longest-trail-requires c κs =
     let s = c .before .before .before .before .before .before .before .before .before .before .before .before .before .before .before .before .before .before .before .before .before .before .before .before .before .before .before .before .before .before .before .before .before .before .before .before .before .before .before .before .before .before .before in
     (relief-directed (s .pre .0) (c .before .before .before .before .before .before .before .before .before .before .before .before .before .before .before .before .before .before .before .before .before .before .before .before .before .before .before .before .before .before .before .before .before .shape .ensures .direction-is), c .before .before .before .workspace3 .given ∙ c .before .before .before .before .before .before .before .before .before .before .before .before .before .workspace2 .given ∙ c .before .before .before .before .before .before .before .before .before .before .before .before .before .before .before .before .before .before .before .before .before .before .before .before .before .before .before .workspace .given ∙ s .pre .1 .workspace-long)
 
@@ -50,12 +50,11 @@ same-length-6 : tie.Need-same-length-6
 same-length-6 c = search needs
 
 returns : tie.Need-returns
-returns c = 
+returns c =
     let s = c .before .before .before .before .before .before .before .before .before .before .before .before .before .before .before .before .before .before .before .before .before .before .before .before .before .before .before .before .before .before .before .before .before .before .before .before .before .before .before .before .before .before .before .before .before .before in
     let r = c .before .before .before .before .before .before .before .before .before .before .before .before .before .before .before .before .before .before .before .before .before .before .before .before .before .before .before .before .before .before .before .before .before .before .before .before .shape .ensures in
     let longest = c .before .before .longest-trail .ensures in
-    let before = lent (s .args .filled .now) (s .args .direction .now) (s .args .count .now) (s .args .lengths .now) (s .args .drops .now) (s .args .workspace .now) in
-    (
+    let before = lent (s .args .filled .now) (s .args .direction .now) (s .args .count .now) (s .args .lengths .now) (s .args .drops .now) (s .args .workspace .now) in (
       survey-answer r (s .args .rules) (longest .0),
       survey-grids r (s .args .rules) (s .pre .0) (s .args .side) before (c .before .before .before .before .before .before .before .before .before .before .before .before .before .before .before .before .before .before .before .before .before .before .before .before .before .measure .ensures) (c .before .before .before .before .before .before .before .before .before .before .before .before .before .before .before .before .before .before .before .count-flow .ensures) (c .before .before .before .before .before .before .before .before .before .measure2 .ensures) (longest .1),
     )

@@ -47,8 +47,7 @@ loop-less c = omega arith
 loop-again : tie.Need-loop-again Inv-loop μ-loop
 loop-again c =
     let s = c .before .before .before .before .before in
-    let p = c .before .before .loop in
-    (
+    let p = c .before .before .loop in (
       simp length-set (p .inv .0),
       omega arith,
       agrees-more (dropAt (s .args .rows) (s .args .columns) (levelsOf (s .args .filled .now)) (s .args .direction .now)) 0 (p .drops) (p .x) (c .drop-at .result) (omega arith) (p .inv .2) (c .drop-at .ensures),
