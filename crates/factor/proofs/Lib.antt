@@ -3,4 +3,7 @@ pub mod Tables
 pub mod Power
 pub mod Sines
 pub mod Factors
+pub mod Grids
+pub mod Maps
+pub mod Answers
 pub mod Examples

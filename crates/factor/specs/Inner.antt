@@ -1,11 +1,16 @@
 -- What the functions inside the crate assume, and what they answer: no promise of a public call cites this file. Assumes nothing.
 use Prim.Native.Nat.{ℕ, suc, _-_, _^_, _≤_, _<_}
-use mathlib.Core.Bool.{Bool, true, false}
+use mathlib.Core.Bool.{Bool, true, false, cond}
 use mathlib.Core.List.{List}
 use mathlib.Core.Path.{_≡_}
-use lib.Dec.{leb}
+use lib.Dec.{leb, eqb}
 use lib.ListN.{length, getD}
+use Rattle.laws.specs.Lists.{tab}
+use Rattle.terrain.specs.Cells.{sideOf}
+use Rattle.terrain.specs.Direction.{steepOf}
+use Rattle.factor.specs.Quantities.{noDataFactor}
 use Rattle.factor.specs.LengthFactor.{longest, reached}
+use Rattle.factor.specs.Cell.{factorOf}
 
 -- a cell side, and a steepness as small as those of a map: at most twice the square of a drop below 2^21 cm
 pub record Sloping (side q : ℕ) : Type 0 where
@@ -52,3 +57,35 @@ pub record Measured (side q len : ℕ) (five four three two : List ℕ) : Type 0
   pub sloping : Sloping side q
   pub length-small : len < 2 ^ 36
   pub listed : Listed five four three two
+
+-- ---- from drops to factors
+
+-- no less than any drop: heights go from -999,900 to 900,000
+abbrev pub greatestDrop : ℕ
+greatestDrop = 1900000
+
+-- a cell side, and a drop and a length as small as those of a map
+pub record Dropping (side drop len : ℕ) : Type 0 where
+  pub side-some : 1 ≤ side
+  pub side-small : side ≤ 100000
+  pub drop-small : drop ≤ greatestDrop
+  pub length-small : len < 2 ^ 36
+
+-- the same of each cell of a map
+pub record Dropped (side : ℕ) (direction lengths drops : List ℕ) : Type 0 where
+  pub lengths-long : length lengths ≡ length direction
+  pub drops-long : length drops ≡ length direction
+  pub small : (x : ℕ) → x < length direction → Dropping side (getD drops x 0) (getD lengths x 0)
+
+-- LS of a cell, by its direction, drop and length
+unfoldable pub factorFrom : ℕ → ℕ → ℕ → ℕ → ℕ
+unfolding sideOf factorOf
+factorFrom side code drop len = cond (eqb code 255) noDataFactor (factorOf side (steepOf (sideOf code) drop) len)
+
+-- the same at the cell x of grids of codes, drops and lengths
+abbrev pub factorFromAt : ℕ → List ℕ → List ℕ → List ℕ → ℕ → ℕ
+factorFromAt side direction drops lengths x = factorFrom side (getD direction x 0) (getD drops x 0) (getD lengths x 0)
+
+unfoldable pub factorsFrom : ℕ → List ℕ → List ℕ → List ℕ → List ℕ
+unfolding tab factorFrom
+factorsFrom side direction drops lengths = tab (length direction) (factorFromAt side direction drops lengths)

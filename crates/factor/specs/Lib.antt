@@ -4,4 +4,6 @@ pub mod Exponent
 pub mod LengthFactor
 pub mod Steepness
 pub mod Cell
+pub mod Grid
 pub mod Inner
+pub mod Answers

@@ -13,13 +13,13 @@ use Rattle.laws.proofs.Tests.{two, and-both, and-false-left, and-false-right}
 use Rattle.laws.proofs.Lists.{getD-any}
 use Rattle.laws.proofs.First.{first-before}
 use Rattle.terrain.specs.Quantities.{noData, sizeAccepted, sideAccepted, heightAccepted, Fine}
-use Rattle.terrain.specs.declared.settings.Settings.{Settings}
-use Rattle.terrain.specs.declared.settings.Rules.{Rules}
-use Rattle.terrain.specs.declared.settings.Judged.{Judged}
-use Rattle.terrain.specs.declared.settings.Judged.the-variants.{Accepted, Refused}
+use Rattle.settings.specs.declared.Settings.{Settings}
+use Rattle.settings.specs.declared.Rules.{Rules}
+use Rattle.settings.specs.declared.Judged.{Judged}
+use Rattle.settings.specs.declared.Judged.the-variants.{Accepted, Refused}
 use Rattle.terrain.specs.Cells.{Ready}
 use Rattle.terrain.specs.Drainage.{Drainage}
-use Rattle.terrain.specs.Settings.{judgedOf}
+use Rattle.settings.specs.Settings.{judgedOf}
 use Rattle.terrain.specs.Answers.{Grids, Answer, Long, refusal, Verdict, accepted, refused, allLong, firstBad, judgeRest, judge, answerOf, gridsOf, answer, after}
 use Rattle.terrain.proofs.Neighbours.{area-small, accepted-fine}
 use Rattle.terrain.proofs.Drainage.{drainage}
@@ -32,7 +32,8 @@ pub long-is : (n : ℕ) (ground : List ℤ) (g : Grids) → allLong n ground g �
 unfolding allLong
 long-is n ground g e =
     let w = and-both _ (eqb (length (g .workspace)) n) e in
-    let d = and-both _ (eqb (length (g .lengths)) n) (w .0) in
+    let f = and-both _ (eqb (length (g .drops)) n) (w .0) in
+    let d = and-both _ (eqb (length (g .lengths)) n) (f .0) in
     let c = and-both _ (eqb (length (g .count)) n) (d .0) in
     let b = and-both _ (eqb (length (g .direction)) n) (c .0) in
     let a = and-both (eqb (length ground) n) (eqb (length (g .filled)) n) (b .0) in
@@ -42,17 +43,9 @@ long-is n ground g e =
       direction-long = eqb-true (length (g .direction)) n (b .1);
       count-long = eqb-true (length (g .count)) n (c .1);
       lengths-long = eqb-true (length (g .lengths)) n (d .1);
+      drops-long = eqb-true (length (g .drops)) n (f .1);
       workspace-long = eqb-true (length (g .workspace)) n (w .1);
     }
-
-pub is-long : (n : ℕ) (ground : List ℤ) (g : Grids) → Long n ground g → allLong n ground g ≡ true
-unfolding allLong
-is-long n ground g l =
-    let b = ap₂ _&&_ (ap₂ _&&_ (eq-eqb (length ground) n (l .ground-long)) (eq-eqb (length (g .filled)) n (l .filled-long))) (eq-eqb (length (g .direction)) n (l .direction-long)) in
-    ap₂ _&&_ (ap₂ _&&_ (ap₂ _&&_ b (eq-eqb (length (g .count)) n (l .count-long))) (eq-eqb (length (g .lengths)) n (l .lengths-long))) (eq-eqb (length (g .workspace)) n (l .workspace-long))
-
-pub not-long : (n : ℕ) (ground : List ℤ) (g : Grids) → (Long n ground g → ⊥) → allLong n ground g ≡ false
-not-long n ground g d = ⊎-elim (λ e. absurd (d (long-is n ground g e))) (λ e. e) (two (allLong n ground g))
 
 -- the verdict by its first tests, and the one that is left then
 abbrev verdict : Bool → Bool → Bool → Verdict → Verdict
@@ -61,8 +54,8 @@ verdict a b c v = cond a (cond b (cond c v (refused 3 0)) (refused 2 0)) (refuse
 differ : (n p : ℕ) (rules : Rules) → refused n p ≡ accepted rules → ⊥
 differ n p rules e = let z : _≡_ {A = ℕ} 0 1 = cc in omega arith
 
-verdict-accepted : (a b c : Bool) (v : Verdict) (rules : Rules) → verdict a b c v ≡ accepted rules → (a ≡ true) × (b ≡ true) × (v ≡ accepted rules)
-verdict-accepted true true true v rules e = (refl, refl, e)
+verdict-accepted : (a b c : Bool) (v : Verdict) (rules : Rules) → verdict a b c v ≡ accepted rules → (a ≡ true) × (b ≡ true) × (c ≡ true) × (v ≡ accepted rules)
+verdict-accepted true true true v rules e = (refl, refl, refl, e)
 verdict-accepted true true false v rules e = absurd (differ 3 0 rules e)
 verdict-accepted true false c v rules e = absurd (differ 2 0 rules e)
 verdict-accepted false b c v rules e = absurd (differ 1 0 rules e)
@@ -116,22 +109,51 @@ module _ (rows cols side : ℕ) (settings : Settings) (ground : List ℤ) (g : G
   unfolding judge
   judge-is = refl
 
-  -- ---- the cases in their order
+  -- ---- the cases in their order, as the code tests them
+
+  judge-by : {a b c : Bool} → sizes ≡ a → allLong (rows * cols) ground g ≡ b → sideAccepted side ≡ c → judge rows cols side settings ground g ≡ verdict a b c rest
+  judge-by e f h = rw (← e, ← f, ← h) judge-is
 
   judge-size : sizes ≡ false → judge rows cols side settings ground g ≡ refused 1 0
-  judge-size e = judge-is ∙ ap (λ (a : Bool). verdict a (allLong (rows * cols) ground g) (sideAccepted side) rest) e
+  judge-size e = judge-by e refl refl
 
-  module _ (s : sizes ≡ true) where
-    judge-long : allLong (rows * cols) ground g ≡ false → judge rows cols side settings ground g ≡ refused 2 0
-    judge-long l = judge-is ∙ ap₂ (λ (a b : Bool). verdict a b (sideAccepted side) rest) s l
+  pub judge-rows : sizeAccepted rows ≡ false → judge rows cols side settings ground g ≡ refused 1 0
+  judge-rows e = judge-size (sym (and-false-left (sizeAccepted rows) (sizeAccepted cols) e))
+
+  pub judge-cols : sizeAccepted cols ≡ false → judge rows cols side settings ground g ≡ refused 1 0
+  judge-cols e = judge-size (sym (and-false-right (sizeAccepted rows) (sizeAccepted cols) e))
+
+  module _ (r : sizeAccepted rows ≡ true) (c : sizeAccepted cols ≡ true) where
+    pub area-few : rows * cols ≤ 1048576
+    area-few = area-small rows cols (size-is rows r .1) (size-is cols c .1)
+
+    pub judge-long : allLong (rows * cols) ground g ≡ false → judge rows cols side settings ground g ≡ refused 2 0
+    judge-long l = judge-by (ap₂ _&&_ r c) l refl
 
     module _ (l : allLong (rows * cols) ground g ≡ true) where
-      judge-side : {c : Bool} → sideAccepted side ≡ c → judge rows cols side settings ground g ≡ cond c rest (refused 3 0)
-      judge-side e = judge-is ∙ ap₂ (λ (a b : Bool). verdict a b (sideAccepted side) rest) s l ∙ ap (λ (c : Bool). verdict true true c rest) e
+      pub judge-side : sideAccepted side ≡ false → judge rows cols side settings ground g ≡ refused 3 0
+      judge-side d = judge-by (ap₂ _&&_ r c) l d
 
-      -- the settings and the heights decide
-      judge-rest : sideAccepted side ≡ true → {j : Judged} → j ≡ judgedOf settings → judge rows cols side settings ground g ≡ judgeRest (rows * cols) ground j
-      judge-rest c e = judge-side c ∙ ap (judgeRest (rows * cols) ground) (sym e)
+      module _ (d : sideAccepted side ≡ true) where
+        -- the settings and the heights decide
+        judge-rest : {j : Judged} → j ≡ judgedOf settings → judge rows cols side settings ground g ≡ judgeRest (rows * cols) ground j
+        judge-rest e = judge-by (ap₂ _&&_ r c) l d ∙ ap (judgeRest (rows * cols) ground) (sym e)
+
+        pub judge-settings : (p : ℕ) → Refused p ≡ judgedOf settings → judge rows cols side settings ground g ≡ refused 4 p
+        judge-settings p e = judge-rest e ∙ rest-refused (rows * cols) ground p
+
+        module _ (rules : Rules) (j : Accepted rules ≡ judgedOf settings) (p : ℕ) (first : p ≡ firstBad (length ground) ground) where
+          bad-is : p ≡ bad
+          bad-is = first ∙ ap (λ (n : ℕ). firstBad n ground) (long-is (rows * cols) ground g l .ground-long)
+
+          judge-heights : {c : Bool} → ltb bad (rows * cols) ≡ c → judge rows cols side settings ground g ≡ heights c bad rules
+          judge-heights e = judge-rest j ∙ rest-is (rows * cols) ground rules ∙ ap (λ (c : Bool). heights c bad rules) e
+
+          pub judge-height : p < rows * cols → judge rows cols side settings ground g ≡ refused 5 p
+          judge-height h = judge-heights (lt-ltb bad (rows * cols) (omega (arith, bad-is))) ∙ ap (refused 5) (sym bad-is)
+
+          pub judge-accepts : rows * cols ≤ p → judge rows cols side settings ground g ≡ accepted rules
+          judge-accepts h = judge-heights (le-ltb bad (rows * cols) (omega (arith, bad-is)))
 
   -- ---- an accepted call
 
@@ -143,7 +165,7 @@ module _ (rows cols side : ℕ) (settings : Settings) (ground : List ℤ) (g : G
       let r = size-is rows (s .0) in
       let c = size-is cols (s .1) in
       let l = long-is (rows * cols) ground g (t .1) .ground-long in
-      let b = rest-accepted (rows * cols) ground (judgedOf settings) rules (t .2) in
+      let b = rest-accepted (rows * cols) ground (judgedOf settings) rules (t .3) in
       record {
         rows-small = r .1;
         cols-small = c .1;
@@ -156,15 +178,33 @@ module _ (rows cols side : ℕ) (settings : Settings) (ground : List ℤ) (g : G
             (first-before (λ y. not (heightAccepted (getD ground y noData))) (rows * cols) x (omega (arith, ltb-false bad (rows * cols) b, l))))));
       }
 
-  -- what document 01 demands of the grids of an accepted call; number 0 is given to accepted calls alone
-  pub accepted-drainage : answer rows cols side settings ground g .number ≡ 0 → Drainage rows cols ground (after rows cols side settings ground g .filled) (after rows cols side settings ground g .direction) (after rows cols side settings ground g .count) (answer rows cols side settings ground g .valids)
-  unfolding answer after answerOf gridsOf
-  accepted-drainage e = go (judge rows cols side settings ground g) refl e
+  pub accepted-long : {rules : Rules} → judge rows cols side settings ground g ≡ accepted rules → Long (rows * cols) ground g
+  accepted-long {rules} e = long-is (rows * cols) ground g (verdict-accepted sizes (allLong (rows * cols) ground g) (sideAccepted side) rest rules (sym judge-is ∙ e) .1)
+
+  pub accepted-side : {rules : Rules} → judge rows cols side settings ground g ≡ accepted rules → (1 ≤ side) × (side ≤ 100000)
+  unfolding sideAccepted
+  accepted-side {rules} e =
+      let t = verdict-accepted sizes (allLong (rows * cols) ground g) (sideAccepted side) rest rules (sym judge-is ∙ e) in
+      let w = and-both (leb 1 side) (leb side 100000) (t .2) in
+      (leb-true 1 side (w .0), leb-true side 100000 (w .1))
+
+  -- number 0 is given to accepted calls alone
+  pub accepted-judged : answer rows cols side settings ground g .number ≡ 0 → (rules : Rules) × (judge rows cols side settings ground g ≡ accepted rules)
+  unfolding answer answerOf
+  accepted-judged e = go (judge rows cols side settings ground g) refl e
     where
-      go : (v : Verdict) → judge rows cols side settings ground g ≡ v → answerOf rows cols ground v .number ≡ 0 → Drainage rows cols ground (gridsOf rows cols side ground g v .filled) (gridsOf rows cols side ground g v .direction) (gridsOf rows cols side ground g v .count) (answerOf rows cols ground v .valids)
-      go (accepted rules) q z = drainage rows cols ground (accepted-ready q)
+      go : (v : Verdict) → judge rows cols side settings ground g ≡ v → answerOf rows cols ground v .number ≡ 0 → (rules : Rules) × (judge rows cols side settings ground g ≡ accepted rules)
+      go (accepted rules) q z = (rules, q)
       go (refused n p) q z =
           absurd (omega (arith, verdict-number sizes (allLong (rows * cols) ground g) (sideAccepted side) rest n p (rest-number (rows * cols) ground (judgedOf settings) n p) (sym judge-is ∙ q)))
+
+  -- what document 01 demands of the grids of an accepted call
+  pub accepted-drainage : answer rows cols side settings ground g .number ≡ 0 → Drainage rows cols ground (after rows cols side settings ground g .filled) (after rows cols side settings ground g .direction) (after rows cols side settings ground g .count) (answer rows cols side settings ground g .valids)
+  unfolding answer after answerOf gridsOf
+  accepted-drainage e =
+      let w = accepted-judged e in
+      subst (λ (v : Verdict). Drainage rows cols ground (gridsOf rows cols side ground g v .filled) (gridsOf rows cols side ground g v .direction) (gridsOf rows cols side ground g v .count) (answerOf rows cols ground v .valids)) (sym (w .1))
+      (drainage rows cols ground (accepted-ready (w .1)))
 
   -- ---- the whole promise, from the answer and the grids
 
@@ -176,52 +216,10 @@ module _ (rows cols side : ℕ) (settings : Settings) (ground : List ℤ) (g : G
       (p, (q, λ e. subst₂ (λ (a : Answer) (h : Grids). Drainage rows cols ground (h .filled) (h .direction) (h .count) (a .valids)) (sym p) (sym q) (accepted-drainage (ap (λ (a : Answer). a .number) (sym p) ∙ e))))
 
   -- a refusal changes no lent grid
-  refuses : (a : Answer) (n p : ℕ) → a ≡ refusal n p → judge rows cols side settings ground g ≡ refused n p → Promised a g
+  pub refuses : (a : Answer) (n p : ℕ) → a ≡ refusal n p → refused n p ≡ judge rows cols side settings ground g → Promised a g
   unfolding answer after answerOf gridsOf
-  refuses a n p e j = promised a g (e ∙ sym (ap (answerOf rows cols ground) j)) (sym (ap (gridsOf rows cols side ground g) j))
+  refuses a n p e j = promised a g (e ∙ ap (answerOf rows cols ground) j) (ap (gridsOf rows cols side ground g) j)
 
-  -- ---- the same from the tests that the code makes, in their order
-
-  pub refuses-rows : (a : Answer) → a ≡ refusal 1 0 → sizeAccepted rows ≡ false → Promised a g
-  refuses-rows a e r = refuses a 1 0 e (judge-size (sym (and-false-left (sizeAccepted rows) (sizeAccepted cols) r)))
-
-  pub refuses-cols : (a : Answer) → a ≡ refusal 1 0 → sizeAccepted cols ≡ false → Promised a g
-  refuses-cols a e c = refuses a 1 0 e (judge-size (sym (and-false-right (sizeAccepted rows) (sizeAccepted cols) c)))
-
-  module _ (r : sizeAccepted rows ≡ true) (c : sizeAccepted cols ≡ true) where
-    pub area-few : rows * cols ≤ 1048576
-    area-few = area-small rows cols (size-is rows r .1) (size-is cols c .1)
-
-    pub refuses-length : (a : Answer) → a ≡ refusal 2 0 → (Long (rows * cols) ground g → ⊥) → Promised a g
-    refuses-length a e d = refuses a 2 0 e (judge-long (ap₂ _&&_ r c) (not-long (rows * cols) ground g d))
-
-    module _ (long : Long (rows * cols) ground g) where
-      pub refuses-side : (a : Answer) → a ≡ refusal 3 0 → sideAccepted side ≡ false → Promised a g
-      refuses-side a e d = refuses a 3 0 e (judge-side (ap₂ _&&_ r c) (is-long (rows * cols) ground g long) d)
-
-      module _ (d : sideAccepted side ≡ true) where
-        decided : {j : Judged} → j ≡ judgedOf settings → judge rows cols side settings ground g ≡ judgeRest (rows * cols) ground j
-        decided = judge-rest (ap₂ _&&_ r c) (is-long (rows * cols) ground g long) d
-
-        pub refuses-settings : (a : Answer) (p : ℕ) → a ≡ refusal 4 p → Refused p ≡ judgedOf settings → Promised a g
-        refuses-settings a p e j = refuses a 4 p e (decided j ∙ rest-refused (rows * cols) ground p)
-
-        module _ (rules : Rules) (j : Accepted rules ≡ judgedOf settings) (p : ℕ) (first : p ≡ firstBad (length ground) ground) where
-          bad-is : p ≡ firstBad (rows * cols) ground
-          bad-is = first ∙ ap (λ (n : ℕ). firstBad n ground) (long .ground-long)
-
-          judge-heights : {c : Bool} → ltb bad (rows * cols) ≡ c → judge rows cols side settings ground g ≡ heights c bad rules
-          judge-heights e = decided j ∙ rest-is (rows * cols) ground rules ∙ ap (λ (c : Bool). heights c bad rules) e
-
-          pub refuses-height : (a : Answer) → a ≡ refusal 5 p → p < rows * cols → Promised a g
-          refuses-height a e h = refuses a 5 bad (e ∙ ap (refusal 5) bad-is) (judge-heights (lt-ltb bad (rows * cols) (omega (arith, bad-is))))
-
-          judge-accepts : rows * cols ≤ p → judge rows cols side settings ground g ≡ accepted rules
-          judge-accepts h = judge-heights (le-ltb bad (rows * cols) (omega (arith, bad-is)))
-
-          pub ready : rows * cols ≤ p → Ready rows cols ground
-          ready h = accepted-ready (judge-accepts h)
-
-          pub accepts : (a : Answer) (h : Grids) → rows * cols ≤ p → a ≡ answerOf rows cols ground (accepted rules) → h ≡ gridsOf rows cols side ground g (accepted rules) → Promised a h
-          unfolding answer after
-          accepts a h l e f = let j = judge-accepts l in promised a h (e ∙ sym (ap (answerOf rows cols ground) j)) (f ∙ sym (ap (gridsOf rows cols side ground g) j))
+  pub accepts : (a : Answer) (h : Grids) (rules : Rules) → accepted rules ≡ judge rows cols side settings ground g → a ≡ answerOf rows cols ground (accepted rules) → h ≡ gridsOf rows cols side ground g (accepted rules) → Promised a h
+  unfolding answer after
+  accepts a h rules j e f = promised a h (e ∙ ap (answerOf rows cols ground) j) (f ∙ ap (gridsOf rows cols side ground g) j)

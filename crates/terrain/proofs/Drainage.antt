@@ -200,14 +200,13 @@ module _ (rows cols : ℕ) (ground : List ℤ) (ready : Ready rows cols ground) 
   unfolding directionOf countOf validOf
   drainage =
       record {
-        trails = trails;
-        stays = stays;
-        falls = never-rises;
-        once = never-twice;
-        leaves = leaves-rim;
-        whole = whole;
-        drained = filled-drained rows cols ground ready;
-        lowest = filled-lowest rows cols ground ready;
-        reached = filled-attained rows cols ground ready;
-        least = filled-least rows cols ground ready;
+        trails = record { trails = trails; stays = stays; falls = never-rises; once = never-twice; leaves = leaves-rim };
+        totals = whole;
+        surface =
+            record {
+              drained = filled-drained rows cols ground ready;
+              lowest = filled-lowest rows cols ground ready;
+              reached = filled-attained rows cols ground ready;
+              least = filled-least rows cols ground ready;
+            };
       }

@@ -14,7 +14,7 @@ use Rattle.laws.specs.Sums.{greatestTo, when}
 use Rattle.laws.specs.Raise.{Rule}
 use Rattle.laws.proofs.Lists.{length-tab, getD-tab}
 use Rattle.laws.proofs.Sums.{when-ext, when-le, when-under, greatest-ext, greatest-mono, greatest-le}
-use Rattle.terrain.specs.declared.settings.Rules.{Rules}
+use Rattle.settings.specs.declared.Rules.{Rules}
 use Rattle.terrain.specs.Cells.{neighbour, sideOf, cardinal, levelsOf}
 use Rattle.terrain.specs.Trail.{mappedAt, stepsIn, intoAt}
 use Rattle.terrain.specs.Directed.{Directed}

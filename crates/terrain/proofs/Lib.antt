@@ -7,7 +7,6 @@ pub mod Trails
 pub mod Counting
 pub mod Following
 pub mod Drainage
-pub mod Cutoffs
 pub mod Lengths
 pub mod Measuring
 pub mod Answers
@@ -17,5 +16,4 @@ pub mod Flooding
 pub mod Stepping
 pub mod Falls
 pub mod Surveying
-pub mod Fields
-pub mod LengthFields
+pub mod Bounds

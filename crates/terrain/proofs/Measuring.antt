@@ -23,7 +23,7 @@ use Rattle.laws.proofs.Tests.{two}
 use Rattle.laws.proofs.Lists.{getD-any}
 use Rattle.laws.proofs.First.{some-is, none-at}
 use Rattle.laws.proofs.Sums.{when-yes, when-no, when-ext, greatest-none, greatest-more, greatest-ge, greatest-le, greatest-ext}
-use Rattle.terrain.specs.declared.settings.Rules.{Rules}
+use Rattle.settings.specs.declared.Rules.{Rules}
 use Rattle.terrain.specs.Quantities.{noData, Fine}
 use Rattle.terrain.specs.Cells.{neighbour, codeOf, sideOf, cardinal, levelOf, heightOf, levelsOf, Ready}
 use Rattle.terrain.specs.Surfaces.{greatest}
@@ -32,7 +32,7 @@ use Rattle.terrain.specs.Direction.{steepOf}
 use Rattle.terrain.specs.Trail.{flowsAt, nextAt, stepsIn, intoAt}
 use Rattle.terrain.specs.Answers.{directionOf, countOf}
 use Rattle.terrain.specs.Directed.{Directed, backOf}
-use Rattle.terrain.specs.Length.{isChannel, largestOf, cutoffFor, isCut, startLength, stepOver, amountOf, steepnessAt, channelAt, cutoffAt, bringsAt, lengthFrom, lengthsOf, lengthOf}
+use Rattle.terrain.specs.Length.{isChannel, largestOf, cutoffFor, isCut, startLength, stepOver, amountOf, dropAt, dropsOf, dropOf, steepnessAt, channelAt, cutoffAt, bringsAt, lengthFrom, lengthsOf, lengthOf}
 use Rattle.terrain.specs.Measure.{steepest, AllFine, Charted, Bounded, cappedAt, Meeting, inflowOf, gatheredOf, settledOf}
 use Rattle.terrain.proofs.Neighbours.{each-side, across, across-small, side-none, side-leaves, level-fine, level-le, level-at, level-read, fine-fits, height-level, height-none}
 use Rattle.terrain.proofs.Filling.{greatest-fine, filled-long, filled-clear, filled-reached, filled-at, level-filled}
@@ -103,6 +103,14 @@ range-join P a b c f g y h l = elim (decLt y b) [ yes i ↦ f y h i | no d ↦ g
 
 pub square-small : (d : ℕ) → d ≤ 1900000 → d * d ≤ 3610000000000
 square-small d h = omega (arith, mul-le-mul h h)
+
+-- no drop, no steepness
+steep-zero : (k : ℕ) → 0 ≡ steepOf k 0
+steep-zero k = go (cardinal k)
+  where
+    go : (c : Bool) → 0 ≡ cond c (2 * (0 * 0)) (0 * 0)
+    go true = refl
+    go false = refl
 
 pub steep-small : (k d : ℕ) → d ≤ 1900000 → steepOf k d ≤ steepest
 steep-small k d h = go (cardinal k)
@@ -198,21 +206,31 @@ module _ {rows cols : ℕ} {dir : List ℕ} (d : Directed rows cols dir) (x : �
       omega (arith, ap (neighbour rows cols x) e, next-is, mapped-in rows cols dir (d .long) (nextAt rows cols dir x) (d .stays x q))
 
   module _ (lv : List ℕ) where
-    steep-by : (b : Bool) → flowsAt rows cols dir x ≡ b → steepnessAt rows cols lv dir x ≡ cond b (steepOf (sideOf (getD dir x 255)) (getD lv x 0 - getD lv (nextAt rows cols dir x) 0)) 0
-    unfolding steepnessAt
-    steep-by b e = ap (λ (t : Bool). cond t (steepOf (sideOf (getD dir x 255)) (getD lv x 0 - getD lv (nextAt rows cols dir x) 0)) 0) e
+    drop-by : (b : Bool) → flowsAt rows cols dir x ≡ b → dropAt rows cols lv dir x ≡ cond b (getD lv x 0 - getD lv (nextAt rows cols dir x) 0) 0
+    unfolding dropAt
+    drop-by b e = ap (λ (t : Bool). cond t (getD lv x 0 - getD lv (nextAt rows cols dir x) 0) 0) e
 
     stops : 8 ≤ sideOf (getD dir x 255) → flowsAt rows cols dir x ≡ false
     unfolding flowsAt
     stops l = le-ltb (sideOf (getD dir x 255)) 8 l
 
+    pub steepness-by : {k d : ℕ} → k ≡ sideOf (getD dir x 255) → d ≡ dropAt rows cols lv dir x → steepOf k d ≡ steepnessAt rows cols lv dir x
+    unfolding steepnessAt
+    steepness-by e f = ap₂ steepOf e f
+
+    pub drop-zero : (k : ℕ) → k ≡ sideOf (getD dir x 255) → 8 ≤ k → 0 ≡ dropAt rows cols lv dir x
+    drop-zero k e l = sym (drop-by false (stops (omega arith)))
+
+    pub drop-is : (k y : ℕ) → k ≡ sideOf (getD dir x 255) → k < 8 → y ≡ neighbour rows cols x k → getD lv x 0 - getD lv y 0 ≡ dropAt rows cols lv dir x
+    drop-is k y e l i =
+        let z : y ≡ nextAt rows cols dir x = i ∙ ap (neighbour rows cols x) e ∙ sym next-is in
+        sym (drop-by true (side-flows (omega arith)) ∙ sym (rw z))
+
     pub steepness-none : (k : ℕ) → k ≡ sideOf (getD dir x 255) → 8 ≤ k → 0 ≡ steepnessAt rows cols lv dir x
-    steepness-none k e l = sym (steep-by false (stops (omega arith)))
+    steepness-none k e l = steep-zero k ∙ steepness-by e (drop-zero k e l)
 
     pub steepness-is : (k y : ℕ) → k ≡ sideOf (getD dir x 255) → k < 8 → y ≡ neighbour rows cols x k → steepOf k (getD lv x 0 - getD lv y 0) ≡ steepnessAt rows cols lv dir x
-    steepness-is k y e l i =
-        let z : y ≡ nextAt rows cols dir x = i ∙ ap (neighbour rows cols x) e ∙ sym next-is in
-        sym (steep-by true (side-flows (omega arith)) ∙ sym (rw (e, z)))
+    steepness-is k y e l i = steepness-by e (drop-is k y e l i)
 
 -- ---- the map that lengths are measured on
 
@@ -222,20 +240,23 @@ module _ {rows cols : ℕ} {filled : List ℤ} {dir : List ℕ} (m : Charted row
   meeting l q x y k e s h i j =
       record { fine = m .fine; dir-long = m .directed .long ∙ sym (m .filled-long); lengths-long = e ∙ sym (m .filled-long); steepness-small = s; receiver-in = omega (arith, m .filled-long); inflow-in = omega (arith, m .filled-long); side-small = j }
 
-  pub steepness-small : (x : ℕ) → x < rows * cols → steepnessAt rows cols (levelsOf filled) dir x ≤ steepest
-  steepness-small x h =
+  pub drop-le : (x : ℕ) → x < rows * cols → dropAt rows cols (levelsOf filled) dir x ≤ 1900000
+  drop-le x h =
       elim (decLt (sideOf (getD dir x 255)) 8) [
         | yes l ↦
             let k = sideOf (getD dir x 255) in
             let y = neighbour rows cols x k in
             omega (
               arith,
-              steepness-is (m .directed) x h (levelsOf filled) k y refl l refl,
-              steep-small k (getD (levelsOf filled) x 0 - getD (levelsOf filled) y 0)
-                  (drop-small filled (m .fine) x y (omega (arith, m .filled-long)) (omega (arith, m .filled-long, next-in (m .directed) x h k refl l))),
+              drop-is (m .directed) x h (levelsOf filled) k y refl l refl,
+              drop-small filled (m .fine) x y (omega (arith, m .filled-long)) (omega (arith, m .filled-long, next-in (m .directed) x h k refl l)),
             )
-        | no f ↦ omega (arith, steepness-none (m .directed) x h (levelsOf filled) (sideOf (getD dir x 255)) refl (omega arith))
+        | no f ↦ omega (arith, drop-zero (m .directed) x h (levelsOf filled) (sideOf (getD dir x 255)) refl (omega arith))
       ]
+
+  pub steepness-small : (x : ℕ) → x < rows * cols → steepnessAt rows cols (levelsOf filled) dir x ≤ steepest
+  steepness-small x h =
+      omega (arith, steepness-by (m .directed) x h (levelsOf filled) refl refl, steep-small (sideOf (getD dir x 255)) (dropAt rows cols (levelsOf filled) dir x) (drop-le x h))
 
 -- ---- what the first k neighbours of x bring, as a loop gathers it
 
@@ -399,3 +420,10 @@ module _ {rows cols : ℕ} {ground : List ℤ} (ready : Ready rows cols ground) 
   -- what is measured on them are the lengths of the map
   pub measured-is : {filled : List ℤ} {dir count : List ℕ} (side : ℕ) (rules : Rules) → filled ≡ filledOf rows cols ground → dir ≡ directionOf rows cols ground → count ≡ countOf rows cols ground → lengthsOf rows cols side rules (levelsOf filled) dir count ≡ lengthOf rows cols side rules ground
   measured-is side rules e d c = rw (e, d, c, levels-filled) (sym (length-is side rules))
+
+  drop-of-is : dropOf rows cols ground ≡ dropsOf rows cols (filledLevels rows cols ground) (directionOf rows cols ground)
+  unfolding dropOf directionOf
+  drop-of-is = refl
+
+  pub dropped-is : {filled : List ℤ} {dir : List ℕ} → filled ≡ filledOf rows cols ground → dir ≡ directionOf rows cols ground → dropsOf rows cols (levelsOf filled) dir ≡ dropOf rows cols ground
+  dropped-is e d = rw (e, d, levels-filled) (sym drop-of-is)

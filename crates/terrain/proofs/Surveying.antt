@@ -5,15 +5,15 @@ use Prim.Native.Nat.{ℕ, _*_, _<_}
 use native.Mathlib.Omega.{arith}
 use lib.ListN.{length, getD, replicate}
 use lib.IntN.{ℤ}
-use Rattle.terrain.specs.declared.settings.Rules.{Rules}
+use Rattle.settings.specs.declared.Rules.{Rules}
 use Rattle.terrain.specs.Cells.{heightOf, levelsOf, Ready}
 use Rattle.terrain.specs.Levels.{Levels}
 use Rattle.terrain.specs.Filled.{top, filledLevels}
 use Rattle.terrain.specs.Direction.{directionsOf}
 use Rattle.terrain.specs.Trail.{validsOf, countsOf, longestOf}
 use Rattle.terrain.specs.Directed.{Directed}
-use Rattle.terrain.specs.Length.{lengthsOf}
-use Rattle.terrain.specs.Measure.{Working}
+use Rattle.terrain.specs.Length.{lengthsOf, dropsOf}
+use Rattle.terrain.specs.Measure.{Charted, Working}
 use Rattle.terrain.specs.Relief.{Relief}
 use Rattle.terrain.specs.Answers.{Grids, acceptance, lent, accepted, directionOf, countOf, longestTrail, answerOf, gridsOf}
 use Rattle.terrain.proofs.Interior.{ready-sized}
@@ -21,7 +21,7 @@ use Rattle.terrain.proofs.Filling.{filled-long, filled-small}
 use Rattle.terrain.proofs.Flooding.{filled-valids, filled-heights}
 use Rattle.terrain.proofs.Trails.{rank-falls}
 use Rattle.terrain.proofs.Drainage.{potential, falls, stops-zero}
-use Rattle.terrain.proofs.Measuring.{filled-charted, measured-is}
+use Rattle.terrain.proofs.Measuring.{filled-charted, measured-is, dropped-is}
 
 module _ {rows cols : ℕ} {ground : List ℤ} (ready : Ready rows cols ground) where
   abbrev lv : List ℕ
@@ -50,9 +50,12 @@ module _ {rows cols : ℕ} {ground : List ℤ} (ready : Ready rows cols ground) 
 
   -- ---- lengths
 
-  -- what lengths assume of the grids before them
+  -- what drops and lengths assume of the grids before them
+  pub relief-charted : {filled : List ℤ} {direction : List ℕ} {valid : ℕ} → Relief rows cols ground filled direction valid → Charted rows cols filled direction
+  relief-charted r = filled-charted ready (r .filled-is) (relief-directed (r .direction-is))
+
   pub relief-working : {filled : List ℤ} {direction count lengths workspace : List ℕ} {valid : ℕ} → Relief rows cols ground filled direction valid → length count ≡ rows * cols → length lengths ≡ rows * cols → length workspace ≡ rows * cols → Working rows cols filled direction count lengths workspace
-  relief-working r c l w = record { charted = filled-charted ready (r .filled-is) (relief-directed (r .direction-is)); count-long = c; lengths-long = l; waiting-long = w }
+  relief-working r c l w = record { charted = relief-charted r; count-long = c; lengths-long = l; waiting-long = w }
 
 -- ---- the answer and the grids
 
@@ -61,11 +64,12 @@ module _ {rows cols : ℕ} {ground filled : List ℤ} {direction : List ℕ} {va
   unfolding answerOf longestTrail
   survey-answer l = ap₂ acceptance (r .valid-is) (l ∙ ap (longestOf rows cols) (r .direction-is))
 
-  pub survey-grids : (ready : Ready rows cols ground) (side : ℕ) (g : Grids) {count lengths workspace : List ℕ} → count ≡ countsOf rows cols direction → lengths ≡ lengthsOf rows cols side rules (levelsOf filled) direction count → workspace ≡ replicate (rows * cols) 0 → lent filled direction count lengths workspace ≡ gridsOf rows cols side ground g (accepted rules)
+  pub survey-grids : (ready : Ready rows cols ground) (side : ℕ) (g : Grids) {count lengths drops workspace : List ℕ} → drops ≡ dropsOf rows cols (levelsOf filled) direction → count ≡ countsOf rows cols direction → lengths ≡ lengthsOf rows cols side rules (levelsOf filled) direction count → workspace ≡ replicate (rows * cols) 0 → lent filled direction count lengths drops workspace ≡ gridsOf rows cols side ground g (accepted rules)
   unfolding gridsOf countOf
-  survey-grids ready side g c l w =
+  survey-grids ready side g f c l w =
       let count-is = c ∙ ap (countsOf rows cols) (r .direction-is) in
       let lengths-are = l ∙ measured-is ready side rules (r .filled-is) (r .direction-is) count-is in
+      let drops-are = f ∙ dropped-is ready (r .filled-is) (r .direction-is) in
       let filled-are = r .filled-is in
       let direction-is = r .direction-is in
       cc

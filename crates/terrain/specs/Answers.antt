@@ -12,12 +12,14 @@ use Rattle.terrain.specs.Cells.{levelsOf}
 use Rattle.terrain.specs.Filled.{filledLevels, filledOf}
 use Rattle.terrain.specs.Direction.{directionsOf}
 use Rattle.terrain.specs.Trail.{validsOf, countsOf, longestOf}
-use Rattle.terrain.specs.Settings.{judgedOf}
-use Rattle.terrain.specs.Length.{lengthOf}
-use Rattle.terrain.specs.declared.settings.Settings.{Settings}
-use Rattle.terrain.specs.declared.settings.Rules.{Rules}
-use Rattle.terrain.specs.declared.settings.Judged.{Judged}
-use Rattle.terrain.specs.declared.settings.Judged.the-variants as J
+use Rattle.settings.specs.Settings.{judgedOf}
+use Rattle.terrain.specs.Length.{lengthOf, dropOf}
+use Rattle.settings.specs.declared.Settings.{Settings}
+use Rattle.settings.specs.declared.Rules.{Rules}
+use Rattle.settings.specs.declared.Judged.{Judged}
+use Rattle.settings.specs.declared.Judged.the-variants as J
+use Rattle.terrain.specs.declared.Judgement.{Judgement}
+use Rattle.terrain.specs.declared.Judgement.the-variants.{Sound, Unsound}
 use Rattle.terrain.specs.declared.Answer as Enum
 use Rattle.terrain.specs.declared.Answer.the-variants.{Accepted, Refused}
 
@@ -27,6 +29,7 @@ pub record Grids : Type 0 where
   pub direction : List ℕ
   pub count : List ℕ
   pub lengths : List ℕ
+  pub drops : List ℕ
   pub workspace : List ℕ
 
 -- number and place, the number of valid cells and the steps of the longest trail
@@ -37,8 +40,8 @@ pub record Answer : Type 0 where
   pub longest : ℕ
 
 -- the lent slices together
-abbrev pub lent : List ℤ → List ℕ → List ℕ → List ℕ → List ℕ → Grids
-lent filled direction count lengths workspace = record { filled = filled; direction = direction; count = count; lengths = lengths; workspace = workspace }
+abbrev pub lent : List ℤ → List ℕ → List ℕ → List ℕ → List ℕ → List ℕ → Grids
+lent filled direction count lengths drops workspace = record { filled = filled; direction = direction; count = count; lengths = lengths; drops = drops; workspace = workspace }
 
 -- "An accepted call has number and place 0."
 abbrev pub acceptance : ℕ → ℕ → Answer
@@ -61,7 +64,7 @@ pub data Verdict : Type 0 where
 -- every lent grid has n cells
 unfoldable pub allLong : ℕ → List ℤ → Grids → Bool
 allLong n ground g =
-    eqb (length ground) n && eqb (length (g .filled)) n && eqb (length (g .direction)) n && eqb (length (g .count)) n && eqb (length (g .lengths)) n && eqb (length (g .workspace)) n
+    eqb (length ground) n && eqb (length (g .filled)) n && eqb (length (g .direction)) n && eqb (length (g .count)) n && eqb (length (g .lengths)) n && eqb (length (g .drops)) n && eqb (length (g .workspace)) n
 
 -- the same as facts
 pub record Long (n : ℕ) (ground : List ℤ) (g : Grids) : Type 0 where
@@ -70,7 +73,13 @@ pub record Long (n : ℕ) (ground : List ℤ) (g : Grids) : Type 0 where
   pub direction-long : length (g .direction) ≡ n
   pub count-long : length (g .count) ≡ n
   pub lengths-long : length (g .lengths) ≡ n
+  pub drops-long : length (g .drops) ≡ n
   pub workspace-long : length (g .workspace) ≡ n
+
+-- the verdict that a case of the code's enum stands for
+abbrev pub found : Judgement → Verdict
+found (Sound rules) = accepted rules
+found (Unsound f) = refused (f .number) (f .place)
 
 -- the first cell whose height is out of range and not NoData; n where there is none
 unfoldable pub firstBad : ℕ → List ℤ → ℕ
@@ -115,9 +124,9 @@ answerOf rows cols ground (refused number place) = refusal number place
 
 -- "A refusal changes no lent grid. The workspace holds zeros after success and is untouched by a refusal."
 unfoldable pub gridsOf : ℕ → ℕ → ℕ → List ℤ → Grids → Verdict → Grids
-unfolding filledOf directionOf countOf lengthOf
+unfolding filledOf directionOf countOf lengthOf dropOf
 gridsOf rows cols side ground g (accepted rules) =
-    lent (filledOf rows cols ground) (directionOf rows cols ground) (countOf rows cols ground) (lengthOf rows cols side rules ground) (replicate (rows * cols) 0)
+    lent (filledOf rows cols ground) (directionOf rows cols ground) (countOf rows cols ground) (lengthOf rows cols side rules ground) (dropOf rows cols ground) (replicate (rows * cols) 0)
 gridsOf rows cols side ground g (refused number place) = g
 
 -- the whole of the map call

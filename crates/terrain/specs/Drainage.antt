@@ -20,7 +20,8 @@ surfaceOf heights x = getD heights x noData
 abbrev pub outflowOf : ℕ → ℕ → List ℕ → List ℕ → ℕ
 outflowOf rows cols direction count = sumTo (rows * cols) (λ x. when (eqb (getD direction x 255) 0) (getD count x 0))
 
-pub record Drainage (rows cols : ℕ) (ground filled : List ℤ) (direction count : List ℕ) (valids : ℕ) : Type 0 where
+-- the trails of a map
+pub record Trails (rows cols : ℕ) (ground filled : List ℤ) (direction : List ℕ) : Type 0 where
   -- each valid cell has a trail, which ends
   pub trails : (x : ℕ) → Valid ground x → Trail rows cols direction x
   -- each trail stays on valid cells
@@ -31,8 +32,13 @@ pub record Drainage (rows cols : ℕ) (ground filled : List ℤ) (direction coun
   pub once : {x : ℕ} (t : Trail rows cols direction x) → Valid ground x → NeverTwice rows cols direction t
   -- and ends at a rim cell with direction 0
   pub leaves : {x : ℕ} (t : Trail rows cols direction x) → Valid ground x → Rim rows cols ground (lastOf rows cols direction t) × (getD direction (lastOf rows cols direction t) 255 ≡ 0)
-  -- the counts of the cells with direction 0 add up to the number of valid cells
-  pub whole : outflowOf rows cols direction count ≡ valids
+
+-- the counts of the cells with direction 0 add up to the number of valid cells
+abbrev pub Totals : ℕ → ℕ → List ℕ → List ℕ → ℕ → Type 0
+Totals rows cols direction count valids = outflowOf rows cols direction count ≡ valids
+
+-- the filled surface
+pub record Surface (rows cols : ℕ) (ground filled : List ℤ) : Type 0 where
   -- the filled heights are at or above the ground, and from each valid cell a run that never rises on them reaches a rim cell
   pub drained : Drained rows cols ground (surfaceOf filled)
   -- every surface of which these two are true is at least as high at every valid cell
@@ -41,3 +47,8 @@ pub record Drainage (rows cols : ℕ) (ground filled : List ℤ) (direction coun
   pub reached : (x : ℕ) → Valid ground x → (r : Run rows cols ground x) × (greatest rows cols ground r ≡ surfaceOf filled x)
   -- and no run stays below it
   pub least : {x : ℕ} (r : Run rows cols ground x) → surfaceOf filled x ≤ℤ greatest rows cols ground r
+
+pub record Drainage (rows cols : ℕ) (ground filled : List ℤ) (direction count : List ℕ) (valids : ℕ) : Type 0 where
+  pub trails : Trails rows cols ground filled direction
+  pub totals : Totals rows cols direction count valids
+  pub surface : Surface rows cols ground filled

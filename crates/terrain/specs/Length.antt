@@ -8,9 +8,9 @@ use lib.Dec.{ltb, leb, eqb}
 use Rattle.laws.specs.Lists.{tab}
 use Rattle.laws.specs.First.{someOf}
 use Rattle.laws.specs.Sums.{greatestTo, when}
-use Rattle.terrain.specs.declared.settings.Threshold.{Threshold}
-use Rattle.terrain.specs.declared.settings.Threshold.the-variants.{Share, Over, Never}
-use Rattle.terrain.specs.declared.settings.Rules.{Rules}
+use Rattle.settings.specs.declared.Threshold.{Threshold}
+use Rattle.settings.specs.declared.Threshold.the-variants.{Share, Over, Never}
+use Rattle.settings.specs.declared.Rules.{Rules}
 use Rattle.terrain.specs.Cells.{neighbour, sideOf, cardinal}
 use Rattle.terrain.specs.Filled.{filledLevels}
 use Rattle.terrain.specs.Direction.{steepOf, directionsOf}
@@ -48,10 +48,19 @@ unfoldable pub largestOf : ℕ → List ℕ → ℕ
 unfolding greatestTo
 largestOf n count = greatestTo n (λ x. getD count x 0)
 
+-- the drop of the cell x: by how many cm its filled height is above that of the cell it points at; 0 where it points at none
+unfoldable pub dropAt : ℕ → ℕ → List ℕ → List ℕ → ℕ → ℕ
+unfolding flowsAt nextAt
+dropAt rows cols lv dir x = cond (flowsAt rows cols dir x) (getD lv x 0 - getD lv (nextAt rows cols dir x) 0) 0
+
+unfoldable pub dropsOf : ℕ → ℕ → List ℕ → List ℕ → List ℕ
+unfolding tab dropAt
+dropsOf rows cols lv dir = tab (rows * cols) (dropAt rows cols lv dir)
+
 -- the steepness of the cell x is that of its own direction; 0 where it points at no neighbour
 unfoldable pub steepnessAt : ℕ → ℕ → List ℕ → List ℕ → ℕ → ℕ
-unfolding flowsAt nextAt sideOf
-steepnessAt rows cols lv dir x = cond (flowsAt rows cols dir x) (steepOf (sideOf (getD dir x 255)) (getD lv x 0 - getD lv (nextAt rows cols dir x) 0)) 0
+unfolding sideOf dropAt
+steepnessAt rows cols lv dir x = steepOf (sideOf (getD dir x 255)) (dropAt rows cols lv dir x)
 
 -- the cell x is a channel
 unfoldable pub channelAt : ℕ → ℕ → Rules → List ℕ → ℕ → Bool
@@ -90,6 +99,14 @@ module _ (rows cols side : ℕ) (rules : Rules) (lv dir count : List ℕ) where
   unfoldable pub lengthsOf : List ℕ
   unfolding tab lengthIn
   lengthsOf = tab (rows * cols) (lengthIn (rows * cols))
+
+-- the drops of a map
+unfoldable pub dropOf : ℕ → ℕ → List ℤ → List ℕ
+unfolding filledLevels directionsOf dropsOf
+dropOf rows cols ground =
+    let lv = filledLevels rows cols ground in
+    let dir = directionsOf rows cols lv in
+    dropsOf rows cols lv dir
 
 -- the lengths of a map
 unfoldable pub lengthOf : ℕ → ℕ → ℕ → Rules → List ℤ → List ℕ

@@ -6,7 +6,6 @@ pub mod Flat
 pub mod Direction
 pub mod Trail
 pub mod Drainage
-pub mod Settings
 pub mod Length
 pub mod Answers
 pub mod Inside

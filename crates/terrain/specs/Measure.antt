@@ -7,7 +7,7 @@ use lib.ListN.{length, getD}
 use lib.IntN.{ℤ, pos}
 use lib.Dec.{ltb, eqb}
 use Rattle.laws.specs.Sums.{greatestTo, when}
-use Rattle.terrain.specs.declared.settings.Rules.{Rules}
+use Rattle.settings.specs.declared.Rules.{Rules}
 use Rattle.terrain.specs.Quantities.{Fine}
 use Rattle.terrain.specs.Cells.{neighbour, levelsOf}
 use Rattle.terrain.specs.Direction.{steepOf}

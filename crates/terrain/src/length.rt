@@ -6,10 +6,9 @@ ghost use Prim.Native.Nat.{ℕ, _+_, _-_, _*_, _≤_, _<_, min, max};
 ghost use lib.ListN.{length, getD, replicate};
 ghost use lib.Dec.{ltb};
 ghost use Rattle.laws.specs.Raise.{raisedOf, Under, Sweeping};
-ghost use Rattle.terrain.specs.Cells.{sideOf, levelsOf};
+ghost use Rattle.terrain.specs.Cells.{levelsOf};
 ghost use Rattle.terrain.specs.Direction.{steepOf};
 ghost use Rattle.terrain.specs.Inside.{Inside, RunsTo};
-ghost use Rattle.terrain.specs.Directed.{Directed};
 ghost use Rattle.terrain.specs.Length.{isChannel, cutoffFor, isCut, stepOver, amountOf, largestOf, steepnessAt, lengthsOf};
 ghost use Rattle.terrain.specs.Measure.{longest, steepest, AllFine, Charted, Bounded, Working, Meeting, inflowOf, gatheredOf, settledOf, lengthOffer, SettledIn};
 use crate::cells::beside;
@@ -19,8 +18,10 @@ use crate::cells::run_end;
 use crate::cells::smaller;
 use crate::direction::NO_CODE;
 use crate::direction::code_of;
-use crate::settings::Rules;
-use crate::settings::Threshold;
+use crate::drops::drop_of;
+use crate::drops::side_of;
+use settings::Rules;
+use settings::Threshold;
 use std::num::wrapping_sub_u32;
 
 // A cell that has handed its length on.
@@ -39,19 +40,6 @@ struct Terms {
     side: u32,
     rules: Rules,
     most: u64,
-}
-
-// The drop from the cell x to the cell y; 0 where y is not lower.
-fn drop_of(filled: &[i32], x: usize, y: usize) -> u64
-    requires { ⌜ AllFine (now filled) × (x < length (now filled)) × (y < length (now filled)) ⌝ }
-    ensures { λ r. ⌜ r ≡ getD (levelsOf (now (filled .entry))) x 0 - getD (levelsOf (now (filled .entry))) y 0 ⌝ }
-{
-    let a = filled[x];
-    let b = filled[y];
-    if a <= b {
-        return 0;
-    }
-    (a - b) as u64
 }
 
 // The steepness of a drop over side k.
@@ -73,18 +61,6 @@ fn step_over(k: usize) -> u64
         return 10000;
     }
     14142
-}
-
-// The side that the cell x points at; 8 for none.
-fn side_of(rows: usize, columns: usize, direction: &[u8], x: usize) -> usize
-    requires { ⌜ Directed rows columns (now direction) × (x < rows * columns) ⌝ }
-    ensures { λ r. ⌜ r ≡ sideOf (getD (now (direction .entry)) x 255) ⌝ }
-{
-    let code = direction[x];
-    if code == NO_CODE {
-        return 8;
-    }
-    u8::trailing_zeros(code) as usize
 }
 
 // The steepness of the cell x, that of its direction.

@@ -1,19 +1,17 @@
 // The terrain layer: from ground heights to filled heights, directions, flow counts and slope lengths. Document 01, "Filling
 // and directions" and "Length".
 //
-// Every input gets an answer: the call has no `requires`. The modules follow document 01: settings, cells, filled heights,
-// steps over flats, directions, trails, lengths.
+// Every input gets an answer: the call has no `requires`. The modules follow document 01: cells, filled heights, steps over
+// flats, directions, trails, drops, lengths.
 mod cells;
 mod direction;
+mod drops;
 mod filled;
 mod flat;
 mod length;
 mod queue;
-mod settings;
 mod trail;
 
-pub use settings::Channel;
-pub use settings::Settings;
 ghost use mathlib.Core.Path.{_≡_};
 ghost use Prim.Native.Nat.{_*_};
 ghost use lib.ListN.{length};
@@ -21,9 +19,10 @@ ghost use Rattle.terrain.specs.Quantities.{sizeAccepted, sideAccepted, h
 ghost use Rattle.terrain.specs.Cells.{Ready};
 ghost use Rattle.terrain.specs.Drainage.{Drainage};
 ghost use Rattle.terrain.specs.Relief.{Relief, Room};
-ghost use Rattle.terrain.specs.Answers.{told, lent, refusal, accepted, Long, firstBad, answerOf, gridsOf, answer, after};
+ghost use Rattle.terrain.specs.Answers.{told, lent, refused, accepted, found, allLong, Long, firstBad, judge, answerOf, gridsOf, answer, after};
 use settings::Judged;
 use settings::Rules;
+use settings::Settings;
 use text::NO_DATA;
 use text::Refusal;
 
@@ -31,6 +30,12 @@ use text::Refusal;
 pub enum Answer {
     Accepted { valid: u32, longest: u32 },
     Refused(Refusal),
+}
+
+// What is found of a call: the rules of its settings, or why it is refused.
+enum Judgement {
+    Sound(Rules),
+    Unsound(Refusal),
 }
 
 // Whether a number of rows or columns is accepted.
@@ -80,13 +85,85 @@ fn first_bad(ground: &[i32]) -> usize
     x
 }
 
-fn refused(number: u32, place: usize) -> Answer
-    ensures { λ r. ⌜ told r ≡ refusal number place ⌝ }
+fn unsound(number: u32, place: usize) -> Judgement
+    ensures { λ r. ⌜ found r ≡ refused number place ⌝ }
 {
-    Answer::Refused(Refusal {
+    Judgement::Unsound(Refusal {
         number: number,
         place: place,
     })
+}
+
+// Whether every lent slice has one place per cell.
+fn are_long(
+    cells: usize,
+    ground: &[i32],
+    filled: &[i32],
+    direction: &[u8],
+    count: &[u32],
+    lengths: &[u64],
+    drops: &[u32],
+    workspace: &[u32],
+) -> bool
+    ensures { λ r. ⌜ r ≡ allLong cells (now (ground .entry)) (lent (now (filled .entry)) (now (direction .entry)) (now (count .entry)) (now (lengths .entry)) (now (drops .entry)) (now (workspace .entry))) ⌝ }
+{
+    (ground.len() == cells)
+        & (filled.len() == cells)
+        & (direction.len() == cells)
+        & (count.len() == cells)
+        & (lengths.len() == cells)
+        & (drops.len() == cells)
+        & (workspace.len() == cells)
+}
+
+// Makes the tests of refusals 1 to 5, in that order.
+fn judge(
+    rows: usize,
+    columns: usize,
+    side: u32,
+    settings: Settings,
+    ground: &[i32],
+    filled: &[i32],
+    direction: &[u8],
+    count: &[u32],
+    lengths: &[u64],
+    drops: &[u32],
+    workspace: &[u32],
+) -> Judgement
+    ensures { λ r. ⌜ found r ≡ judge rows columns side settings (now (ground .entry)) (lent (now (filled .entry)) (now (direction .entry)) (now (count .entry)) (now (lengths .entry)) (now (drops .entry)) (now (workspace .entry))) ⌝ }
+{
+    if !is_size(rows) {
+        return unsound(1, 0);
+    }
+    if !is_size(columns) {
+        return unsound(1, 0);
+    }
+    let cells = rows * columns;
+    if !are_long(
+        cells,
+        ground,
+        filled,
+        direction,
+        count,
+        lengths,
+        drops,
+        workspace,
+    ) {
+        return unsound(2, 0);
+    }
+    if !is_side(side) {
+        return unsound(3, 0);
+    }
+    let judged = settings::judge(settings);
+    let rules = match judged {
+        Judged::Accepted(rules) => rules,
+        Judged::Refused(place) => return unsound(4, place),
+    };
+    let bad = first_bad(ground);
+    if bad < cells {
+        return unsound(5, bad);
+    }
+    Judgement::Sound(rules)
 }
 
 // Works out filled heights and directions, and the number of valid cells; `count` and `workspace` are scratch.
@@ -120,12 +197,14 @@ fn survey(
     direction: &mut [u8],
     count: &mut [u32],
     lengths: &mut [u64],
+    drops: &mut [u32],
     workspace: &mut [u32],
 ) -> Answer
-    requires { ⌜ Ready rows columns (now ground) × Long (rows * columns) (now ground) (lent (now filled) (now direction) (now count) (now lengths) (now workspace)) ⌝ }
-    ensures { λ r. ⌜ (told r ≡ answerOf rows columns (now (ground .entry)) (accepted rules)) × (lent (now (filled .exit)) (now (direction .exit)) (now (count .exit)) (now (lengths .exit)) (now (workspace .exit)) ≡ gridsOf rows columns side (now (ground .entry)) (lent (now (filled .entry)) (now (direction .entry)) (now (count .entry)) (now (lengths .entry)) (now (workspace .entry))) (accepted rules)) ⌝ }
+    requires { ⌜ Ready rows columns (now ground) × Long (rows * columns) (now ground) (lent (now filled) (now direction) (now count) (now lengths) (now drops) (now workspace)) ⌝ }
+    ensures { λ r. ⌜ (told r ≡ answerOf rows columns (now (ground .entry)) (accepted rules)) × (lent (now (filled .exit)) (now (direction .exit)) (now (count .exit)) (now (lengths .exit)) (now (drops .exit)) (now (workspace .exit)) ≡ gridsOf rows columns side (now (ground .entry)) (lent (now (filled .entry)) (now (direction .entry)) (now (count .entry)) (now (lengths .entry)) (now (drops .entry)) (now (workspace .entry))) (accepted rules)) ⌝ }
 {
     let valid = shape(rows, columns, ground, filled, direction, count, workspace);
+    drops::measure(rows, columns, filled, direction, drops);
     trail::count_flow(rows, columns, direction, count, workspace);
     length::measure(
         rows,
@@ -157,49 +236,30 @@ pub fn map(
     direction: &mut [u8],
     count: &mut [u32],
     lengths: &mut [u64],
+    drops: &mut [u32],
     workspace: &mut [u32],
 ) -> Answer
-    ensures answers { λ r. ⌜ told r ≡ answer rows columns side settings (now (ground .entry)) (lent (now (filled .entry)) (now (direction .entry)) (now (count .entry)) (now (lengths .entry)) (now (workspace .entry))) ⌝ }
-    ensures leaves { λ _. ⌜ lent (now (filled .exit)) (now (direction .exit)) (now (count .exit)) (now (lengths .exit)) (now (workspace .exit)) ≡ after rows columns side settings (now (ground .entry)) (lent (now (filled .entry)) (now (direction .entry)) (now (count .entry)) (now (lengths .entry)) (now (workspace .entry))) ⌝ }
+    ensures answers { λ r. ⌜ told r ≡ answer rows columns side settings (now (ground .entry)) (lent (now (filled .entry)) (now (direction .entry)) (now (count .entry)) (now (lengths .entry)) (now (drops .entry)) (now (workspace .entry))) ⌝ }
+    ensures leaves { λ _. ⌜ lent (now (filled .exit)) (now (direction .exit)) (now (count .exit)) (now (lengths .exit)) (now (drops .exit)) (now (workspace .exit)) ≡ after rows columns side settings (now (ground .entry)) (lent (now (filled .entry)) (now (direction .entry)) (now (count .entry)) (now (lengths .entry)) (now (drops .entry)) (now (workspace .entry))) ⌝ }
     ensures drains { λ r. ⌜ (told r .number ≡ 0 → Drainage rows columns (now (ground .entry)) (now (filled .exit)) (now (direction .exit)) (now (count .exit)) (told r .valids)) ⌝ }
 {
-    if !is_size(rows) {
-        return refused(1, 0);
-    }
-    if !is_size(columns) {
-        return refused(1, 0);
-    }
-    let cells = rows * columns;
-    if ground.len() != cells {
-        return refused(2, 0);
-    }
-    if filled.len() != cells {
-        return refused(2, 0);
-    }
-    if direction.len() != cells {
-        return refused(2, 0);
-    }
-    if count.len() != cells {
-        return refused(2, 0);
-    }
-    if lengths.len() != cells {
-        return refused(2, 0);
-    }
-    if workspace.len() != cells {
-        return refused(2, 0);
-    }
-    if !is_side(side) {
-        return refused(3, 0);
-    }
-    let judged = settings::judge(settings);
-    let rules = match judged {
-        Judged::Accepted(rules) => rules,
-        Judged::Refused(place) => return refused(4, place),
+    let judgement = judge(
+        rows,
+        columns,
+        side,
+        settings,
+        ground,
+        filled,
+        direction,
+        count,
+        lengths,
+        drops,
+        workspace,
+    );
+    let rules = match judgement {
+        Judgement::Sound(rules) => rules,
+        Judgement::Unsound(refusal) => return Answer::Refused(refusal),
     };
-    let bad = first_bad(ground);
-    if bad < cells {
-        return refused(5, bad);
-    }
     survey(
         rows,
         columns,
@@ -210,6 +270,7 @@ pub fn map(
         direction,
         count,
         lengths,
+        drops,
         workspace,
     )
 }

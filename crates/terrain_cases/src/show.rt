@@ -2,9 +2,9 @@
 // filled heights, directions and counts row by row; and what became of the workspace.
 ghost use Prim.Native.Nat.{_≤_};
 use libc::STDOUT_FILENO;
+use settings::Channel;
+use settings::Settings;
 use terrain::Answer;
-use terrain::Channel;
-use terrain::Settings;
 
 // A field with one place per height in every lent grid.
 pub(crate) fn field(name: &[u8], rows: usize, columns: usize, ground: &[i32]) {
@@ -12,7 +12,7 @@ pub(crate) fn field(name: &[u8], rows: usize, columns: usize, ground: &[i32]) {
     lent(name, rows, columns, ground, cells, cells, cells, cells);
 }
 
-// A field with the given numbers of places in the lent grids, each at most 1,600; the lengths have as many as the counts.
+// A field with the given numbers of places in the lent grids, each at most 1,600; lengths and drops have as many as the counts.
 // Every place holds 77 beforehand, so that an untouched grid shows.
 pub(crate) fn lent(
     name: &[u8],
@@ -32,6 +32,7 @@ pub(crate) fn lent(
     let mut direction = [77u8; 1600];
     let mut count = [77u32; 1600];
     let mut lengths = [77u64; 1600];
+    let mut drops = [77u32; 1600];
     let mut workspace = [77u32; 1600];
     write(name);
     write_natural(rows as u64);
@@ -44,6 +45,7 @@ pub(crate) fn lent(
         &mut direction[0..direction_end],
         &mut count[0..count_end],
         &mut lengths[0..count_end],
+        &mut drops[0..count_end],
         &mut workspace[0..workspace_end],
     );
 }
@@ -63,6 +65,7 @@ fn write_map(
     direction: &mut [u8],
     count: &mut [u32],
     lengths: &mut [u64],
+    drops: &mut [u32],
     workspace: &mut [u32],
 ) {
     map(
@@ -73,6 +76,7 @@ fn write_map(
         direction,
         count,
         lengths,
+        drops,
         workspace,
     );
     write_heights(b"\nground", columns, ground);
@@ -91,6 +95,7 @@ fn map(
     direction: &mut [u8],
     count: &mut [u32],
     lengths: &mut [u64],
+    drops: &mut [u32],
     workspace: &mut [u32],
 ) {
     let settings = Settings {
@@ -108,6 +113,7 @@ fn map(
         direction,
         count,
         lengths,
+        drops,
         workspace,
     ));
 }

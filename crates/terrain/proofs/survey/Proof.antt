@@ -2,35 +2,40 @@
 use mathlib.Core.Path.{_∙_}
 use borrow.Author.Needs.{needs}
 use Rattle.terrain.specs.Answers.{lent}
-use Rattle.terrain.proofs.Surveying.{relief-directed, relief-working, survey-answer, survey-grids}
+use Rattle.terrain.proofs.Surveying.{relief-directed, relief-charted, relief-working, survey-answer, survey-grids}
 use Rattle.terrain.proofs.survey.Statement.{statement}
 use Rattle.terrain.proofs.survey.Tie as tie
 
 shape-requires : tie.Need-shape-requires
 shape-requires c κs =
-    let s = c .before .before .before .before .before .before .before .before in
+    let s = c .before .before .before .before .before .before .before .before .before in
     (s .pre .0, record { filled-long = s .pre .1 .filled-long; direction-long = s .pre .1 .direction-long; count-long = s .pre .1 .count-long; workspace-long = s .pre .1 .workspace-long })
+
+measure-requires : tie.Need-measure-requires
+measure-requires c κs = let s = c .before .before .before .before .before .before .before .before .before .before .before .before .before .before .before .before .before .before .before .before in (relief-charted (s .pre .0) (c .before .before .before .before .before .before .before .before .before .before .shape .ensures), s .pre .1 .drops-long)
 
 count-flow-requires : tie.Need-count-flow-requires
 count-flow-requires c κs =
-    let s = c .before .before .before .before .before .before .before .before .before .before .before .before .before .before .before .before .before .before .before in
-    (relief-directed (s .pre .0) (c .before .before .before .before .before .before .before .before .before .before .shape .ensures .direction-is), c .before .before .before .before .before .before .count .given ∙ s .pre .1 .count-long, c .before .before .before .before .workspace .given ∙ s .pre .1 .workspace-long)
+    let s = c .before .before .before .before .before .before .before .before .before .before .before .before .before .before .before .before .before .before .before .before .before .before .before .before .before .before in
+    (relief-directed (s .pre .0) (c .before .before .before .before .before .before .before .before .before .before .before .before .before .before .before .before .shape .ensures .direction-is), c .before .before .before .before .before .before .before .before .before .before .before .before .count .given ∙ s .pre .1 .count-long, c .before .before .before .before .before .before .before .before .before .before .workspace .given ∙ s .pre .1 .workspace-long)
 
-measure-requires : tie.Need-measure-requires
-measure-requires c κs =
-    let s = c .before .before .before .before .before .before .before .before .before .before .before .before .before .before .before .before .before .before .before .before .before .before .before .before .before .before .before .before .before in
-    relief-working (s .pre .0) (c .before .before .before .before .before .before .before .before .before .before .before .before .before .before .before .before .before .before .before .before .shape .ensures) (c .before .before .before .before .before .before .before .before .count2 .given ∙ c .before .before .before .before .before .before .before .before .before .before .before .before .before .before .before .before .count .given ∙ s .pre .1 .count-long) (s .pre .1 .lengths-long) (c .before .before .before .before .before .before .workspace2 .given ∙ c .before .before .before .before .before .before .before .before .before .before .before .before .before .before .workspace .given ∙ s .pre .1 .workspace-long)
+measure-requires-2 : tie.Need-measure-requires-2
+measure-requires-2 c κs =
+    let s = c .before .before .before .before .before .before .before .before .before .before .before .before .before .before .before .before .before .before .before .before .before .before .before .before .before .before .before .before .before .before .before .before .before .before .before .before in
+    let count = c .before .before .before .before .before .before .before .before .count2 .given ∙ c .before .before .before .before .before .before .before .before .before .before .before .before .before .before .before .before .before .before .before .before .before .before .count .given ∙ s .pre .1 .count-long in
+    let workspace = c .before .before .before .before .before .before .workspace2 .given ∙ c .before .before .before .before .before .before .before .before .before .before .before .before .before .before .before .before .before .before .before .before .workspace .given ∙ s .pre .1 .workspace-long in
+    relief-working (s .pre .0) (c .before .before .before .before .before .before .before .before .before .before .before .before .before .before .before .before .before .before .before .before .before .before .before .before .before .before .shape .ensures) count (s .pre .1 .lengths-long) workspace
 
 longest-trail-requires : tie.Need-longest-trail-requires
 longest-trail-requires c κs =
-    let s = c .before .before .before .before .before .before .before .before .before .before .before .before .before .before .before .before .before .before .before .before .before .before .before .before .before .before .before .before .before .before .before .before .before .before .before .before in
-    (relief-directed (s .pre .0) (c .before .before .before .before .before .before .before .before .before .before .before .before .before .before .before .before .before .before .before .before .before .before .before .before .before .before .before .shape .ensures .direction-is), c .before .before .before .workspace3 .given ∙ c .before .before .before .before .before .before .before .before .before .before .before .before .before .workspace2 .given ∙ c .before .before .before .before .before .before .before .before .before .before .before .before .before .before .before .before .before .before .before .before .before .workspace .given ∙ s .pre .1 .workspace-long)
+    let s = c .before .before .before .before .before .before .before .before .before .before .before .before .before .before .before .before .before .before .before .before .before .before .before .before .before .before .before .before .before .before .before .before .before .before .before .before .before .before .before .before .before .before .before in
+    (relief-directed (s .pre .0) (c .before .before .before .before .before .before .before .before .before .before .before .before .before .before .before .before .before .before .before .before .before .before .before .before .before .before .before .before .before .before .before .before .before .shape .ensures .direction-is), c .before .before .before .workspace3 .given ∙ c .before .before .before .before .before .before .before .before .before .before .before .before .before .workspace2 .given ∙ c .before .before .before .before .before .before .before .before .before .before .before .before .before .before .before .before .before .before .before .before .before .before .before .before .before .before .before .workspace .given ∙ s .pre .1 .workspace-long)
 
 same-length : tie.Need-same-length
-same-length c = search needs
+same-length c = c .before .before .before .before .before .before .before .before .before .before .before .before .before .before .before .before .before .before .before .before .before .before .before .before .before .before .before .before .before .before .before .before .before .before .before .filled .given
 
 same-length-2 : tie.Need-same-length-2
-same-length-2 c = search needs
+same-length-2 c = c .before .before .before .before .before .before .before .before .before .before .before .before .before .before .before .before .before .before .before .before .before .before .before .before .before .before .before .before .before .before .before .before .before .before .direction .given
 
 same-length-3 : tie.Need-same-length-3
 same-length-3 c = search needs
@@ -41,24 +46,32 @@ same-length-4 c = search needs
 same-length-5 : tie.Need-same-length-5
 same-length-5 c = search needs
 
+same-length-6 : tie.Need-same-length-6
+same-length-6 c = search needs
+
 returns : tie.Need-returns
 returns c =
-    let s = c .before .before .before .before .before .before .before .before .before .before .before .before .before .before .before .before .before .before .before .before .before .before .before .before .before .before .before .before .before .before .before .before .before .before .before .before .before .before .before in
-    let r = c .before .before .before .before .before .before .before .before .before .before .before .before .before .before .before .before .before .before .before .before .before .before .before .before .before .before .before .before .before .before .shape .ensures in
+    let s = c .before .before .before .before .before .before .before .before .before .before .before .before .before .before .before .before .before .before .before .before .before .before .before .before .before .before .before .before .before .before .before .before .before .before .before .before .before .before .before .before .before .before .before .before .before .before in
+    let r = c .before .before .before .before .before .before .before .before .before .before .before .before .before .before .before .before .before .before .before .before .before .before .before .before .before .before .before .before .before .before .before .before .before .before .before .before .shape .ensures in
     let longest = c .before .before .longest-trail .ensures in
-    (survey-answer r (s .args .rules) (longest .0), survey-grids r (s .args .rules) (s .pre .0) (s .args .side) (lent (s .args .filled .now) (s .args .direction .now) (s .args .count .now) (s .args .lengths .now) (s .args .workspace .now)) (c .before .before .before .before .before .before .before .before .before .before .before .before .before .before .before .before .before .before .before .count-flow .ensures) (c .before .before .before .before .before .before .before .before .before .measure .ensures) (longest .1))
+    let before = lent (s .args .filled .now) (s .args .direction .now) (s .args .count .now) (s .args .lengths .now) (s .args .drops .now) (s .args .workspace .now) in (
+      survey-answer r (s .args .rules) (longest .0),
+      survey-grids r (s .args .rules) (s .pre .0) (s .args .side) before (c .before .before .before .before .before .before .before .before .before .before .before .before .before .before .before .before .before .before .before .before .before .before .before .before .before .measure .ensures) (c .before .before .before .before .before .before .before .before .before .before .before .before .before .before .before .before .before .before .before .count-flow .ensures) (c .before .before .before .before .before .before .before .before .before .measure2 .ensures) (longest .1),
+    )
 
 pub survey-spec : {M : Type 1} → statement M
 survey-spec =
     tie.close
     (tie.spec
     shape-requires
-    count-flow-requires
     measure-requires
+    count-flow-requires
+    measure-requires-2
     longest-trail-requires
     same-length
     same-length-2
     same-length-3
     same-length-4
     same-length-5
+    same-length-6
     returns)

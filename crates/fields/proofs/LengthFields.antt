@@ -1,0 +1,71 @@
+-- Document 01, "Small fields", as far as slope lengths go, with fields for each rule of "Length": one statement over a list. antt computes each side. Assumes nothing.
+use mathlib.Core.Path.{_≡_, refl}
+use mathlib.Core.List.{List, [], _∷_}
+use Prim.Native.Nat.{ℕ}
+use lib.IntN.{ℤ, pos, negsuc}
+use Rattle.settings.specs.declared.Threshold.{Threshold}
+use Rattle.settings.specs.declared.Threshold.the-variants.{Share, Over, Never}
+use Rattle.settings.specs.declared.Rules.{Rules}
+use Rattle.terrain.specs.Quantities.{noData}
+use Rattle.terrain.specs.Length.{lengthOf}
+
+-- rows, columns, side in cm, rules and ground, and what the lengths are claimed to be
+pub data Claim : Type 0 where
+  measured : ℕ → ℕ → ℕ → Rules → List ℤ → List ℕ → Claim
+
+abbrev pub Holds : Claim → Type 0
+Holds (measured rows cols side rules ground lengths) = lengthOf rows cols side rules ground ≡ lengths
+
+abbrev pub All : List Claim → Type 0
+All [] = Unit
+All (c ∷ l) = Holds c × All l
+
+abbrev rules : ℕ → ℕ → Threshold → Rules
+rules low high threshold = record { low = low; high = high; threshold = threshold }
+
+unfoldable pub claims : List Claim
+claims =
+    -- document 01's own fields: one cell; strip 9 8 7 5, and with both cutoffs 1.0; strip 9 7 6, and with high cutoff 0.51; the pit
+    measured 1 1 1000 (rules 50 50 Never) (pos 0 ∷ []) (5000 ∷ []) ∷
+    measured 1 4 1000 (rules 50 50 Never) (pos 900 ∷ pos 800 ∷ pos 700 ∷ pos 500 ∷ []) (5000 ∷ 15000 ∷ 25000 ∷ 0 ∷ []) ∷
+    measured 1 4 1000 (rules 100 100 Never) (pos 900 ∷ pos 800 ∷ pos 700 ∷ pos 500 ∷ []) (5000 ∷ 15000 ∷ 25000 ∷ 35000 ∷ []) ∷
+    measured 1 3 1000 (rules 50 50 Never) (pos 900 ∷ pos 700 ∷ pos 600 ∷ []) (5000 ∷ 0 ∷ 0 ∷ []) ∷
+    measured 1 3 1000 (rules 50 51 Never) (pos 900 ∷ pos 700 ∷ pos 600 ∷ []) (5000 ∷ 15000 ∷ 0 ∷ []) ∷
+    measured 3 3 1000 (rules 50 50 Never) (pos 500 ∷ pos 500 ∷ pos 500 ∷ pos 500 ∷ pos 200 ∷ pos 400 ∷ pos 500 ∷ pos 500 ∷ pos 500 ∷ []) (5000 ∷ 5000 ∷ 5000 ∷ 5000 ∷ 0 ∷ 5000 ∷ 5000 ∷ 5000 ∷ 5000 ∷ []) ∷
+    -- flow to the west, to the north, and to the north-west
+    measured 1 4 1000 (rules 50 50 Never) (pos 500 ∷ pos 700 ∷ pos 800 ∷ pos 900 ∷ []) (0 ∷ 25000 ∷ 15000 ∷ 5000 ∷ []) ∷
+    measured 4 1 1000 (rules 50 50 Never) (pos 500 ∷ pos 700 ∷ pos 800 ∷ pos 900 ∷ []) (0 ∷ 25000 ∷ 15000 ∷ 5000 ∷ []) ∷
+    measured 3 3 1000 (rules 0 0 Never) (pos 100 ∷ pos 200 ∷ pos 300 ∷ pos 200 ∷ pos 290 ∷ pos 400 ∷ pos 300 ∷ pos 400 ∷ pos 460 ∷ []) (0 ∷ 15000 ∷ 5000 ∷ 15000 ∷ 19142 ∷ 5000 ∷ 5000 ∷ 5000 ∷ 5000 ∷ []) ∷
+    -- two inflows that meet: the greater amount, not the sum
+    measured 2 3 1000 (rules 100 100 Never) (pos 900 ∷ pos 800 ∷ pos 700 ∷ pos 900 ∷ pos 900 ∷ pos 600 ∷ []) (5000 ∷ 19142 ∷ 5000 ∷ 5000 ∷ 5000 ∷ 33284 ∷ []) ∷
+    measured 3 4 1000 (rules 50 50 Never) (pos 900 ∷ pos 800 ∷ pos 700 ∷ pos 600 ∷ pos 950 ∷ pos 900 ∷ pos 850 ∷ pos 500 ∷ pos 990 ∷ pos 980 ∷ pos 970 ∷ pos 960 ∷ []) (5000 ∷ 19142 ∷ 33284 ∷ 5000 ∷ 5000 ∷ 19142 ∷ 19142 ∷ 0 ∷ 5000 ∷ 5000 ∷ 5000 ∷ 5000 ∷ []) ∷
+    -- a flat pair beside a cut, also with both cutoffs 1.0
+    measured 1 4 1000 (rules 50 50 Never) (pos 700 ∷ pos 500 ∷ pos 500 ∷ pos 500 ∷ []) (5000 ∷ 0 ∷ 5000 ∷ 5000 ∷ []) ∷
+    measured 3 3 1000 (rules 100 100 Never) (pos 500 ∷ pos 500 ∷ pos 500 ∷ pos 500 ∷ pos 200 ∷ pos 400 ∷ pos 500 ∷ pos 500 ∷ pos 500 ∷ []) (5000 ∷ 5000 ∷ 5000 ∷ 5000 ∷ 19142 ∷ 15000 ∷ 5000 ∷ 5000 ∷ 5000 ∷ []) ∷
+    -- 5 percent itself takes the high cutoff, and the cut's equality is a cut; a slope below takes the low one
+    measured 1 3 1000 (rules 100 50 Never) (pos 900 ∷ pos 800 ∷ pos 750 ∷ []) (5000 ∷ 0 ∷ 10000 ∷ []) ∷
+    measured 1 3 1000 (rules 50 100 Never) (pos 900 ∷ pos 800 ∷ pos 750 ∷ []) (5000 ∷ 15000 ∷ 0 ∷ []) ∷
+    measured 1 4 1000 (rules 100 50 Never) (pos 900 ∷ pos 800 ∷ pos 750 ∷ pos 700 ∷ []) (5000 ∷ 0 ∷ 10000 ∷ 20000 ∷ []) ∷
+    measured 1 4 1000 (rules 50 100 Never) (pos 900 ∷ pos 800 ∷ pos 750 ∷ pos 700 ∷ []) (5000 ∷ 15000 ∷ 25000 ∷ 0 ∷ []) ∷
+    measured 1 4 1000 (rules 100 50 Never) (pos 900 ∷ pos 800 ∷ pos 751 ∷ pos 702 ∷ []) (5000 ∷ 15000 ∷ 25000 ∷ 35000 ∷ []) ∷
+    measured 1 4 1000 (rules 50 100 Never) (pos 900 ∷ pos 800 ∷ pos 751 ∷ pos 702 ∷ []) (5000 ∷ 0 ∷ 10000 ∷ 0 ∷ []) ∷
+    -- cutoff 0: every fall in slope is a cut, an equal slope is none
+    measured 1 4 1000 (rules 0 0 Never) (pos 900 ∷ pos 800 ∷ pos 700 ∷ pos 601 ∷ []) (5000 ∷ 15000 ∷ 0 ∷ 0 ∷ []) ∷
+    -- a channel rule of each kind, at equality and one above
+    measured 1 4 1000 (rules 100 100 (Share 500)) (pos 900 ∷ pos 800 ∷ pos 700 ∷ pos 500 ∷ []) (5000 ∷ 15000 ∷ 0 ∷ 0 ∷ []) ∷
+    measured 1 4 1000 (rules 100 100 (Share 499)) (pos 900 ∷ pos 800 ∷ pos 700 ∷ pos 500 ∷ []) (5000 ∷ 0 ∷ 0 ∷ 0 ∷ []) ∷
+    measured 1 4 1000 (rules 100 100 (Share 1000)) (pos 900 ∷ pos 800 ∷ pos 700 ∷ pos 500 ∷ []) (5000 ∷ 15000 ∷ 25000 ∷ 35000 ∷ []) ∷
+    measured 1 4 1000 (rules 100 100 (Share 0)) (pos 900 ∷ pos 800 ∷ pos 700 ∷ pos 500 ∷ []) (0 ∷ 0 ∷ 0 ∷ 0 ∷ []) ∷
+    measured 1 4 1000 (rules 100 100 (Over 2)) (pos 900 ∷ pos 800 ∷ pos 700 ∷ pos 500 ∷ []) (5000 ∷ 15000 ∷ 0 ∷ 0 ∷ []) ∷
+    measured 1 4 1000 (rules 100 100 (Over 1)) (pos 900 ∷ pos 800 ∷ pos 700 ∷ pos 500 ∷ []) (5000 ∷ 0 ∷ 0 ∷ 0 ∷ []) ∷
+    measured 1 4 1000 (rules 100 100 (Over 0)) (pos 900 ∷ pos 800 ∷ pos 700 ∷ pos 500 ∷ []) (0 ∷ 0 ∷ 0 ∷ 0 ∷ []) ∷
+    -- slopes with ripples, pits, flats, ties and NoData
+    measured 4 5 1000 (rules 70 40 (Over 9)) (pos 40 ∷ negsuc 19 ∷ negsuc 19 ∷ negsuc 79 ∷ negsuc 99 ∷ pos 60 ∷ pos 70 ∷ pos 10 ∷ negsuc 29 ∷ negsuc 49 ∷ pos 120 ∷ pos 110 ∷ pos 70 ∷ pos 50 ∷ pos 0 ∷ pos 200 ∷ pos 150 ∷ pos 140 ∷ pos 110 ∷ pos 60 ∷ []) (5000 ∷ 0 ∷ 5000 ∷ 43284 ∷ 0 ∷ 25000 ∷ 5000 ∷ 19142 ∷ 33284 ∷ 29142 ∷ 15000 ∷ 5000 ∷ 19142 ∷ 5000 ∷ 19142 ∷ 5000 ∷ 5000 ∷ 5000 ∷ 5000 ∷ 5000 ∷ []) ∷
+    measured 4 5 1000 (rules 40 80 (Share 450)) (pos 10 ∷ pos 25 ∷ pos 50 ∷ pos 75 ∷ pos 130 ∷ negsuc 14 ∷ pos 15 ∷ pos 40 ∷ pos 85 ∷ pos 80 ∷ negsuc 39 ∷ noData ∷ pos 40 ∷ pos 40 ∷ pos 65 ∷ negsuc 54 ∷ negsuc 4 ∷ pos 20 ∷ pos 15 ∷ pos 50 ∷ []) (5000 ∷ 20000 ∷ 10000 ∷ 0 ∷ 5000 ∷ 0 ∷ 15000 ∷ 5000 ∷ 5000 ∷ 5000 ∷ 0 ∷ 0 ∷ 5000 ∷ 19142 ∷ 5000 ∷ 0 ∷ 19142 ∷ 5000 ∷ 0 ∷ 5000 ∷ []) ∷
+    measured 5 4 500 (rules 50 50 Never) (negsuc 299 ∷ pos 30 ∷ negsuc 279 ∷ noData ∷ pos 60 ∷ pos 50 ∷ pos 80 ∷ negsuc 229 ∷ pos 80 ∷ noData ∷ pos 120 ∷ pos 130 ∷ pos 120 ∷ pos 130 ∷ pos 140 ∷ pos 150 ∷ pos 160 ∷ pos 170 ∷ pos 200 ∷ negsuc 109 ∷ []) (0 ∷ 5000 ∷ 0 ∷ 0 ∷ 5000 ∷ 43284 ∷ 5000 ∷ 0 ∷ 29142 ∷ 0 ∷ 5000 ∷ 5000 ∷ 15000 ∷ 15000 ∷ 5000 ∷ 5000 ∷ 5000 ∷ 5000 ∷ 5000 ∷ 0 ∷ []) ∷
+    measured 4 4 1000 (rules 50 60 (Share 300)) (negsuc 299 ∷ pos 400 ∷ negsuc 99 ∷ pos 200 ∷ pos 400 ∷ pos 400 ∷ negsuc 299 ∷ pos 200 ∷ pos 400 ∷ pos 100 ∷ negsuc 99 ∷ negsuc 299 ∷ pos 200 ∷ negsuc 299 ∷ pos 100 ∷ negsuc 99 ∷ []) (0 ∷ 5000 ∷ 5000 ∷ 5000 ∷ 5000 ∷ 5000 ∷ 0 ∷ 5000 ∷ 5000 ∷ 5000 ∷ 5000 ∷ 0 ∷ 5000 ∷ 0 ∷ 5000 ∷ 5000 ∷ []) ∷
+    []
+
+pub length-fields : All claims
+unfolding claims lengthOf
+length-fields = (refl, (refl, (refl, (refl, (refl, (refl, (refl, (refl, (refl, (refl, (refl, (refl, (refl, (refl, (refl, (refl, (refl, (refl, (refl, (refl, (refl, (refl, (refl, (refl, (refl, (refl, (refl, (refl, (refl, (refl, (refl, tt)))))))))))))))))))))))))))))))

@@ -1,0 +1,3 @@
+pub mod Papers
+pub mod Inland
+pub mod Rules
