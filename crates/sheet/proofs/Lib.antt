@@ -2,3 +2,5 @@ pub mod Writing
 pub mod Decimal
 pub mod Signs
 pub mod Shown
+pub mod Sizes
+pub mod Sheets
