@@ -4,3 +4,4 @@ pub mod Signs
 pub mod Shown
 pub mod Sizes
 pub mod Sheets
+pub mod Examples

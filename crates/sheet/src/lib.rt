@@ -5,8 +5,6 @@ mod answers;
 mod lines;
 mod writer;
 
-pub use factor::Channel;
-pub use factor::Settings;
 ghost use mathlib.Core.Path.{_≡_};
 ghost use Prim.Native.Nat.{_*_, _≤_};
 ghost use lib.ListN.{length};
@@ -18,6 +16,7 @@ ghost use lib.ListN.{replicate};
 ghost use lib.IntN.{pos};
 use answers::Head;
 use lines::Shape;
+use settings::Settings;
 
 // Maps the ground, the other grids being lent, and writes the map's lines.
 fn print_map(
