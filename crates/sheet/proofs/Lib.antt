@@ -4,4 +4,5 @@ pub mod Signs
 pub mod Shown
 pub mod Sizes
 pub mod Sheets
+pub mod Rooms
 pub mod Examples
