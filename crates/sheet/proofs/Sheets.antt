@@ -5,20 +5,18 @@ use mathlib.Core.List.{List, _∷_}
 use Prim.Native.Nat.{ℕ, zero, suc, _*_, _≤_, _<_}
 use native.Mathlib.Omega.{arith}
 use borrow.Author.Tests.{eq-eqb, ne-eqb, lt-ltb, le-ltb}
-use lib.IntN.{ℤ, pos, natAbs}
+use lib.IntN.{ℤ, pos}
 use lib.ListN.{length, take, replicate, length-replicate}
 use Rattle.settings.specs.declared.Settings.{Settings}
-use Rattle.text.specs.Answers.{Outcome, headerAnswer, GridOutcome, gridAnswer}
-use Rattle.terrain.specs.Answers as terrain
+use Rattle.text.specs.Answers.{headerAnswer, gridAnswer}
+use Rattle.terrain.specs.Answers.{Answer}
 use Rattle.terrain.proofs.Answers.{accepted-judged, accepted-ready}
 use Rattle.factor.specs.Answers.{Grids, lentOn, answer, after}
-use Rattle.sheet.specs.Writing.{Wrote}
 use Rattle.sheet.specs.Lines.{refusalLine, gridsOf, mapLines}
 use Rattle.sheet.specs.Answers.{headNumbers, surveyNumbers}
 use Rattle.sheet.specs.Sheet.{linesOr, mapSheet, gridSheet, zeros, headSheet, sheetOf}
 use Rattle.sheet.specs.declared.answers.Head.{Head}
 use Rattle.sheet.specs.declared.answers.Survey.{Survey}
-use Rattle.sheet.proofs.Writing.{wrote-as}
 
 -- ---- an accepted call, and a refused one
 
@@ -36,7 +34,10 @@ refused-as number place lines en ep h = ap₂ refusalLine en ep ∙ sym (lines-n
 
 -- ---- the map call
 
-module _ (rows columns side : ℕ) (settings : Settings) (ground : List ℤ) (g : Grids) (s : Survey) (e : s ≡ surveyNumbers (answer rows columns side settings ground g)) where
+module _ (rows columns side : ℕ) (settings : Settings) (ground : List ℤ) (g : Grids) {s : Survey} {a : Answer} (es : s ≡ surveyNumbers a) (ea : a ≡ answer rows columns side settings ground g) where
+  e : s ≡ surveyNumbers (answer rows columns side settings ground g)
+  e = es ∙ ap surveyNumbers ea
+
   pub map-refused : (s .number ≡ 0 → ⊥) → refusalLine (s .number) (s .place) ≡ mapSheet rows columns side settings ground g
   unfolding mapSheet
   map-refused h = refused-as _ _ _ (ap (λ (x : Survey). x .number) e) (ap (λ (x : Survey). x .place) e) h
@@ -121,5 +122,8 @@ module _ {A : Type 0} (a : A) where
   part-same zero (suc n) h = absurd (omega arith)
   part-same (suc m) (suc n) h = ap (λ (l : List A). a ∷ l) (part-same m n (omega arith))
 
+  pub long-part : (m n : ℕ) → n ≤ m → length (take n (replicate m a)) ≡ n
+  long-part m n h = ap length (part-same m n h) ∙ length-replicate n a
+
   pub part-long : (m n : ℕ) → n ≤ m → n ≡ length (take n (replicate m a))
-  part-long m n h = sym (ap length (part-same m n h) ∙ length-replicate n a)
+  part-long m n h = sym (long-part m n h)

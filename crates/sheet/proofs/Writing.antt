@@ -1,11 +1,11 @@
 -- Laws of writing into a room: nothing, a byte, one run of bytes after another, and the room's length. Assumes nothing.
 use mathlib.Core.Path.{_≡_, refl, sym, ap, _∙_}
-use mathlib.Core.List.{List, [], _∷_, _++_, append-nil}
+use mathlib.Core.List.{List, [], _∷_, _++_}
 use Prim.Native.Nat.{ℕ, suc, _+_, _<_, _≤_}
 use native.Mathlib.Omega.{arith}
 use native.Mathlib.Nat.{add-zero, add-suc, suc-add}
 use native.Mathlib.Numerals.{add-one}
-use lib.ListN.{length, set, getD, take, length-append, length-set}
+use lib.ListN.{length, set, getD, take, length-append}
 use lib.Seq.{sets, length-sets, set-out, take-suc, take-all, append-snoc}
 use Rattle.sheet.specs.Writing.{overlay, Wrote}
 

@@ -7,13 +7,12 @@ mod writer;
 
 ghost use mathlib.Core.Path.{_≡_};
 ghost use Prim.Native.Nat.{_*_, _≤_};
-ghost use lib.ListN.{length};
+ghost use lib.IntN.{pos};
+ghost use lib.ListN.{length, replicate};
 ghost use Rattle.factor.specs.Answers.{lent};
 ghost use Rattle.sheet.specs.Writing.{overlay, Wrote};
 ghost use Rattle.sheet.specs.Sheet.{mapSheet, gridSheet, zeros, sheetOf};
 ghost use Rattle.sheet.specs.Room.{Room};
-ghost use lib.ListN.{replicate};
-ghost use lib.IntN.{pos};
 use answers::Head;
 use lines::Shape;
 use settings::Settings;

@@ -1,5 +1,5 @@
 -- `sheet::print_grid` meets its contract. Assumes nothing.
-use mathlib.Core.Path.{sym, ap₂}
+use mathlib.Core.Path.{ap₂}
 use mathlib.Core.List.{List}
 use Prim.Native.Nat.{ℕ, _*_}
 use lib.IntN.{ℤ, pos}
@@ -8,7 +8,7 @@ use Rattle.factor.specs.Answers.{lent}
 use Rattle.sheet.specs.Sheet.{gridSheet}
 use Rattle.sheet.specs.declared.answers.Head.{Head}
 use Rattle.sheet.proofs.Writing.{wrote-as}
-use Rattle.sheet.proofs.Sheets.{part-same, part-long}
+use Rattle.sheet.proofs.Sheets.{part-same, part-long, long-part}
 use borrow.Author.Needs.{needs}
 use Rattle.sheet.proofs.print_grid.Statement.{statement}
 use Rattle.sheet.proofs.print_grid.Tie as tie
@@ -67,13 +67,13 @@ print-heights-requires c κs =
     let n = cellsOf (s .args .head) in
     record {
       few = s .pre;
-      ground-long = sym (part-long (pos 0) 2048 n (s .pre));
-      filled-long = sym (part-long (pos 0) 2048 n (s .pre));
-      direction-long = sym (part-long 0 2048 n (s .pre));
-      count-long = sym (part-long 0 2048 n (s .pre));
-      lengths-long = sym (part-long 0 2048 n (s .pre));
-      factors-long = sym (part-long 0 2048 n (s .pre));
-      workspace-long = sym (part-long 0 2048 n (s .pre));
+      ground-long = long-part (pos 0) 2048 n (s .pre);
+      filled-long = long-part (pos 0) 2048 n (s .pre);
+      direction-long = long-part 0 2048 n (s .pre);
+      count-long = long-part 0 2048 n (s .pre);
+      lengths-long = long-part 0 2048 n (s .pre);
+      factors-long = long-part 0 2048 n (s .pre);
+      workspace-long = long-part 0 2048 n (s .pre);
     }
 
 same-length : tie.Need-same-length

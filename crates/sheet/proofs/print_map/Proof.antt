@@ -1,9 +1,7 @@
 -- `sheet::print_map` meets its contract. Assumes nothing.
-use mathlib.Core.Path.{ap, _∙_}
 use native.Mathlib.Omega.{arith}
 use denote.Ref.{now}
 use Rattle.factor.specs.Answers.{lent}
-use Rattle.sheet.specs.Answers.{surveyNumbers}
 use Rattle.sheet.proofs.Writing.{wrote-as}
 use Rattle.sheet.proofs.Sheets.{map-refused, map-printed, map-columns}
 use borrow.Author.Needs.{needs}
@@ -44,8 +42,9 @@ returns : tie.Need-returns
 returns c =
     let a = c .before .before .before .before .before .before .before .before .before .before .before .before .before .before .before .before .before .before .before .before .before .before .before .before .before .before .before .before .before .before .before .args in
     let put = c .before .before .put-refusal .ensures in
-    let e = c .before .before .before .before .before .before .survey-of .ensures ∙ ap surveyNumbers (c .before .before .before .before .before .before .before .before .before .before .before .before .before .before .before .before .before .before .map .ensures .0) in
-    (wrote-as (map-refused (a .head .rows) (a .head .columns) (a .head .side) (a .settings) (now (a .ground)) (lent (now (a .filled)) (now (a .direction)) (now (a .count)) (now (a .lengths)) (now (a .factors)) (now (a .workspace))) _ e (c .before .before .before .before .if1 .taken)) (put .0), omega (arith, put .1))
+    let survey = c .before .before .before .before .before .before .survey-of in
+    let map = c .before .before .before .before .before .before .before .before .before .before .before .before .before .before .before .before .before .before .map in
+    (wrote-as (map-refused (a .head .rows) (a .head .columns) (a .head .side) (a .settings) (now (a .ground)) (lent (now (a .filled)) (now (a .direction)) (now (a .count)) (now (a .lengths)) (now (a .factors)) (now (a .workspace))) (survey .ensures) (map .ensures .0) (c .before .before .before .before .if1 .taken)) (put .0), omega (arith, put .1))
 
 put-map-requires : tie.Need-put-map-requires
 put-map-requires c κs =
@@ -53,16 +52,17 @@ put-map-requires c κs =
     let a = s .args in
     let p = s .pre in
     let k = c .before .before .before .before .before .before .before .before .before .before .before .before .before .before .before .before .before .before .before .before .map .kept .1 .1 .1 .1 .1 in
-    let e = c .before .before .before .before .before .before .before .before .survey-of .ensures ∙ ap surveyNumbers (c .before .before .before .before .before .before .before .before .before .before .before .before .before .before .before .before .before .before .before .before .map .ensures .0) in (
-      map-columns (a .head .rows) (a .head .columns) (a .head .side) (a .settings) (now (a .ground)) (lent (now (a .filled)) (now (a .direction)) (now (a .count)) (now (a .lengths)) (now (a .factors)) (now (a .workspace))) _ e (c .before .before .before .before .before .before .if1 .left),
+    let survey = c .before .before .before .before .before .before .before .before .survey-of in
+    let map = c .before .before .before .before .before .before .before .before .before .before .before .before .before .before .before .before .before .before .before .before .map in (
+      map-columns (a .head .rows) (a .head .columns) (a .head .side) (a .settings) (now (a .ground)) (lent (now (a .filled)) (now (a .direction)) (now (a .count)) (now (a .lengths)) (now (a .factors)) (now (a .workspace))) (survey .ensures) (map .ensures .0) (c .before .before .before .before .before .before .if1 .left),
       record {
         few = omega (arith, p .few);
         ground-long = p .ground-long;
-        filled-long = k .0 ∙ p .filled-long;
-        direction-long = k .1 .0 ∙ p .direction-long;
-        count-long = k .1 .1 .0 ∙ p .count-long;
-        lengths-long = k .1 .1 .1 .0 ∙ p .lengths-long;
-        factors-long = k .1 .1 .1 .1 .0 ∙ p .factors-long;
+        filled-long = omega (arith, k .0, p .filled-long);
+        direction-long = omega (arith, k .1 .0, p .direction-long);
+        count-long = omega (arith, k .1 .1 .0, p .count-long);
+        lengths-long = omega (arith, k .1 .1 .1 .0, p .lengths-long);
+        factors-long = omega (arith, k .1 .1 .1 .1 .0, p .factors-long);
       },
     )
 
@@ -93,8 +93,9 @@ returns-2 c =
     let a = s .args in
     let put = c .before .before .put-map .ensures in
     let l = c .before .before .before .before .before .before .before .before .before .before .before .before .before .before .before .before .before .before .before .before .before .before .before .map .last .1 .1 .1 .1 .1 in
-    let e = c .before .before .before .before .before .before .before .before .before .before .before .survey-of .ensures ∙ ap surveyNumbers (c .before .before .before .before .before .before .before .before .before .before .before .before .before .before .before .before .before .before .before .before .before .before .before .map .ensures .0) in (
-      wrote-as (map-printed (a .head .rows) (a .head .columns) (a .head .side) (a .settings) (now (a .ground)) (lent (now (a .filled)) (now (a .direction)) (now (a .count)) (now (a .lengths)) (now (a .factors)) (now (a .workspace))) _ e (lent (l .0) (l .1 .0) (l .1 .1 .0) (l .1 .1 .1 .0) (l .1 .1 .1 .1 .0) (l .1 .1 .1 .1 .1 .0)) (c .before .before .before .before .before .before .before .before .before .before .before .before .before .before .before .before .before .before .before .before .before .before .before .map .ensures .1 .0) (c .before .before .before .before .before .before .before .before .before .if1 .left)) (put .0),
+    let survey = c .before .before .before .before .before .before .before .before .before .before .before .survey-of in
+    let map = c .before .before .before .before .before .before .before .before .before .before .before .before .before .before .before .before .before .before .before .before .before .before .before .map in (
+      wrote-as (map-printed (a .head .rows) (a .head .columns) (a .head .side) (a .settings) (now (a .ground)) (lent (now (a .filled)) (now (a .direction)) (now (a .count)) (now (a .lengths)) (now (a .factors)) (now (a .workspace))) (survey .ensures) (map .ensures .0) (lent (l .0) (l .1 .0) (l .1 .1 .0) (l .1 .1 .1 .0) (l .1 .1 .1 .1 .0) (l .1 .1 .1 .1 .1 .0)) (c .before .before .before .before .before .before .before .before .before .before .before .before .before .before .before .before .before .before .before .before .before .before .before .map .ensures .1 .0) (c .before .before .before .before .before .before .before .before .before .if1 .left)) (put .0),
       omega (arith, put .1, s .pre .few),
     )
 

@@ -1,7 +1,7 @@
 -- `sheet::lines::put_cell` meets its contract. Assumes nothing.
 use borrow.Author.Needs.{needs}
 use native.Mathlib.Omega.{arith}
-use Rattle.sheet.proofs.Writing.{wrote-as, wrote-then, wrote-word}
+use Rattle.sheet.proofs.Writing.{wrote-as, wrote-word}
 use mathlib.Core.Path.{sym}
 use Rattle.sheet.specs.Words.{decimal}
 use Rattle.sheet.proofs.Shown.{cell-line}
