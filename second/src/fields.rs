@@ -179,27 +179,31 @@ fn cone(seed: &mut Seed, shape: Shape) -> Vec<i64> {
 /// Sides at the bounds, at the house limit for some number of steps, and any.
 fn side(seed: &mut Seed) -> i64 {
     let any = seed.between(1, 100_000);
-    *seed.pick(&[1, 2, 10, 100, 250, 999, 1_000, 1_000, 1_000, 1_000, 2_500, 4_425, 4_426, 6_096, 12_192, 12_193, 20_320,
-        20_321, 60_960, 60_961, 100_000, any, any])
+    let house_limit = [4_425, 4_426, 6_096, 12_192, 12_193, 20_320, 20_321, 60_960, 60_961];
+    let bound = *seed.pick(&[[1, 2, 10, 100, 250, 999, 2_500, 10_000, 100_000], house_limit].concat());
+    *seed.pick(&[1_000, 1_000, bound, bound, any])
 }
 
 /// NoData numbers: absent, zero, a height that occurs, and far outside of every range.
 fn nodata(seed: &mut Seed, heights: &[i64]) -> Option<i64> {
     let occurs = *seed.pick(heights);
-    *seed.pick(&[None, None, Some(-999_900), Some(0), Some(1_250), Some(occurs), Some(99_999_999_999), Some(-99_999_999_999),
-        Some(900_001)])
+    let numbers = [-999_900, -999_900, 0, 0, 1_250, occurs, 900_001, 99_999_999_999, -99_999_999_999];
+    let number = *seed.pick(&numbers);
+    (!seed.once_in(3)).then_some(number)
 }
 
-/// Which cells have no data: mostly none, else islands, a frame or all.
+/// Which cells have no data: mostly none, else some, an island, a frame or all.
 fn holes(seed: &mut Seed, shape: Shape) -> Vec<bool> {
-    let kind = seed.below(12);
+    let kind = seed.below(16);
     let island = seed.below(shape.cells());
     let share = 2 + seed.below(20);
+    let framed = shape.rows.min(shape.columns) > 2;
+    let near = |a: usize, b: usize| a.abs_diff(b) < 2;
     let hole = |cell: usize, seed: &mut Seed| match kind {
-        0..=2 => seed.once_in(share),
-        3 => shape.on_edge(cell),
-        4 => shape.row(cell).abs_diff(shape.row(island)) < 3 && shape.column(cell).abs_diff(shape.column(island)) < 3,
-        5 => share == 2,
+        0..=3 => seed.once_in(share),
+        4 | 5 => near(shape.row(cell), shape.row(island)) && near(shape.column(cell), shape.column(island)),
+        6 => framed && shape.on_edge(cell),
+        7 => share < 8,
         _ => false,
     };
     (0..shape.cells()).map(|cell| hole(cell, seed)).collect()
@@ -207,15 +211,13 @@ fn holes(seed: &mut Seed, shape: Shape) -> Vec<bool> {
 
 /// Shapes: mostly small, some to 45 by 45, some strips to 1,024.
 pub fn shape(seed: &mut Seed) -> Shape {
-    let most = *seed.pick(&[4, 5, 6, 7, 8, 8, 8, 9, 10, 12, 14, 20]);
-    let most = if seed.once_in(40) { 45 } else { most };
-    let (rows, columns) = (1 + seed.below(most), 1 + seed.below(most));
+    let most = if seed.once_in(40) { 45 } else { *seed.pick(&[3, 4, 5, 6, 7, 8, 9, 10, 11, 12, 14, 20]) };
+    let least = *seed.pick(&[1, most / 2 + 1]);
     let strip = *seed.pick(&[20, 60, 60, 700, 1_024]);
     match seed.below(40) {
         0 => Shape { rows: 1, columns: strip },
         1 => Shape { rows: strip, columns: 1 },
-        2 => Shape { rows: most, columns: most },
-        _ => Shape { rows, columns },
+        _ => Shape { rows: least + seed.below(most - least + 1), columns: least + seed.below(most - least + 1) },
     }
 }
 

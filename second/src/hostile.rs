@@ -35,20 +35,28 @@ pub const KINDS: [fn(&mut Seed) -> Hostile; 17] = [
     mutated,
 ];
 
-const NAMES: [&[u8]; 14] = [b"ncol", b"NROWS_", b"xllcenter", b"yllcenter", b"cellsize=10", b"nodata", b"NODATA-VALUE",
-    b"\xEF\xBB\xBFncols", b"ncols\0", b"x", b"5", b"\x1A", b"\xC3\xA4", b"dx"];
-const LETTERS: [&[u8]; 9] = [b"x", b"nan", b"NaN", b"inf", b"nodata_valu", b"NODATA_VALUES", b"e5", b"Z9999", b"ncols"];
-const COUNTS: [&[u8]; 12] = [b"-5", b"-0", b"5.0", b"+5", b"1e3", b"1234567890", b"0000000005", b"5,", b"0x5", b"five", b"5\0",
-    b"\xD9\xA5"];
+const NAMES: [&[u8]; 14] = [
+    b"ncol", b"NROWS_", b"xllcenter", b"yllcenter", b"cellsize=10", b"nodata", b"NODATA-VALUE", b"\xEF\xBB\xBFncols",
+    b"ncols\0", b"x", b"5", b"\x1A", b"\xC3\xA4", b"dx",
+];
+const LETTERS: [&[u8]; 9] =
+    [b"x", b"nan", b"NaN", b"inf", b"nodata_valu", b"NODATA_VALUES", b"e5", b"Z9999", b"ncols"];
+const COUNTS: [&[u8]; 12] = [
+    b"-5", b"-0", b"5.0", b"+5", b"1e3", b"1234567890", b"0000000005", b"5,", b"0x5", b"five", b"5\0", b"\xD9\xA5",
+];
 const NO_COUNTS: [&[u8]; 6] = [b"0", b"000000000", b"1025", b"999999999", b"001025", b"00"];
-const NO_NUMBERS: [&[u8]; 34] = [b"12,5", b".5", b"5.", b"+5", b"1e3", b"1234567890", b"0.1234567", b"-", b"--5", b"5-", b"-.5",
-    b"-5.", b"1.2.3", b".", b"5\0", b"\0", b"\x1A", b"5\x0B", b"\x0C5", b"\xFF", b"1_000", b"12\xC2\xA0", b"0000000000",
-    b"-1234567890", b"1.-5", b"1,234.5", b"5m", b"\x7F", b"/", b":", b"5..0", b"-+5", b"0.0000000", b"\xEF\xBB\xBF5"];
-const FINE: [&[u8]; 9] = [b"12.505", b"0.001", b"-0.001", b"1000.001", b"999999999.001", b"5.000001", b"-9999.009", b"0.000010",
-    b"9000.001"];
+const NO_NUMBERS: [&[u8]; 34] = [
+    b"12,5", b".5", b"5.", b"+5", b"1e3", b"1234567890", b"0.1234567", b"-", b"--5", b"5-", b"-.5", b"-5.", b"1.2.3",
+    b".", b"5\0", b"\0", b"\x1A", b"5\x0B", b"\x0C5", b"\xFF", b"1_000", b"12\xC2\xA0", b"0000000000", b"-1234567890",
+    b"1.-5", b"1,234.5", b"5m", b"\x7F", b"/", b":", b"5..0", b"-+5", b"0.0000000", b"\xEF\xBB\xBF5",
+];
+const FINE: [&[u8]; 9] = [
+    b"12.505", b"0.001", b"-0.001", b"1000.001", b"999999999.001", b"5.000001", b"-9999.009", b"0.000010", b"9000.001",
+];
 const NO_SIDES: [&[u8]; 9] = [b"0", b"-0", b"0.00", b"-1", b"1000.01", b"999999999", b"-0.01", b"-10", b"1001"];
-const NO_HEIGHTS: [&[u8]; 8] = [b"-500.01", b"9000.01", b"-999999999.98", b"999999999.98", b"-501", b"9001", b"-9998.99",
-    b"100000.000000"];
+const NO_HEIGHTS: [&[u8]; 8] = [
+    b"-500.01", b"9000.01", b"-999999999.98", b"999999999.98", b"-501", b"9001", b"-9998.99", b"100000.000000",
+];
 const AFTER: [&[u8]; 9] = [b"0", b"x", b"\0", b"\x1A", b"12,5", b"-9999", b"9999999999", b"ncols", b"\x0C"];
 
 /// A word put in the place of another one, and the number of its refusal.
@@ -224,7 +232,7 @@ fn many_bytes(seed: &mut Seed) -> Hostile {
         _ => {}
     }
     let spoiled = bytes.first().is_none_or(|&byte| byte == b'?');
-    let length = MOST_BYTES + if spoiled || seed.once_in(2) { 1 + seed.below(2) * seed.below(300) } else { 0 };
+    let length = MOST_BYTES + if spoiled { 1 } else { seed.below(2) };
     bytes.resize(length, b' ');
     if length > MOST_BYTES {
         return refused(&bytes, refusal::PRINTER, MOST_BYTES);
@@ -269,7 +277,7 @@ fn mutated(seed: &mut Seed) -> Hostile {
     let mut bytes = spelling::text(seed, manner, &field).bytes;
     for _ in 0..1 + seed.below(3) {
         let any = seed.below(256) as u8;
-        let byte = *seed.pick(&[b' ', b'\n', b'\r', b'0', b'1', b'9', b'-', b'.', b',', b'+', b'e', b'\0', 0x1A, 0x0B, 0xFF, any]);
+        let byte = if seed.once_in(8) { any } else { *seed.pick(b" \n\r\t019-.,+eN\0\x1A\x0B\xFF") };
         let at = seed.below(bytes.len().max(1));
         match seed.below(4) {
             _ if bytes.is_empty() => bytes.push(byte),

@@ -14,6 +14,7 @@ mod length;
 mod map;
 mod refusal;
 mod seed;
+mod selfcheck;
 mod settings;
 mod sheet;
 mod spelling;
@@ -23,7 +24,8 @@ mod trail;
 use std::io::{self, Read, Write};
 use std::process::ExitCode;
 
-const USAGE: &str = "usage: second sheet < TEXT | sheets < STREAM | cases SEED N | compare SEED N PRINTER...";
+const USAGE: &str =
+    "usage: second sheet < TEXT | sheets < STREAM | cases SEED N | compare SEED N PRINTER... | selfcheck";
 
 fn standard_input() -> io::Result<Vec<u8>> {
     let mut bytes = Vec::new();
@@ -49,6 +51,10 @@ fn run(words: &[&str]) -> io::Result<()> {
         ["cases", seed, count] => output.write_all(&cases::stream(whole(seed)?, whole(count)?)),
         ["compare", seed, count, printer @ ..] if !printer.is_empty() => {
             compare::compare(whole(seed)?, whole(count)?, &printer.join(" "))
+        }
+        ["selfcheck"] => {
+            selfcheck::selfcheck();
+            Ok(())
         }
         _ => Err(io::Error::other(USAGE)),
     }

@@ -1,0 +1,260 @@
+//! Document 01's own examples, and each rule once more in a second way over seeded fields.
+
+use crate::cases::{self, example, EXAMPLES, PIT};
+use crate::direction::NO_DIRECTION;
+use crate::factor::{exponent, slope_length_factor};
+use crate::fields::{self, Field};
+use crate::fill::rim;
+use crate::grid::{Shape, NODATA};
+use crate::hostile;
+use crate::length::Terrain;
+use crate::map::{map, Map};
+use crate::refusal::Refusal;
+use crate::seed::Seed;
+use crate::settings::{percents, Channel, Settings, PRINTER};
+use crate::sheet::{read_small, sheet};
+use crate::spelling::{text, Manner};
+use crate::text::{read_grid, read_header};
+use crate::trail::onward;
+
+/// The sheet of the pit, as document 01 prints it.
+const PIT_SHEET: &str = "3 3 1000 9 2\n\
+    0 0 500 500 2 1 5000 33088\n\
+    0 1 500 500 4 1 5000 54379\n\
+    0 2 500 500 4 1 5000 54379\n\
+    1 0 500 500 1 1 5000 54379\n\
+    1 1 200 400 1 6 0 0\n\
+    1 2 400 400 0 9 5000 4810\n\
+    2 0 500 500 128 1 5000 33088\n\
+    2 1 500 500 64 1 5000 54379\n\
+    2 2 500 500 64 1 5000 54379\n";
+
+/// The number of seeded fields and of hostile texts of each kind.
+const FIELDS: usize = 600;
+const HOSTILE: usize = 300;
+
+/// The map of one of document 01's examples, side 10 m.
+fn map_of(heights: &str, columns: usize, settings: Settings) -> Map {
+    let cm = |height: &str| (height.parse::<f64>().unwrap() * 100.0).round() as i32;
+    let ground: Vec<i32> = heights.split(' ').map(cm).collect();
+    let shape = Shape { rows: ground.len() / columns, columns };
+    map(shape, 1_000, &ground, settings).expect("an example is accepted")
+}
+
+/// Settings without channels.
+fn cutoffs(low: f64, high: f64) -> Settings {
+    Settings { low, high, channel: Channel::None }
+}
+
+/// "Small fields": the maps.
+fn maps() {
+    assert_eq!(sheet(PIT.as_bytes()), PIT_SHEET);
+    let one = map_of("0", 1, PRINTER);
+    assert_eq!((one.flow.direction[0], one.count[0], one.length[0], one.longest), (0, 1, 5_000, 0));
+    assert_eq!(map_of("9 8 7 5", 4, PRINTER).length, [5_000, 15_000, 25_000, 0]);
+    assert_eq!(map_of("9 8 7 5", 4, cutoffs(1.0, 1.0)).length, [5_000, 15_000, 25_000, 35_000]);
+    assert_eq!(map_of("9 7 6", 3, PRINTER).length, [5_000, 0, 0]);
+    assert_eq!(map_of("9 7 6", 3, cutoffs(0.5, 0.51)).length, [5_000, 15_000, 0]);
+    assert_eq!(map_of("9 8 9 7.59", 2, PRINTER).flow.direction[0], 1);
+    assert_eq!(map_of("9 8 9 7.58", 2, PRINTER).flow.direction[0], 2);
+    let strip = Settings { channel: Channel::Cells(2), ..cutoffs(1.0, 1.0) };
+    assert_eq!(map_of("9 8 7 5", 4, strip).length, [5_000, 15_000, 0, 0]);
+    let strip = Settings { channel: Channel::Percentage(75.0), ..strip };
+    assert_eq!(map_of("9 8 7 5", 4, strip).length, [5_000, 15_000, 25_000, 0]);
+}
+
+/// "Small fields": L and the exponents.
+fn factors() {
+    for k in 2..=5 {
+        assert_eq!((slope_length_factor(k, 22_128), slope_length_factor(k, 22_129)), (99, 100));
+    }
+    assert_eq!((slope_length_factor(5, 88_513), slope_length_factor(5, 88_514)), (199, 200));
+    assert_eq!([50, 49, 31, 30, 10, 9].map(|drop| exponent(2 * drop * drop, 1_000)), [5, 4, 4, 3, 3, 2]);
+}
+
+/// "Small fields": the readings, and the order of the printer's refusals.
+fn readings() {
+    let height = |word: &str| read_small(&example((1, 1, word))).map(|(_, ground)| ground[0]);
+    let refused = |number| Err(Refusal { number, place: 52 });
+    assert_eq!((height("12.5000"), height("-0"), height("12.505")), (Ok(1_250), Ok(0), refused(8)));
+    assert_eq!(["12,5", ".5", "5.", "+5"].map(height), [refused(7); 4]);
+    assert_eq!(sheet(b""), "refused 9 at 0\n");
+    assert_eq!(sheet(&example((1, 1, "12,5"))), "refused 7 at 52\n");
+    assert_eq!(sheet(b"ncols 0"), "refused 1 at 6\n");
+    assert_eq!(sheet(b"ncols 3 nro"), "refused 6 at 8\n");
+    let mut lent = [7; 3];
+    assert_eq!(read_grid(PIT.as_bytes(), &mut lent), Err(Refusal { number: 2, place: 0 }));
+    assert_eq!(read_grid(&example((3, 1, "1 2 x")), &mut lent), Err(Refusal { number: 7, place: 56 }));
+    assert_eq!(lent, [7; 3]);
+}
+
+/// "A cutoff is accepted exactly if it equals the float quotient n / 100"; the percentage likewise.
+fn settings() {
+    let low = |x| percents(cutoffs(x, 0.5)).map(|percents| percents.low);
+    let refused = |place| Err(Refusal { number: 4, place });
+    assert_eq!([0.29, 1.0, -0.0, 0.07].map(low), [Ok(29), Ok(100), Ok(0), Ok(7)]);
+    assert_eq!([0.295, 1.01, -0.01, f64::NAN, 0.1 + 0.2, f64::INFINITY].map(low), [refused(1); 6]);
+    let place = |settings| percents(settings).map(|_| ()).map_err(|refusal| refusal.place);
+    let channel = |channel| place(Settings { channel, ..PRINTER });
+    assert_eq!(place(cutoffs(0.5, 0.005)), Err(2));
+    assert_eq!([0.0, -0.0, 0.3, 1.0, 99.9, 100.0].map(|x| channel(Channel::Percentage(x))), [Ok(()); 6]);
+    assert_eq!([0.1 + 0.2, 100.1, -0.1, f64::NAN].map(|x| channel(Channel::Percentage(x))), [Err(3); 4]);
+    assert_eq!([0, u32::MAX].map(|cells| channel(Channel::Cells(cells))), [Ok(()); 2]);
+}
+
+/// "The map call tests 1, 2, 3, 4, 5 in that order".
+fn map_refusals() {
+    let bad = Settings { low: 2.0, ..PRINTER };
+    let refusal = |rows, columns, side, ground: &[i32], settings| {
+        let answer = map(Shape { rows, columns }, side, ground, settings).map(|_| ());
+        answer.map_err(|Refusal { number, place }| (number, place))
+    };
+    assert_eq!(refusal(0, 1, 0, &[], bad), Err((1, 0)));
+    assert_eq!(refusal(1, 1_025, 0, &[], bad), Err((1, 0)));
+    assert_eq!(refusal(1, 2, 0, &[1_000_000], bad), Err((2, 0)));
+    assert_eq!(refusal(1, 2, 0, &[0, 1_000_000], bad), Err((3, 0)));
+    assert_eq!(refusal(1, 2, 100_001, &[0, 1_000_000], bad), Err((3, 0)));
+    assert_eq!(refusal(1, 2, 1, &[0, 1_000_000], bad), Err((4, 1)));
+    assert_eq!(refusal(1, 2, 1, &[NODATA, 900_001], PRINTER), Err((5, 1)));
+    assert_eq!(refusal(1, 2, 1, &[NODATA, 900_000], PRINTER), Ok(()));
+}
+
+/// L without powers above the fifth, where both sides are the same power, and else in 128 bits where they fit.
+fn reaches_in_words(t: u128, k: u32, mm: u128) -> Option<bool> {
+    // 2,212,848 and 100·mm in lowest terms.
+    let (left, right) = (553_212_u128, 25 * mm);
+    let (power, of_t) = match k {
+        5 => (1, 2),
+        4 => (2, 5),
+        3 => (3, 10),
+        _ => (1, 5),
+    };
+    let t_side = t.pow(of_t).checked_mul(left.pow(power))?;
+    Some(t_side <= right.pow(power).checked_mul(100_u128.pow(of_t))?)
+}
+
+/// The factor L by big numbers against words of 128 bits, every so many mm.
+fn factors_in_words() {
+    for mm in (0..304_800).step_by(97).chain([22_128, 22_129, 88_513, 88_514, 304_800]) {
+        for k in 2..=5 {
+            let t = slope_length_factor(k, mm);
+            let [reached, next] = [t, t + 1].map(|t| reaches_in_words(t.into(), k, mm.into()));
+            assert!(reached != Some(false) && next != Some(true), "t = {t} at {mm} mm for k = {k}");
+        }
+    }
+}
+
+/// The filled height by thresholds: the least height up to which the ground can be walked from a rim cell.
+fn filled_by_thresholds(shape: Shape, ground: &[i32]) -> Vec<i32> {
+    let mut levels: Vec<i32> = ground.iter().copied().filter(|&height| height != NODATA).collect();
+    levels.sort();
+    levels.dedup();
+    let mut filled = vec![NODATA; shape.cells()];
+    for level in levels {
+        let open = |cell: usize| ground[cell] != NODATA && ground[cell] <= level;
+        let mut seen: Vec<bool> = (0..shape.cells()).map(|cell| open(cell) && rim(shape, ground, cell)).collect();
+        let mut waiting: Vec<usize> = (0..shape.cells()).filter(|&cell| seen[cell]).collect();
+        while let Some(cell) = waiting.pop() {
+            filled[cell] = if filled[cell] == NODATA { level } else { filled[cell] };
+            let around = shape.neighbours(cell).map(|(_, next)| next);
+            let fresh: Vec<usize> = around.filter(|&next| open(next) && !seen[next]).collect();
+            fresh.iter().for_each(|&next| seen[next] = true);
+            waiting.extend(fresh);
+        }
+    }
+    filled
+}
+
+/// The count of a cell is 1 and the counts of its inflows, and the counts of the cells where trails leave add up.
+fn counts_by_inflows(shape: Shape, map: &Map) {
+    let mut sums: Vec<u32> = map.flow.direction.iter().map(|&code| u32::from(code != NO_DIRECTION)).collect();
+    for cell in 0..shape.cells() {
+        if let Some(next) = onward(shape, &map.flow.direction, cell) {
+            sums[next] += map.count[cell];
+        }
+    }
+    assert_eq!(sums, map.count);
+    let leaving = (0..shape.cells()).filter(|&cell| map.flow.direction[cell] == 0);
+    assert_eq!(leaving.map(|cell| map.count[cell] as usize).sum::<usize>(), map.valid);
+}
+
+/// Lengths by sweeps from zeros until nothing changes.
+fn lengths_by_sweeps(shape: Shape, side: i64, map: &Map, settings: Settings) -> Vec<u64> {
+    let percents = percents(settings).expect("accepted before");
+    let terrain = Terrain { shape, side, flow: &map.flow, count: &map.count, percents: &percents };
+    let largest = terrain.largest();
+    let mut length = vec![0; shape.cells()];
+    loop {
+        let measured = |cell| if map.count[cell] == 0 { 0 } else { terrain.measured(&length, largest, cell) };
+        let swept: Vec<u64> = (0..shape.cells()).map(measured).collect();
+        if swept == length {
+            return length;
+        }
+        length = swept;
+    }
+}
+
+/// Settings of every kind.
+fn any_settings(seed: &mut Seed) -> Settings {
+    let (tenths, cells) = (seed.below(1_001) as f64 / 10.0, seed.below(20) as u32);
+    let channel = *seed.pick(&[Channel::None, Channel::Percentage(tenths), Channel::Cells(cells)]);
+    Settings { low: seed.below(101) as f64 / 100.0, high: seed.below(101) as f64 / 100.0, channel }
+}
+
+/// The reader gives a field back, and the map's grids hold in the second way too.
+fn second_ways(number: usize) {
+    let mut seed = Seed::of(1, number as u64);
+    let shape = Shape { rows: 1 + seed.below(12), columns: 1 + seed.below(12) };
+    let field = fields::field(&mut seed, number % fields::RELIEFS.len(), shape);
+    let ground: Vec<i32> = field.heights.iter().map(|height| height.map_or(NODATA, |height| height as i32)).collect();
+    read_back(&mut seed, &field, &ground);
+    let settings = any_settings(&mut seed);
+    let map = map(shape, field.side, &ground, settings).expect("a field is accepted");
+    assert_eq!(map.filled, filled_by_thresholds(shape, &ground));
+    counts_by_inflows(shape, &map);
+    assert_eq!(map.length, lengths_by_sweeps(shape, field.side, &map, settings));
+}
+
+/// A field's text is read as that field.
+fn read_back(seed: &mut Seed, field: &Field, ground: &[i32]) {
+    let bytes = text(seed, Manner::Mixed, field).bytes;
+    let mut lent = vec![0; ground.len()];
+    let header = read_grid(&bytes, &mut lent).expect("a field's text is accepted");
+    assert_eq!(read_header(&bytes), Ok(header));
+    assert_eq!((header.shape, header.side, header.nodata), (field.shape, field.side, field.nodata.unwrap_or(-999_900)));
+    assert_eq!(lent, ground);
+}
+
+/// Every hostile text that names its refusal gets it.
+fn hostile_texts() {
+    for (kind, hostile) in hostile::KINDS.iter().enumerate() {
+        for number in 0..HOSTILE {
+            let text = hostile(&mut Seed::of(kind as u64, number as u64));
+            let read = read_small(&text.bytes).map(|_| ());
+            let as_known = text.known.is_none_or(|known| known == read);
+            assert!(as_known, "{read:?} for {}", text.bytes.escape_ascii());
+        }
+    }
+}
+
+/// Framing and its reading agree.
+fn framing() {
+    let stream = cases::stream(1, 60);
+    let texts = cases::texts(&stream).expect("a stream is framed");
+    assert!(texts.iter().enumerate().all(|(number, &text)| text == cases::case(1, number)));
+    assert!(texts.len() == 60 && EXAMPLES.len() < 60);
+}
+
+/// Runs every check; a failing one stops the program with its place.
+pub fn selfcheck() {
+    maps();
+    factors();
+    readings();
+    settings();
+    map_refusals();
+    factors_in_words();
+    (0..FIELDS).for_each(second_ways);
+    hostile_texts();
+    framing();
+    println!("selfcheck: all examples and {FIELDS} fields hold");
+}
