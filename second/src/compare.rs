@@ -8,8 +8,9 @@ use std::process::{Command, Stdio};
 
 /// What the printer writes to standard output for a text. A printer that a signal ends has printed nothing.
 fn printed(printer: &[&str], text: &[u8]) -> io::Result<Vec<u8>> {
-    let mut child =
-        Command::new(printer[0]).args(&printer[1..]).stdin(Stdio::piped()).stdout(Stdio::piped()).spawn()?;
+    let mut command = Command::new(printer[0]);
+    let started = command.args(&printer[1..]).stdin(Stdio::piped()).stdout(Stdio::piped()).spawn();
+    let mut child = started.map_err(|fault| io::Error::other(format!("{}: {fault}", printer[0])))?;
     let mut input = child.stdin.take().expect("standard input is piped");
     match input.write_all(text) {
         Err(fault) if fault.kind() != io::ErrorKind::BrokenPipe => return Err(fault),
@@ -27,13 +28,15 @@ fn difference_file() -> io::Result<PathBuf> {
     Ok(std::env::current_exe()?.with_file_name("difference.txt"))
 }
 
-/// Keeps the text and shows both sheets.
+/// Keeps the text, shows both sheets and names the first line that differs.
 fn report(number: usize, text: &[u8], printed: &[u8], expected: &str) -> io::Result<()> {
     let file = difference_file()?;
     std::fs::write(&file, text)?;
-    println!("case {number} differs; its text is in {}", file.display());
-    println!("the printer:\n{}", String::from_utf8_lossy(printed));
+    let printed = String::from_utf8_lossy(printed);
+    let same = printed.lines().zip(expected.lines()).take_while(|(one, other)| one == other).count();
+    println!("the printer:\n{printed}");
     println!("the second program:\n{expected}");
+    println!("case {number} differs in line {}; its text is in {}", same + 1, file.display());
     Err(io::Error::other("a difference"))
 }
 
