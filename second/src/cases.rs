@@ -11,28 +11,48 @@ use std::io;
 /// The pit, as document 01 writes it.
 pub const PIT: &str = "ncols 3 nrows 3 xllcorner 0 yllcorner 0 cellsize 10\n5 5 5\n5 2 4\n5 5 5\n";
 
-/// The other examples of "Small fields": columns, rows, heights; side 10 m.
-pub const EXAMPLES: [(usize, usize, &str); 15] = [
-    (1, 1, "0"),
-    (4, 1, "9 8 7 5"),
-    (3, 1, "9 7 6"),
-    (2, 2, "9 8 9 7.59"),
-    (2, 2, "9 8 9 7.58"),
-    (7, 1, "10 9.5 9.01 8.7 8.4 8.3 8.21"),
-    (1, 1, "12.5000"),
-    (1, 1, "-0"),
-    (1, 1, "12.505"),
-    (1, 1, "12,5"),
-    (1, 1, ".5"),
-    (1, 1, "5."),
-    (1, 1, "+5"),
-    (2, 1, "-9999 -9999"),
-    (1, 4, "9 8 7 5"),
+/// A small text: columns, rows, side and heights in metres.
+pub struct Example(pub usize, pub usize, pub &'static str, pub &'static str);
+
+/// The other examples of "Small fields", then fields and words at the bounds of the rules.
+pub const EXAMPLES: [Example; 24] = [
+    Example(1, 1, "10", "0"),
+    Example(4, 1, "10", "9 8 7 5"),
+    Example(3, 1, "10", "9 7 6"),
+    Example(2, 2, "10", "9 8 9 7.59"),
+    Example(2, 2, "10", "9 8 9 7.58"),
+    Example(7, 1, "10", "10 9.5 9.01 8.7 8.4 8.3 8.21"),
+    Example(1, 1, "10", "12.5000"),
+    Example(1, 1, "10", "-0"),
+    Example(1, 1, "10", "12.505"),
+    Example(1, 1, "10", "12,5"),
+    Example(1, 1, "10", ".5"),
+    Example(1, 1, "10", "5."),
+    Example(1, 1, "10", "+5"),
+    // The east drops, each with a length that is not cut.
+    Example(2, 5, "10", "9 8.5 -9999 -9999 9 8.51 -9999 -9999 9 8.69"),
+    Example(2, 5, "10", "9 8.7 -9999 -9999 9 8.9 -9999 -9999 9 8.91"),
+    // 304,800 mm and more.
+    Example(1, 1, "609.6", "0"),
+    Example(1, 1, "609.61", "0"),
+    // 138,303 mm, where t = 250 is reached with equality for k = 5.
+    Example(11, 2, "13.95", "20 19 18 17 16 15 14 13 12 -9999 -9999 \
+        -9999 -9999 -9999 -9999 -9999 -9999 -9999 -9999 -9999 11 10"),
+    // Ties.
+    Example(3, 1, "10", "8 9 8"),
+    Example(3, 3, "10", "5 5 5 5 5 5 5 5 5"),
+    Example(2, 1, "10", "-9999 -9999"),
+    // Words that other readers would take.
+    Example(1, 1, "10", "0.1234567"),
+    Example(2, 1, "10", "5\x0B6"),
+    Example(1, 1, "10", "5\x0C"),
 ];
 
-/// An example's text.
-pub fn example((columns, rows, heights): (usize, usize, &str)) -> Vec<u8> {
-    format!("ncols {columns} nrows {rows} xllcorner 0 yllcorner 0 cellsize 10\n{heights}\n").into_bytes()
+impl Example {
+    pub fn text(&self) -> Vec<u8> {
+        let Example(columns, rows, side, heights) = self;
+        format!("ncols {columns} nrows {rows} xllcorner 0 yllcorner 0 cellsize {side}\n{heights}\n").into_bytes()
+    }
 }
 
 /// A field's text of the given kind of relief.
@@ -50,7 +70,7 @@ pub fn case(seed: u64, number: usize) -> Vec<u8> {
         return PIT.into();
     }
     if number <= EXAMPLES.len() {
-        return example(EXAMPLES[number - 1]);
+        return EXAMPLES[number - 1].text();
     }
     let later = number - EXAMPLES.len() - 1;
     let mut seed = Seed::of(seed, later as u64);

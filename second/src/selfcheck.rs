@@ -1,6 +1,6 @@
 //! Document 01's own examples, and each rule once more in a second way over seeded fields.
 
-use crate::cases::{self, example, EXAMPLES, PIT};
+use crate::cases::{self, Example, EXAMPLES, PIT};
 use crate::direction::NO_DIRECTION;
 use crate::factor::{exponent, slope_length_factor};
 use crate::fields::{self, Field};
@@ -57,6 +57,17 @@ fn maps() {
     assert_eq!(map_of("9 7 6", 3, cutoffs(0.5, 0.51)).length, [5_000, 15_000, 0]);
     assert_eq!(map_of("9 8 9 7.59", 2, PRINTER).flow.direction[0], 1);
     assert_eq!(map_of("9 8 9 7.58", 2, PRINTER).flow.direction[0], 2);
+}
+
+/// The bounds of cuts and channels, the diagonal step, and ties.
+fn bounds() {
+    assert_eq!(map_of("9 8 7.5", 3, cutoffs(0.5, 1.0)).length[1], 15_000);
+    assert_eq!(map_of("9 8 7.5", 3, cutoffs(1.0, 0.5)).length[1], 0);
+    assert_eq!(map_of("9 8 7.51", 3, cutoffs(1.0, 0.5)).length[1], 15_000);
+    assert_eq!(map_of("9 8 7 6", 4, cutoffs(0.0, 0.0)).length, [5_000, 15_000, 25_000, 0]);
+    assert_eq!(map_of("9 8 9 7.58", 2, cutoffs(1.0, 1.0)).length[3], 19_142);
+    assert_eq!(map_of("8 9 8", 3, PRINTER).flow.direction, [0, 1, 0]);
+    assert_eq!(map_of("5 5 5 5 5 5 5 5 5", 3, PRINTER).flow.direction, [0, 0, 0, 0, 1, 0, 0, 0, 0]);
     let strip = Settings { channel: Channel::Cells(2), ..cutoffs(1.0, 1.0) };
     assert_eq!(map_of("9 8 7 5", 4, strip).length, [5_000, 15_000, 0, 0]);
     let strip = Settings { channel: Channel::Percentage(75.0), ..strip };
@@ -69,22 +80,26 @@ fn factors() {
         assert_eq!((slope_length_factor(k, 22_128), slope_length_factor(k, 22_129)), (99, 100));
     }
     assert_eq!((slope_length_factor(5, 88_513), slope_length_factor(5, 88_514)), (199, 200));
+    assert_eq!((slope_length_factor(5, 138_302), slope_length_factor(5, 138_303)), (249, 250));
+    assert!(sheet(&Example(1, 1, "609.60", "0").text()).ends_with(" 10920\n"));
+    assert!(sheet(&Example(1, 1, "609.61", "0").text()).ends_with(" long\n"));
     assert_eq!([50, 49, 31, 30, 10, 9].map(|drop| exponent(2 * drop * drop, 1_000)), [5, 4, 4, 3, 3, 2]);
 }
 
 /// "Small fields": the readings, and the order of the printer's refusals.
 fn readings() {
-    let height = |word: &str| read_small(&example((1, 1, word))).map(|(_, ground)| ground[0]);
+    let height = |word| read_small(&Example(1, 1, "10", word).text()).map(|(_, ground)| ground[0]);
     let refused = |number| Err(Refusal { number, place: 52 });
     assert_eq!((height("12.5000"), height("-0"), height("12.505")), (Ok(1_250), Ok(0), refused(8)));
     assert_eq!(["12,5", ".5", "5.", "+5"].map(height), [refused(7); 4]);
     assert_eq!(sheet(b""), "refused 9 at 0\n");
-    assert_eq!(sheet(&example((1, 1, "12,5"))), "refused 7 at 52\n");
+    assert_eq!(sheet(&Example(1, 1, "10", "12,5").text()), "refused 7 at 52\n");
     assert_eq!(sheet(b"ncols 0"), "refused 1 at 6\n");
     assert_eq!(sheet(b"ncols 3 nro"), "refused 6 at 8\n");
+    assert_eq!(sheet(b"ncols 1 nrows 1 xllcorner 0 yllcorner 0 cellsize 1 "), "refused 9 at 51\n");
     let mut lent = [7; 3];
     assert_eq!(read_grid(PIT.as_bytes(), &mut lent), Err(Refusal { number: 2, place: 0 }));
-    assert_eq!(read_grid(&example((3, 1, "1 2 x")), &mut lent), Err(Refusal { number: 7, place: 56 }));
+    assert_eq!(read_grid(&Example(3, 1, "10", "1 2 x").text(), &mut lent), Err(Refusal { number: 7, place: 56 }));
     assert_eq!(lent, [7; 3]);
 }
 
@@ -242,12 +257,13 @@ fn framing() {
     let stream = cases::stream(1, 60);
     let texts = cases::texts(&stream).expect("a stream is framed");
     assert!(texts.iter().enumerate().all(|(number, &text)| text == cases::case(1, number)));
-    assert!(texts.len() == 60 && EXAMPLES.len() < 60);
+    assert!(EXAMPLES.len() < texts.len() && texts.len() == 60);
 }
 
 /// Runs every check; a failing one stops the program with its place.
 pub fn selfcheck() {
     maps();
+    bounds();
     factors();
     readings();
     settings();
