@@ -13,6 +13,7 @@ mod hostile;
 mod length;
 mod map;
 mod refusal;
+mod second_ways;
 mod seed;
 mod selfcheck;
 mod settings;
