@@ -1,0 +1,36 @@
+-- `sheet::lines::put_cell` meets its contract. Assumes nothing.
+use borrow.Author.Needs.{needs}
+use native.Mathlib.Omega.{arith}
+use Rattle.sheet.proofs.Writing.{wrote-as, wrote-word}
+use mathlib.Core.Path.{sym}
+use Rattle.sheet.specs.Words.{decimal}
+use Rattle.sheet.proofs.Shown.{cell-line}
+use Rattle.sheet.proofs.lines.put_cell.Statement.{statement}
+use Rattle.sheet.proofs.lines.put_cell.Tie as tie
+
+put-number-requires : tie.Need-put-number-requires
+put-number-requires c κs = search needs
+
+put-number-requires-2 : tie.Need-put-number-requires-2
+put-number-requires-2 c κs = search needs
+
+put-shown-requires : tie.Need-put-shown-requires
+put-shown-requires c κs = search needs
+
+same-length : tie.Need-same-length
+same-length c = search needs
+
+returns : tie.Need-returns
+returns c =
+    let a = c .before .before .before .before .before .before .before .before .before .before .before .before .before .args in
+    let row = c .before .before .before .before .before .before .before .before .before .before .put-number .ensures in
+    let column = c .before .before .before .before .before .before .put-number2 .ensures in
+    let shown = c .before .before .put-shown .ensures in (
+      wrote-as (sym (cell-line (a .row) (a .column) (a .cell))) (wrote-word (decimal (a .row)) (row .0) (wrote-word (decimal (a .column)) (column .0) (shown .0))),
+      omega (arith, row .1, column .1, shown .1),
+    )
+
+pub put-cell-spec : {M : Type 1} → statement M
+put-cell-spec =
+    tie.close
+    (tie.spec put-number-requires put-number-requires-2 put-shown-requires same-length returns)

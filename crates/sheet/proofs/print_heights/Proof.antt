@@ -1,0 +1,90 @@
+-- `sheet::print_heights` meets its contract. Assumes nothing.
+use mathlib.Core.Path.{ap, _∙_}
+use native.Mathlib.Omega.{arith}
+use denote.Ref.{now}
+use Rattle.text.specs.Answers.{GridOutcome}
+use Rattle.factor.specs.Answers.{lent}
+use Rattle.sheet.specs.Answers.{headNumbers}
+use Rattle.sheet.proofs.Writing.{wrote-as}
+use Rattle.sheet.proofs.Sheets.{grid-refused, grid-printed}
+use borrow.Author.Needs.{needs}
+use Rattle.sheet.proofs.print_heights.Statement.{statement}
+use Rattle.sheet.proofs.print_heights.Tie as tie
+
+read-grid-requires : tie.Need-read-grid-requires
+read-grid-requires c κs = search needs
+
+head-of-requires : tie.Need-head-of-requires
+head-of-requires c κs = search needs
+
+put-refusal-requires : tie.Need-put-refusal-requires
+put-refusal-requires c κs = search needs
+
+same-length : tie.Need-same-length
+same-length c = search needs
+
+same-length-2 : tie.Need-same-length-2
+same-length-2 c = search needs
+
+returns : tie.Need-returns
+returns c =
+    let a = c .before .before .before .before .before .before .before .before .before .before .before .before .before .before .before .before .before .args in
+    let put = c .before .before .put-refusal .ensures in
+    let e = c .before .before .before .before .before .before .head-of .ensures ∙ ap (λ (g : GridOutcome). headNumbers (g .answer)) (c .before .before .before .before .before .before .before .before .read-grid .ensures) in
+    (wrote-as (grid-refused (a .head .rows) (a .head .columns) (a .head .side) (a .settings) (now (a .text)) (now (a .heights)) (lent (now (a .filled)) (now (a .direction)) (now (a .count)) (now (a .lengths)) (now (a .factors)) (now (a .workspace))) _ e (c .before .before .before .before .if1 .taken)) (put .0), omega (arith, put .1))
+
+print-map-requires : tie.Need-print-map-requires
+print-map-requires c κs = search needs
+
+same-length-3 : tie.Need-same-length-3
+same-length-3 c = search needs
+
+same-length-4 : tie.Need-same-length-4
+same-length-4 c = search needs
+
+same-length-5 : tie.Need-same-length-5
+same-length-5 c = search needs
+
+same-length-6 : tie.Need-same-length-6
+same-length-6 c = search needs
+
+same-length-7 : tie.Need-same-length-7
+same-length-7 c = search needs
+
+same-length-8 : tie.Need-same-length-8
+same-length-8 c = search needs
+
+same-length-9 : tie.Need-same-length-9
+same-length-9 c = search needs
+
+same-length-10 : tie.Need-same-length-10
+same-length-10 c = search needs
+
+returns-2 : tie.Need-returns-2
+returns-2 c =
+    let a = c .before .before .before .before .before .before .before .before .before .before .before .before .before .before .before .before .before .before .before .before .before .before .before .before .before .before .before .before .before .before .before .before .before .before .before .args in
+    let put = c .before .before .before .before .before .before .before .before .before .before .before .before .before .print-map .ensures in
+    let read = c .before .before .before .before .before .before .before .before .before .before .before .before .before .before .before .before .before .before .before .before .before .before .before .before .before .before .read-grid in
+    let e = c .before .before .before .before .before .before .before .before .before .before .before .before .before .before .before .before .before .before .before .before .before .before .before .before .head-of .ensures ∙ ap (λ (g : GridOutcome). headNumbers (g .answer)) (read .ensures) in
+    (wrote-as (grid-printed (a .head .rows) (a .head .columns) (a .head .side) (a .settings) (now (a .text)) (now (a .heights)) (lent (now (a .filled)) (now (a .direction)) (now (a .count)) (now (a .lengths)) (now (a .factors)) (now (a .workspace))) _ e (read .last .1 .0) (ap (λ (g : GridOutcome). g .heights) (read .ensures)) (c .before .before .before .before .before .before .before .before .before .before .before .before .before .before .before .before .before .before .before .before .before .before .if1 .left)) (put .0), put .1)
+
+pub print-heights-spec : {M : Type 1} → statement M
+print-heights-spec =
+    tie.close
+    (tie.spec
+    read-grid-requires
+    head-of-requires
+    put-refusal-requires
+    same-length
+    same-length-2
+    returns
+    print-map-requires
+    same-length-3
+    same-length-4
+    same-length-5
+    same-length-6
+    same-length-7
+    same-length-8
+    same-length-9
+    same-length-10
+    returns-2)

@@ -1,0 +1,6 @@
+pub mod Words
+pub mod Writing
+pub mod Lines
+pub mod Answers
+pub mod Room
+pub mod Sheet

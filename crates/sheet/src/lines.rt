@@ -1,0 +1,174 @@
+// The lines of a sheet: a map's shape, its cells, and a refusal.
+ghost use mathlib.Core.List.{[], _∷_, _++_};
+ghost use Prim.Native.Nat.{_+_, _*_, _≤_, _<_, _^_};
+ghost use lib.ListN.{length};
+ghost use Rattle.sheet.specs.Words.{decimal, integer, line};
+ghost use Rattle.sheet.specs.Writing.{Wrote};
+ghost use Rattle.sheet.specs.Lines.{refusalLine, factorWord, valueWords, shownWords, cellLine, shapeLine, cellLines, mapLines, gridsOf, Long};
+use crate::writer;
+use text::NO_DATA;
+
+// What a map has at one cell.
+pub(crate) struct Cell {
+    pub(crate) ground: i32,
+    pub(crate) filled: i32,
+    pub(crate) direction: u8,
+    pub(crate) count: u32,
+    pub(crate) length: u64,
+    pub(crate) factor: u32,
+}
+
+// What stands in a map's first line.
+pub(crate) struct Shape {
+    pub(crate) rows: usize,
+    pub(crate) columns: usize,
+    pub(crate) side: u32,
+    pub(crate) valid: u32,
+    pub(crate) longest: u32,
+}
+
+// A number and the byte after it.
+fn put_number(out: &mut [u8], at: usize, n: u64, end: u8) -> usize
+    requires { ⌜ at < 2 ^ 61 ⌝ }
+    ensures { λ r. ⌜ (Wrote (now (out .entry)) at (decimal n ++ (end ∷ [])) r (now (out .exit))) × (r ≤ at + 21) ⌝ }
+{
+    let next = writer::put_natural(out, at, n);
+    writer::put(out, next, end)
+}
+
+// A height and a blank.
+fn put_height(out: &mut [u8], at: usize, height: i32) -> usize
+    requires { ⌜ at < 2 ^ 60 ⌝ }
+    ensures { λ r. ⌜ (Wrote (now (out .entry)) at (integer height ++ (32 ∷ [])) r (now (out .exit))) × (r ≤ at + 12) ⌝ }
+{
+    let next = writer::put_integer(out, at, height);
+    writer::put(out, next, b' ')
+}
+
+// LS and the line's end.
+fn put_factor(out: &mut [u8], at: usize, factor: u32) -> usize
+    requires { ⌜ at < 2 ^ 60 ⌝ }
+    ensures { λ r. ⌜ (Wrote (now (out .entry)) at (factorWord factor ++ (10 ∷ [])) r (now (out .exit))) × (r ≤ at + 21) ⌝ }
+{
+    if factor == 4294967294 {
+        return writer::put_all(out, at, b"long\n");
+    }
+    put_number(out, at, factor as u64, b'\n')
+}
+
+// The rest of a valid cell's line behind row and column.
+fn put_values(out: &mut [u8], at: usize, cell: Cell) -> usize
+    requires { ⌜ at < 2 ^ 59 ⌝ }
+    ensures { λ r. ⌜ (Wrote (now (out .entry)) at (line (valueWords cell)) r (now (out .exit))) × (r ≤ at + 108) ⌝ }
+{
+    let a = put_height(out, at, cell.ground);
+    let b = put_height(out, a, cell.filled);
+    let c = put_number(out, b, cell.direction as u64, b' ');
+    let d = put_number(out, c, cell.count as u64, b' ');
+    let e = put_number(out, d, cell.length, b' ');
+    put_factor(out, e, cell.factor)
+}
+
+// The rest of any cell's line behind row and column.
+fn put_shown(out: &mut [u8], at: usize, cell: Cell) -> usize
+    requires { ⌜ at < 2 ^ 59 ⌝ }
+    ensures { λ r. ⌜ (Wrote (now (out .entry)) at (line (shownWords cell)) r (now (out .exit))) × (r ≤ at + 108) ⌝ }
+{
+    if cell.ground == NO_DATA {
+        return writer::put_all(out, at, b"- - - - - -\n");
+    }
+    put_values(out, at, cell)
+}
+
+// A cell's line.
+fn put_cell(out: &mut [u8], at: usize, row: usize, column: usize, cell: Cell) -> usize
+    requires { ⌜ at < 2 ^ 58 ⌝ }
+    ensures { λ r. ⌜ (Wrote (now (out .entry)) at (cellLine row column cell) r (now (out .exit))) × (r ≤ at + 150) ⌝ }
+{
+    let a = put_number(out, at, row as u64, b' ');
+    let b = put_number(out, a, column as u64, b' ');
+    put_shown(out, b, cell)
+}
+
+// A map's first line.
+fn put_shape(out: &mut [u8], at: usize, shape: Shape) -> usize
+    requires { ⌜ at < 2 ^ 58 ⌝ }
+    ensures { λ r. ⌜ (Wrote (now (out .entry)) at (shapeLine shape) r (now (out .exit))) × (r ≤ at + 105) ⌝ }
+{
+    let a = put_number(out, at, shape.rows as u64, b' ');
+    let b = put_number(out, a, shape.columns as u64, b' ');
+    let c = put_number(out, b, shape.side as u64, b' ');
+    let d = put_number(out, c, shape.valid as u64, b' ');
+    put_number(out, d, shape.longest as u64, b'\n')
+}
+
+// The one line of a refusal.
+pub(crate) fn put_refusal(out: &mut [u8], number: u32, place: usize) -> usize
+    ensures { λ r. ⌜ (Wrote (now (out .entry)) 0 (refusalLine number place) r (now (out .exit))) × (r ≤ 53) ⌝ }
+{
+    let a = writer::put_all(out, 0, b"refused ");
+    let b = put_number(out, a, number as u64, b' ');
+    let c = writer::put_all(out, b, b"at ");
+    put_number(out, c, place as u64, b'\n')
+}
+
+// The lines of a map's cells.
+fn put_cells(
+    out: &mut [u8],
+    at: usize,
+    columns: usize,
+    ground: &[i32],
+    filled: &[i32],
+    direction: &[u8],
+    count: &[u32],
+    lengths: &[u64],
+    factors: &[u32],
+) -> usize
+    requires { ⌜ (at ≤ 105) × (0 < columns) × Long (length (now ground)) (gridsOf (now ground) (now filled) (now direction) (now count) (now lengths) (now factors)) ⌝ }
+    ensures { λ r. ⌜ (Wrote (now (out .entry)) at (cellLines columns (gridsOf (now (ground .entry)) (now (filled .entry)) (now (direction .entry)) (now (count .entry)) (now (lengths .entry)) (now (factors .entry))) (length (now (ground .entry)))) r (now (out .exit))) × (r ≤ at + 150 * length (now (ground .entry))) ⌝ }
+{
+    let mut next = at;
+    let mut x = 0;
+    while x < ground.len() {
+        let cell = Cell {
+            ground: ground[x],
+            filled: filled[x],
+            direction: direction[x],
+            count: count[x],
+            length: lengths[x],
+            factor: factors[x],
+        };
+        next = put_cell(out, next, x / columns, x % columns, cell);
+        x += 1;
+    }
+    next
+}
+
+// All lines of a map, whose grids stand in row order.
+pub(crate) fn put_map(
+    out: &mut [u8],
+    shape: Shape,
+    ground: &[i32],
+    filled: &[i32],
+    direction: &[u8],
+    count: &[u32],
+    lengths: &[u64],
+    factors: &[u32],
+) -> usize
+    requires { ⌜ (0 < shape .columns) × Long (shape .rows * shape .columns) (gridsOf (now ground) (now filled) (now direction) (now count) (now lengths) (now factors)) ⌝ }
+    ensures { λ r. ⌜ (Wrote (now (out .entry)) 0 (mapLines shape (gridsOf (now (ground .entry)) (now (filled .entry)) (now (direction .entry)) (now (count .entry)) (now (lengths .entry)) (now (factors .entry)))) r (now (out .exit))) × (r ≤ 105 + 150 * (shape .rows * shape .columns)) ⌝ }
+{
+    let columns = shape.columns;
+    let next = put_shape(out, 0, shape);
+    put_cells(
+        out,
+        next,
+        columns,
+        ground,
+        filled,
+        direction,
+        count,
+        lengths,
+        factors,
+    )
+}
