@@ -10,6 +10,9 @@ sheets() {
     [ "$(cat grids/length.txt)" = 'length rows 3 columns 3 type u64 side 1000' ] || fail "the description of a grid"
     [ "$(od -An -td4 -v grids/filled.bin | tr -s ' \n' ' ')" = ' 500 500 500 500 400 400 500 500 500 ' ] || fail "the filled heights on disk"
     [ "$(od -An -tu4 -v grids/ls.bin | tr -s ' \n' ' ')" = ' 33088 54379 54379 54379 0 4810 33088 54379 54379 ' ] || fail "LS on disk"
+    printf 'ncols 2 nrows 1 xllcorner 0 yllcorner 0 cellsize 1000\n-5 -9999\n' >long.asc
+    printf '1 2 100000 1 0\n0 0 -500 -500 0 1 5000 long\n0 1 - - - - - -\n' >wanted
+    "$lsmap" long.asc --channel none | cmp - wanted || fail "NoData and too long"
     data=${DATA:-$root/../shared/data}
     [ -d "$data" ] || { echo "host/check: no $data, the real grids are skipped"; return; }
     while read -r name sum; do
@@ -38,6 +41,23 @@ files() {
     mkdir folder.asc
     stops 2 '' 'cannot read folder.asc: Is a directory' folder.asc
     stops 2 '' 'cannot read missing.asc: No such file or directory' missing.asc
+}
+
+# lengths HEIGHTS WORDS...: the slope lengths of a strip of heights.
+lengths() {
+    printf 'ncols %d nrows 1 xllcorner 0 yllcorner 0 cellsize 10 %s\n' "$(echo "$1" | wc -w)" "$1" >strip.asc
+    shift
+    "$lsmap" strip.asc "$@" | awk 'NR > 1 { printf " %s", $7 }'
+}
+
+# Document 01's strips, by which each flag shows that it reaches the library as the setting that it names.
+settings() {
+    [ "$(lengths '9 8 7 5' --channel none)" = ' 5000 15000 25000 0' ] || fail "cutoffs 0.5"
+    [ "$(lengths '9 8 7 5' --channel none --low 1.0 --high 1.0)" = ' 5000 15000 25000 35000' ] || fail "cutoffs 1.0"
+    [ "$(lengths '9 7 6' --channel none --high 0.51)" = ' 5000 15000 0' ] || fail "the high cutoff"
+    [ "$(lengths '9 8 7 5' --channel none --low 1.0)" = ' 5000 15000 25000 35000' ] || fail "the low cutoff"
+    [ "$(lengths '9 8 7 6' --channel cells:2)" = ' 5000 15000 0 0' ] || fail "a number of cells"
+    [ "$(lengths '9 8 7 6' --channel percent:75.0)" = ' 5000 15000 25000 0' ] || fail "a percentage"
 }
 
 # Settings that the library refuses, and words that are no flags.

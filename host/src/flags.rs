@@ -19,8 +19,7 @@ pub enum Asked {
 
 /// A flag's text as a number.
 fn number<T: std::str::FromStr>(flag: &str, text: &str) -> Result<T, String> {
-    text.parse()
-        .map_err(|_| format!("{flag}: {text:?} is not a number that can be handed on"))
+    text.parse().map_err(|_| format!("{flag}: {text:?} is not a number that can be handed on"))
 }
 
 /// Sets the channel rule that `none`, `cells:N` or `percent:P` names.

@@ -24,8 +24,7 @@ fn put(path: &Path, bytes: &[u8]) -> Result<(), String> {
 
 /// Writes every grid into the folder, which is made where it is not there.
 pub fn write(folder: &Path, h: Header, ground: &[i32], g: &Grids) -> Result<(), String> {
-    fs::create_dir_all(folder)
-        .map_err(|e| format!("cannot make {}: {}", folder.display(), crate::reason(&e)))?;
+    fs::create_dir_all(folder).map_err(|e| format!("cannot make {}: {}", folder.display(), crate::reason(&e)))?;
     for (name, kind, bytes) in all(ground, g) {
         put(&folder.join(format!("{name}.bin")), &bytes)?;
         let line = format!("{name} rows {} columns {} type {kind} side {}\n", h.rows, h.columns, h.side);

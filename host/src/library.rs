@@ -24,13 +24,7 @@ unsafe extern "C" {
         no_data: &mut i64,
     ) -> u32;
 
-    fn lsmap_default_settings(
-        low: &mut f64,
-        high: &mut f64,
-        kind: &mut u32,
-        cells: &mut u32,
-        percentage: &mut f64,
-    );
+    fn lsmap_default_settings(low: &mut f64, high: &mut f64, kind: &mut u32, cells: &mut u32, percentage: &mut f64);
 
     fn lsmap_map(
         rows: usize,
@@ -119,11 +113,7 @@ impl Grids {
 }
 
 fn answer<T>(number: u32, place: usize, value: T) -> Result<T, Refusal> {
-    if number == 0 {
-        Ok(value)
-    } else {
-        Err(Refusal { number, place })
-    }
+    if number == 0 { Ok(value) } else { Err(Refusal { number, place }) }
 }
 
 /// Reads the header alone.
@@ -165,15 +155,7 @@ pub fn read_grid(text: &[u8], heights: &mut [i32]) -> Result<Header, Refusal> {
 /// The library's default settings.
 pub fn default_settings() -> Settings {
     let mut s = Settings::default();
-    unsafe {
-        lsmap_default_settings(
-            &mut s.low,
-            &mut s.high,
-            &mut s.kind,
-            &mut s.cells,
-            &mut s.percentage,
-        )
-    };
+    unsafe { lsmap_default_settings(&mut s.low, &mut s.high, &mut s.kind, &mut s.cells, &mut s.percentage) };
     s
 }
 

@@ -8,8 +8,12 @@ fn expected(number: u32) -> &'static str {
         1 => "the number of rows and the number of columns are each from 1 to 1024",
         3 => "the cell side is from 0.01 to 1000 m",
         5 => "a height is from -500 to 9000 m, or equals the NoData number",
-        6 => "expected the header's next word: ncols, nrows, xllcorner, yllcorner, cellsize, then nodata_value or the heights",
-        7 => "expected a number: an optional minus, 1 to 9 digits, then optionally a point and 1 to 6 digits; ncols and nrows have digits only",
+        6 => {
+            "expected the header's next word: ncols, nrows, xllcorner, yllcorner, cellsize, then nodata_value or the heights"
+        }
+        7 => {
+            "expected a number: an optional minus, 1 to 9 digits, then optionally a point and 1 to 6 digits; ncols and nrows have digits only"
+        }
         8 => "a number is whole in cm: a digit after the second decimal has to be 0",
         9 => "the text ends too early: a word is missing here",
         10 => "nothing may follow the last height",
@@ -41,7 +45,9 @@ fn hint(text: &[u8], refusal: Refusal, header: Option<Header>) -> String {
     let rest = &text[refusal.place.min(text.len())..];
     let mut word = rest.iter().take_while(|b| !b" \t\r\n".contains(b));
     match (refusal.number, header) {
-        (6, _) if rest.starts_with(b"\xef\xbb\xbf") || rest.starts_with(b"\xff\xfe") || rest.starts_with(b"\xfe\xff") => {
+        (6, _)
+            if rest.starts_with(b"\xef\xbb\xbf") || rest.starts_with(b"\xff\xfe") || rest.starts_with(b"\xfe\xff") =>
+        {
             "; the file begins with a byte order mark: save it as plain text without one".to_string()
         }
         (7, _) if word.any(|b| *b == b',') => "; decimals take a point and no comma".to_string(),
