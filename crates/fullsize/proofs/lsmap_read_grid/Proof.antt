@@ -1,6 +1,5 @@
 -- `fullsize::lsmap_read_grid` meets its contract: what it hands out is the answer of the reader call, and the heights are those that it left. Assumes nothing.
 use mathlib.Core.Path.{_∙_, ap}
-use denote.Ref.{now}
 use borrow.Author.Needs.{needs}
 use Rattle.fullsize.specs.Outcomes.{gridReading}
 use Rattle.fullsize.proofs.lsmap_read_grid.Statement.{statement}

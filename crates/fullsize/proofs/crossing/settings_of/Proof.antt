@@ -2,7 +2,6 @@
 use mathlib.Core.Path.{ap}
 use borrow.Author.Needs.{needs}
 use Rattle.settings.specs.declared.Channel.{Channel}
-use Rattle.settings.specs.declared.Settings.{Settings}
 use Rattle.fullsize.specs.Crossing.{settingsOf}
 use Rattle.fullsize.proofs.crossing.settings_of.Statement.{statement}
 use Rattle.fullsize.proofs.crossing.settings_of.Tie as tie
