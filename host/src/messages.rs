@@ -2,18 +2,20 @@
 
 use crate::library::{Header, Refusal};
 
+const HEADER: &str = "expected the header's next word: ncols, nrows, xllcorner, yllcorner, cellsize, \
+    then nodata_value or the heights";
+
+const NUMBER: &str = "expected a number: an optional minus, 1 to 9 digits, then optionally a point and 1 to 6 digits; \
+    ncols and nrows have digits only";
+
 /// What refusals 1 to 10 of the text's calls expect, as document 01 has it.
 fn expected(number: u32) -> &'static str {
     match number {
         1 => "the number of rows and the number of columns are each from 1 to 1024",
         3 => "the cell side is from 0.01 to 1000 m",
         5 => "a height is from -500 to 9000 m, or equals the NoData number",
-        6 => {
-            "expected the header's next word: ncols, nrows, xllcorner, yllcorner, cellsize, then nodata_value or the heights"
-        }
-        7 => {
-            "expected a number: an optional minus, 1 to 9 digits, then optionally a point and 1 to 6 digits; ncols and nrows have digits only"
-        }
+        6 => HEADER,
+        7 => NUMBER,
         8 => "a number is whole in cm: a digit after the second decimal has to be 0",
         9 => "the text ends too early: a word is missing here",
         10 => "nothing may follow the last height",
@@ -29,28 +31,37 @@ fn line_and_column(text: &[u8], place: usize) -> (usize, usize) {
     (line, column)
 }
 
+/// The bytes from a place up to the next blank.
+fn word_at(text: &[u8], place: usize) -> &[u8] {
+    let rest = &text[place.min(text.len())..];
+    let length = rest.iter().take_while(|b| !b" \t\r\n".contains(b)).count();
+    &rest[..length]
+}
+
 /// The start of the word at a place, as it may be shown.
 fn shown(text: &[u8], place: usize) -> String {
-    let rest = &text[place.min(text.len())..];
-    let word = rest.iter().take_while(|b| !b" \t\r\n".contains(b)).count();
-    if word == 0 {
+    let word = word_at(text, place);
+    if word.is_empty() {
         return "the end of the text".to_string();
     }
-    let more = if word > 24 { ".." } else { "" };
-    format!("`{}{more}`", rest[..word.min(24)].escape_ascii())
+    let more = if word.len() > 24 { ".." } else { "" };
+    format!("`{}{more}`", word[..word.len().min(24)].escape_ascii())
+}
+
+/// Whether a text begins with a byte order mark, of UTF-8 or of UTF-16.
+fn is_marked(text: &[u8]) -> bool {
+    let marks: [&[u8]; 3] = [b"\xef\xbb\xbf", b"\xff\xfe", b"\xfe\xff"];
+    marks.iter().any(|mark| text.starts_with(mark))
 }
 
 /// What is likely behind a refusal, where its number and the bytes there tell.
 fn hint(text: &[u8], refusal: Refusal, header: Option<Header>) -> String {
-    let rest = &text[refusal.place.min(text.len())..];
-    let mut word = rest.iter().take_while(|b| !b" \t\r\n".contains(b));
+    let word = word_at(text, refusal.place);
     match (refusal.number, header) {
-        (6, _)
-            if rest.starts_with(b"\xef\xbb\xbf") || rest.starts_with(b"\xff\xfe") || rest.starts_with(b"\xfe\xff") =>
-        {
+        (6, _) if refusal.place == 0 && is_marked(text) => {
             "; the file begins with a byte order mark: save it as plain text without one".to_string()
         }
-        (7, _) if word.any(|b| *b == b',') => "; decimals take a point and no comma".to_string(),
+        (7, _) if word.contains(&b',') => "; decimals take a point and no comma".to_string(),
         (9 | 10, Some(h)) => format!("; the header asks for {} rows of {} heights", h.rows, h.columns),
         (9, None) if text.is_empty() => "; the file is empty".to_string(),
         _ => String::new(),
