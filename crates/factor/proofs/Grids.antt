@@ -4,7 +4,6 @@ use mathlib.Core.Logic.{_⊎_, inl, inr}
 use mathlib.Core.Bool.{Bool, true, false, not, cond}
 use mathlib.Core.List.{List}
 use Prim.Native.Nat.{ℕ, _+_, _*_, _≤_, _<_}
-use native.Mathlib.Nat.{mul-le-mul}
 use native.Mathlib.Decide.{decLt}
 use native.Mathlib.Omega.{arith}
 use borrow.Author.Tests.{eq-eqb, ne-eqb}
@@ -23,7 +22,7 @@ use Rattle.terrain.proofs.Neighbours.{each-side, code-side}
 use Rattle.factor.specs.Quantities.{noDataFactor}
 use Rattle.factor.specs.Cell.{factorOf}
 use Rattle.factor.specs.Grid.{factorAt}
-use Rattle.factor.specs.Inner.{greatestDrop, Sloping, Dropping, Dropped, factorFrom, factorFromAt, factorsFrom}
+use Rattle.factor.specs.Inner.{Dropping, Dropped, factorFrom, factorFromAt, factorsFrom}
 
 -- ---- the steepness by a code
 
@@ -38,27 +37,26 @@ steep-diagonal code drop (inr (inl e)) = sym (ap (λ (k : ℕ). steepOf (sideOf 
 steep-diagonal code drop (inr (inr (inl e))) = sym (ap (λ (k : ℕ). steepOf (sideOf k) drop) e)
 steep-diagonal code drop (inr (inr (inr e))) = sym (ap (λ (k : ℕ). steepOf (sideOf k) drop) e)
 
--- every other code counts as cardinal, those that point at no neighbour too
+-- a side whose code is no diagonal's is cardinal
+even-side : (code : ℕ) → (Diagonal code → ⊥) → (k : ℕ) → k < 8 → code ≡ codeOf k → cardinal k ≡ true
+even-side code f =
+    each-side (λ k. code ≡ codeOf k → cardinal k ≡ true)
+    (λ e. refl) (λ e. absurd (f (inl e)))
+    (λ e. refl) (λ e. absurd (f (inr (inl e))))
+    (λ e. refl) (λ e. absurd (f (inr (inr (inl e)))))
+    (λ e. refl) (λ e. absurd (f (inr (inr (inr e)))))
+
+-- so is 8, which stands for no side
 side-cardinal : (code : ℕ) → (Diagonal code → ⊥) → cardinal (sideOf code) ≡ true
 unfolding sideOf
 side-cardinal code f =
     elim (decLt (sideOf code) 8) [
-      | yes h ↦ each-side (λ k. code ≡ codeOf k → cardinal k ≡ true) (λ e. refl) (λ e. absurd (f (inl e))) (λ e. refl) (λ e. absurd (f (inr (inl e)))) (λ e. refl) (λ e. absurd (f (inr (inr (inl e))))) (λ e. refl) (λ e. absurd (f (inr (inr (inr e))))) (sideOf code) h (code-side code h)
-      | no n ↦ ap cardinal (let t : sideOf code ≡ 8 = omega (arith, first-top (λ k. eqb code (codeOf k)) 8) in t)
+      | yes h ↦ even-side code f (sideOf code) h (code-side code h)
+      | no n ↦ let e : sideOf code ≡ 8 = omega (arith, first-top (λ k. eqb code (codeOf k)) 8) in ap cardinal e
     ]
 
 pub steep-cardinal : (code drop : ℕ) → (Diagonal code → ⊥) → 2 * (drop * drop) ≡ steepOf (sideOf code) drop
 steep-cardinal code drop f = sym (ap (λ (b : Bool). cond b (2 * (drop * drop)) (drop * drop)) (side-cardinal code f))
-
-pub square-small : (drop : ℕ) → drop ≤ greatestDrop → drop * drop ≤ 3610000000000
-square-small drop h = omega (arith, mul-le-mul h h)
-
-pub steep-small : (k drop : ℕ) → drop ≤ greatestDrop → steepOf k drop ≤ 7220000000000
-steep-small k drop h = go (cardinal k)
-  where
-    go : (b : Bool) → cond b (2 * (drop * drop)) (drop * drop) ≤ 7220000000000
-    go true = omega (arith, square-small drop h)
-    go false = omega (arith, square-small drop h)
 
 -- ---- a cell
 

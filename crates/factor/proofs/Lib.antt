@@ -6,4 +6,3 @@ pub mod Factors
 pub mod Grids
 pub mod Maps
 pub mod Answers
-pub mod Examples

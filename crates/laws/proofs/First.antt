@@ -73,9 +73,5 @@ pub some-yes : (p : ℕ → Bool) (n k : ℕ) → k < n → p k ≡ true → som
 unfolding someOf
 some-yes p n k h e = lt-ltb (firstOf p n) n (omega (arith, first-le p n k h e))
 
-pub some-no : (p : ℕ → Bool) (n : ℕ) → ((k : ℕ) → k < n → p k ≡ false) → someOf p n ≡ false
-unfolding someOf
-some-no p n h = le-ltb (firstOf p n) n (omega (arith, first-none p n h))
-
 pub none-at : (p : ℕ → Bool) (n k : ℕ) → someOf p n ≡ false → k < n → p k ≡ false
 none-at p n k e h = ⊎-elim (λ t. absurd (true≢false (sym (some-yes p n k h t) ∙ e))) (λ t. t) (two (p k))

@@ -59,19 +59,9 @@ module _ (w : Lowering) (P : ℕ → ℕ → Type 0) where
   pub eased-then : {l₀ l m : List ℕ} → Eased w P l₀ l → Eased w P l m → Eased w P l₀ m
   eased-then a b = record { long = b .long ∙ a .long; kept = (λ k. b .kept (a .kept k)) }
 
-  pub eased-store : (l : List ℕ) (x v : ℕ) → v < getD l x 0 → (Kept w P l → P x v) → Eased w P l (set l x v)
-  eased-store l x v h p = record { long = length-set l x v; kept = (λ k. store-kept l k x v h (p k)) }
-
   module _ (rule : Rule w P) where
     pub offer-kept : (l : List ℕ) → Kept w P l → (x : ℕ) → w .offer l x < getD l x 0 → Kept w P (set l x (w .offer l x))
     offer-kept l k x h = store-kept l k x (w .offer l x) h (rule .fair l k x (kept-active l k x (omega arith)) (omega (arith, k .capped x)))
-
-    pub eased-relax : (l m : List ℕ) (x : ℕ) → m ≡ relaxedOf w l x → Eased w P l m
-    eased-relax l m x e = subst (Eased w P l) (sym e) (go (ltb (w .offer l x) (getD l x 0)) refl)
-      where
-        go : (t : Bool) → ltb (w .offer l x) (getD l x 0) ≡ t → Eased w P l (cond t (set l x (w .offer l x)) l)
-        go true q = record { long = length-set l x _; kept = (λ k. offer-kept l k x (ltb-true (w .offer l x) (getD l x 0) q)) }
-        go false q = eased-none l
 
     -- ---- the rounds
 
@@ -188,16 +178,9 @@ module _ (w : Lowering) (P : ℕ → ℕ → Type 0) where
 
     -- ---- sweeps until one lowers nothing
 
-    pub settling-start : (l : List ℕ) → Kept w P l → Settling w P l true
-    settling-start l k = record { kept = k; still = (λ q. absurd (true≢false q)) }
-
     pub settling-more : (l m : List ℕ) (r : Bool) → Kept w P l → Sweeping w P l m (length l) r → Settling w P m r
     settling-more l m r k s = record { kept = s .eased .kept k; still = (λ e x v. s .still e x (omega (arith, k .long, rule .within x v))) }
 
     pub settling-less : (l m : List ℕ) (r again : Bool) → again ≡ true → Sweeping w P l m (length l) r → total m + dueOf r < total l + dueOf again
     settling-less l m true again q s = omega (arith, s .fell refl, ap dueOf q)
     settling-less l m false again q s = omega (arith, s .same refl, ap dueOf q)
-
-    -- the end: nothing is due, so the list is the definition's
-    pub settling-done : (l : List ℕ) (again : Bool) → again ≡ false → Settling w P l again → l ≡ settledOf w
-    settling-done l again e s = done-is l (s .kept) (s .still e)

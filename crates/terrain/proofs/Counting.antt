@@ -18,9 +18,10 @@ use Rattle.laws.specs.Raise.{Under, Rule}
 use Rattle.laws.proofs.Tests.{two}
 use Rattle.laws.proofs.Search.{failing-one}
 use Rattle.laws.proofs.Lists.{getD-any}
-use Rattle.laws.proofs.Sums.{sum-none, sum-more, sum-zero, when-yes, when-no, when-under}
+use Rattle.laws.proofs.Sums.{sum-none, sum-more, sum-zero, when-yes, when-no, when-under, greatest-ge}
 use Rattle.terrain.specs.Cells.{neighbour, codeOf, sideOf}
 use Rattle.terrain.specs.Trail.{mappedAt, flowsAt, nextAt, stepsIn, intoAt, countAt, countsOf, countOffer}
+use Rattle.terrain.specs.Length.{largestOf}
 use Rattle.terrain.specs.Directed.{Directed, Counts, Counted, receiverOf, backOf}
 use Rattle.terrain.proofs.Neighbours.{each-side, across, across-small, side-none, code-some}
 use Rattle.terrain.proofs.Trails.{Falls, is-mapped, mapped-in, flows-code, code-next, flows-mapped, steps-le, into-flows, into-above, into-code, offer-le, counts-long, counts-at, count-le, count-fix, count-rule}
@@ -32,6 +33,15 @@ bit-side = each-side (λ k. trailingZeros 8 (codeOf k) ≡ k) refl refl refl ref
 
 back-code : (k : ℕ) → k < 8 → backOf k ≡ codeOf (across k)
 back-code = each-side (λ k. backOf k ≡ codeOf (across k)) refl refl refl refl refl refl refl refl
+
+-- no count is above the largest
+pub largest-ge : (count : List ℕ) (y : ℕ) → getD count y 0 ≤ largestOf (length count) count
+unfolding largestOf
+largest-ge count y =
+    elim (decLt y (length count)) [
+      | yes h ↦ greatest-ge (length count) (λ x. getD count x 0) y h
+      | no f ↦ omega (arith, List·getD-eq-default count 0 {n = y} (omega arith))
+    ]
 
 -- the sum over the first k neighbours of z
 pub record Gathering (rows cols : ℕ) (dir l : List ℕ) (z k sum : ℕ) : Type 0 where

@@ -156,9 +156,6 @@ module _ (rows cols : ℕ) where
   unfolding neighbour
   neighbour-cases x k = cell-cases rows cols (x / cols + getD rowSteps k 0) (x % cols + getD colSteps k 0)
 
-  pub neighbour-le : (x k : ℕ) → neighbour rows cols x k ≤ rows * cols
-  neighbour-le x k = ⊎-elim (λ e. omega arith) (λ i. omega (arith, in-grid-lt rows cols _ _ _ i)) (neighbour-cases x k)
-
   -- the neighbour to the west is no cell, or the index before
   pub west : (x : ℕ) → 0 < cols → (neighbour rows cols x 4 ≡ rows * cols) ⊎ (neighbour rows cols x 4 < x)
   west x p = ⊎-elim inl (λ h. inr (let e : x / cols + 1 - 1 ≡ x / cols = omega arith in omega (arith, h .is, h .left, div-add-mod' x cols, ap (λ (q : ℕ). q * cols) e))) (neighbour-cases x 4)

@@ -9,6 +9,7 @@ ghost use Prim.Native.Nat.{_+_, _*_, _<_, min, max};
 ghost use lib.ListN.{length, getD, replicate};
 ghost use Rattle.terrain.specs.Cells.{rowSteps, colSteps, cellAt, neighbour};
 ghost use Rattle.terrain.specs.Inside.{Sized, Inside, RunsTo, besideOf, Beside};
+ghost use Rattle.terrain.specs.Length.{largestOf};
 
 // Where the neighbour at side k lies, counted from the one at NW: four times its row, plus its column.
 fn place_of(k: usize) -> usize
@@ -130,4 +131,17 @@ pub(crate) fn clear(s: &mut [u32])
         s[x] = 0;
         x += 1;
     }
+}
+
+// The largest flow count.
+pub(crate) fn largest(count: &[u32]) -> u32
+    ensures { λ r. ⌜ r ≡ largestOf (length (now (count .entry))) (now (count .entry)) ⌝ }
+{
+    let mut most: u32 = 0;
+    let mut x: usize = 0;
+    while x < count.len() {
+        most = larger(most, count[x]);
+        x += 1;
+    }
+    most
 }

@@ -9,10 +9,10 @@ ghost use Rattle.laws.specs.Raise.{raisedOf, Under, Sweeping};
 ghost use Rattle.terrain.specs.Cells.{levelsOf};
 ghost use Rattle.terrain.specs.Direction.{steepOf};
 ghost use Rattle.terrain.specs.Inside.{Inside, RunsTo};
-ghost use Rattle.terrain.specs.Length.{isChannel, cutoffFor, isCut, stepOver, amountOf, largestOf, steepnessAt, lengthsOf};
+ghost use Rattle.terrain.specs.Length.{isChannel, cutoffFor, isCut, stepOver, amountOf, steepnessAt, lengthsOf};
 ghost use Rattle.terrain.specs.Measure.{longest, steepest, AllFine, Charted, Bounded, Working, Meeting, inflowOf, gatheredOf, settledOf, lengthOffer, SettledIn};
 use crate::cells::beside;
-use crate::cells::larger;
+use crate::cells::largest;
 use crate::cells::near;
 use crate::cells::run_end;
 use crate::cells::smaller;
@@ -247,19 +247,6 @@ fn length_near(
 {
     let gathered = gathered_near(terms, filled, direction, lengths, x);
     settled(direction[x], terms.most, count[x], gathered)
-}
-
-// The largest flow count.
-fn largest(count: &[u32]) -> u32
-    ensures { λ r. ⌜ r ≡ largestOf (length (now (count .entry))) (now (count .entry)) ⌝ }
-{
-    let mut most: u32 = 0;
-    let mut x: usize = 0;
-    while x < count.len() {
-        most = larger(most, count[x]);
-        x += 1;
-    }
-    most
 }
 
 // The greatest count up to the largest that is no channel's.

@@ -15,6 +15,7 @@ ghost use Rattle.terrain.specs.Directed.{Directed, Counts, Counted, Know
 use crate::cells::beside;
 use crate::cells::clear;
 use crate::cells::larger;
+use crate::cells::largest;
 use crate::cells::near;
 use crate::cells::run_end;
 use crate::cells::value_at;
@@ -256,19 +257,6 @@ fn loose_cells(rows: usize, columns: usize, direction: &[u8], count: &[u32]) -> 
         x = end + 1;
     }
     sum
-}
-
-// The largest count.
-fn largest(count: &[u32]) -> u32
-    ensures { λ r. ⌜ ((y : ℕ) → getD (now (count .entry)) y 0 ≤ r) ⌝ }
-{
-    let mut most: u32 = 0;
-    let mut x: usize = 0;
-    while x < count.len() {
-        most = larger(most, count[x]);
-        x += 1;
-    }
-    most
 }
 
 // Whether every count is what is gathered; none may exceed the number of cells.

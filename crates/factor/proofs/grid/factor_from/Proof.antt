@@ -3,7 +3,8 @@ use borrow.Author.Needs.{needs}
 use mathlib.Core.Path.{_∙_}
 use native.Mathlib.Omega.{arith}
 use Rattle.terrain.specs.Cells.{sideOf}
-use Rattle.factor.proofs.Grids.{steep-small, factor-none, factor-some}
+use Rattle.terrain.proofs.Measuring.{steep-small}
+use Rattle.factor.proofs.Grids.{factor-none, factor-some}
 use Rattle.factor.proofs.grid.factor_from.Statement.{statement}
 use Rattle.factor.proofs.grid.factor_from.Tie as tie
 

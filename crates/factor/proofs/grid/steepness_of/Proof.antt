@@ -1,6 +1,7 @@
 -- `factor::grid::steepness_of` meets its contract: the codes of its first arm are those of the diagonals. Assumes nothing.
 use native.Mathlib.Omega.{arith}
-use Rattle.factor.proofs.Grids.{steep-diagonal, steep-cardinal, square-small}
+use Rattle.terrain.proofs.Measuring.{square-small}
+use Rattle.factor.proofs.Grids.{steep-diagonal, steep-cardinal}
 use Rattle.factor.proofs.grid.steepness_of.Statement.{statement}
 use Rattle.factor.proofs.grid.steepness_of.Tie as tie
 

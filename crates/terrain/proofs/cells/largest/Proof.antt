@@ -1,4 +1,4 @@
--- `terrain::length::largest` meets its contract. Assumes nothing.
+-- `terrain::cells::largest` meets its contract. Assumes nothing.
 use mathlib.Core.Path.{ap, _≡_, sym, _∙_}
 use Prim.Native.Nat.{_-_, _≤_}
 use native.Mathlib.Omega.{arith}
@@ -6,8 +6,8 @@ use lib.ListN.{getD, length}
 use borrow.Author.Needs.{needs}
 use Rattle.laws.proofs.Sums.{greatest-none, greatest-more}
 use Rattle.terrain.specs.Length.{largestOf}
-use Rattle.terrain.proofs.length.largest.Statement.{statement}
-use Rattle.terrain.proofs.length.largest.Tie as tie
+use Rattle.terrain.proofs.cells.largest.Statement.{statement}
+use Rattle.terrain.proofs.cells.largest.Tie as tie
 
 abbrev Inv-loop : tie.InvT-loop
 Inv-loop count most₀ x₀ most x = (most ≡ largestOf x count) × (x ≤ length count)
