@@ -2,7 +2,8 @@
 
 head='ncols 3 nrows 3 xllcorner 0 yllcorner 0 cellsize 10'
 
-# Sheets that are known: document 01's pit; the sums of the real grids' sheets, on which the second program agrees.
+# Sheets that are known: document 01's pit; and of the real grids the sums that the second program's sheets have, with
+# its limits of a printer (2,048 cells, 32,768 bytes) lifted for volcano.
 sheets() {
     printf '%s\n5 5 5\n5 2 4\n5 5 5\n' "$head" >pit.asc
     "$lsmap" pit.asc --channel none --grids grids >out
