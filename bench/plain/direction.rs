@@ -1,0 +1,34 @@
+//! Directions: the steepest lower neighbour of eight (D8, O'Callaghan and Mark 1984). Document 01, "Filling and
+//! directions".
+
+use crate::cells::{steepness, Shape};
+use crate::flat::{FAR, FLAT};
+use crate::{NODATA, NO_CODE};
+
+/// The code of a valid cell but for flats: of its steepest lower neighbour, the first on a tie; else 0 on the rim.
+#[inline]
+fn code(shape: Shape, filled: &[i32], cell: usize, inside: bool) -> u8 {
+    let (mut best, mut code, mut rim) = (0, FLAT, !inside);
+    shape.around(cell, inside, |side, next| {
+        let drop = i64::from(filled[cell]) - i64::from(filled[next]);
+        let no_data = filled[next] == NODATA;
+        let steep = if no_data || drop < 0 { 0 } else { steepness(side, drop as u64) };
+        rim |= no_data;
+        if steep > best {
+            (best, code) = (steep, 1 << side);
+        }
+    });
+    if code == FLAT && rim { 0 } else { code }
+}
+
+/// Writes every cell's code, flats marked, and its steps over flats: far for flats, else 0. The number of valid cells.
+pub fn point(shape: Shape, filled: &[i32], direction: &mut [u8], steps: &mut [u32]) -> u32 {
+    let mut valid = 0;
+    shape.each(|cell, inside| {
+        let own = if filled[cell] == NODATA { NO_CODE } else { code(shape, filled, cell, inside) };
+        valid += u32::from(own != NO_CODE);
+        direction[cell] = own;
+        steps[cell] = if own == FLAT { FAR } else { 0 };
+    });
+    valid
+}
