@@ -30,7 +30,7 @@ fn sine(square: u64, q: u64) -> u64 {
     let mut sine = 0;
     for bit in (0..10).rev() {
         let next = sine + (1 << bit);
-        sine = if next * next * weight <= top { next } else { sine };
+        sine += u64::from(next * next * weight <= top) << bit;
     }
     sine
 }
@@ -49,6 +49,7 @@ fn factor(side: u64, q: u64, length: u64) -> u32 {
 }
 
 /// Writes the LS grid.
+#[inline(never)]
 pub fn factors(shape: Shape, side: u64, filled: &[i32], direction: &[u8], lengths: &[u64], factors: &mut [u32]) {
     for cell in 0..factors.len() {
         factors[cell] = match direction[cell] {

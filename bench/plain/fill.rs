@@ -80,6 +80,7 @@ fn empty(shape: Shape, ground: &[i32], filled: &mut [i32], queue: &mut Queue) {
 }
 
 /// The filled heights; the links are scratch.
+#[inline(never)]
 pub fn fill(shape: Shape, ground: &[i32], filled: &mut [i32], links: &mut [u32]) {
     for (filled, &height) in filled.iter_mut().zip(ground) {
         *filled = if height == NODATA { NODATA } else { UNREACHED };

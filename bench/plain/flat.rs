@@ -41,6 +41,7 @@ fn point(shape: Shape, filled: &[i32], steps: &[u32], queue: &[u32], direction: 
 }
 
 /// Gives every flat cell its direction; the queue is scratch, and holds zeros before and after.
+#[inline(never)]
 pub fn drain(shape: Shape, filled: &[i32], direction: &mut [u8], steps: &mut [u32], queue: &mut [u32]) {
     let mut end = reach_shores(shape, filled, direction, steps, queue);
     let mut at = 0;
