@@ -56,8 +56,8 @@ pub fn map(
     let side = u64::from(side);
     fill::fill(shape, ground, filled, count);
     let valid = direction::point(shape, filled, direction, count);
-    workspace.fill(0);
     flat::drain(shape, filled, direction, count, workspace);
+    workspace.fill(0);
     trail::count(shape, direction, count, workspace, factors);
     let order = &factors[..valid as usize];
     let longest = Downhill { shape, side, filled, direction, count, order }.measure(&rules, lengths, workspace);
