@@ -1,7 +1,9 @@
 //! Speed and memory of the proved library beside the plain program, on the terrains of document 01's full size, in one
-//! run. `harness table ROUNDS FOLDER` measures; `harness once SIDE FILE` maps one text once, for a profiler.
+//! run. `harness table ROUNDS FOLDER` measures; `harness once SIDE FILE` maps one text once, for a profiler; `harness loops
+//! PROFILE FUNCTION` tells the loops of what it found.
 
 mod clock;
+mod loops;
 mod measure;
 mod memory;
 #[cfg(rattle)]
@@ -12,7 +14,7 @@ mod table;
 use sides::Lent;
 use std::path::Path;
 
-const USAGE: &str = "usage: harness table ROUNDS FOLDER | harness once SIDE FILE";
+const USAGE: &str = "usage: harness table ROUNDS FOLDER | harness once SIDE FILE | harness loops PROFILE FUNCTION";
 
 /// Reads and maps one text once.
 fn once(name: &str, file: &str) -> Option<()> {
@@ -31,6 +33,7 @@ fn main() {
     let done = match words[..] {
         ["table", rounds, folder] => rounds.parse().ok().map(|rounds| table::print(rounds, Path::new(folder))),
         ["once", side, file] => once(side, file),
+        ["loops", profile, function] => std::fs::read_to_string(profile).ok().map(|text| loops::print(&text, function)),
         _ => None,
     };
     done.expect(USAGE);
