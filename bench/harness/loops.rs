@@ -1,5 +1,5 @@
-//! The loops of one function in a callgrind profile with instructions and jumps (--dump-instr=yes --collect-jumps=yes,
-//! uncompressed), in the order of the code. The library's stages are inlined into one function, so this tells them apart.
+//! The loops of one function in a callgrind profile (--dump-instr=yes --collect-jumps=yes, uncompressed), in the order
+//! of the code. The library's stages are inlined into one function, and this tells them apart.
 
 use std::collections::BTreeMap;
 
@@ -43,7 +43,8 @@ impl Profile {
             } else if let Some(from) = place {
                 match (called, jumped) {
                     (true, _) => {}
-                    (_, Some((taken, to))) => profile.back.extend((here && taken > FEW && to < from).then_some((to, from))),
+                    (_, Some((taken, to))) if here && taken > FEW && to < from => profile.back.push((to, from)),
+                    (_, Some(_)) => {}
                     _ => profile.add(here, from, cost.unwrap_or(0)),
                 }
                 (called, jumped) = (false, None);

@@ -1,6 +1,6 @@
 //! Speed and memory of the proved library beside the plain program, on the terrains of document 01's full size, in one
-//! run. `harness table ROUNDS FOLDER` measures; `harness once SIDE FILE` maps one text once, for a profiler; `harness loops
-//! PROFILE FUNCTION` tells the loops of what it found.
+//! run. `harness table ROUNDS FOLDER` measures; `harness once SIDE FILE` maps one text once, for a profiler; `harness
+//! loops PROFILE FUNCTION` tells the loops of what it found.
 
 mod clock;
 mod loops;

@@ -39,7 +39,8 @@ fn print_line(terrain: &str, small: &Found, large: &Found) {
 
 /// Measures every terrain in a folder of texts and prints the table and the plain lines.
 pub fn print(rounds: usize, folder: &Path) {
-    println!("{} beside plain, {LARGE} x {LARGE} cells, best of {rounds} rounds in turn, processor time", MEASURED.name);
+    let measured = MEASURED.name;
+    println!("{measured} beside plain, {LARGE} x {LARGE} cells, best of {rounds} rounds in turn, processor time");
     println!("             map    plain            text    plain                    map   plain   peak");
     println!("terrain       ms       ms  ratio       ms       ms  ratio   MB/s  growth  growth    KiB");
     let mut lines = Vec::new();

@@ -1,6 +1,6 @@
-//! A plain, unverified program of document 01's rules, with the algorithms of crates/text, crates/terrain and crates/factor:
-//! what their speed is measured against. Every grid is the caller's. The stages are not inlined, so that a profiler sees
-//! each.
+//! A plain, unverified program of document 01's rules, with the algorithms of crates/text, crates/terrain and
+//! crates/factor: what their speed is measured against. Every grid is the caller's. The stages are not inlined, so that
+//! a profiler sees each.
 
 mod cells;
 mod direction;
