@@ -31,15 +31,9 @@ fn by_millimetre(k: u32) -> Vec<u16> {
     factors
 }
 
-/// The greatest whole number whose square is not above this one.
-fn root(number: u64) -> u64 {
-    let near = (number as f64).sqrt() as u64;
-    (near.saturating_sub(1)..=near + 1).rev().find(|root| root * root <= number).expect("the float is near")
-}
-
 /// The sine in thousandths: u²·d ≤ n exactly if u² ≤ floor(n / d).
 fn sine(q: i64, side: i64) -> u64 {
-    root((1_000_000 * q / (q + 2 * side * side)) as u64)
+    (1_000_000 * q as u64 / (q + 2 * side * side) as u64).isqrt()
 }
 
 impl Table {
