@@ -1,4 +1,4 @@
-//! One terrain measured: the measured side and the plain one in turn, the best of several rounds of each.
+//! One text measured: the measured side and the plain one in turn, the best of several rounds of each.
 
 use crate::clock::time;
 use crate::memory::peak;
@@ -12,27 +12,35 @@ pub struct Pair {
 }
 
 impl Pair {
+    /// Longer than anything.
+    pub const NONE: Pair = Pair { measured: f64::MAX, plain: f64::MAX };
+
     pub fn ratio(&self) -> f64 {
         self.measured / self.plain
     }
+
+    /// The better of each side.
+    pub fn or(&self, other: &Pair) -> Pair {
+        Pair { measured: self.measured.min(other.measured), plain: self.plain.min(other.plain) }
+    }
 }
 
-/// What is found of one terrain of one size.
+/// What is found of one text: the two times, its bytes, and the KiB by which the first map call raised the peak.
+#[derive(Clone, Copy)]
 pub struct Found {
     pub map: Pair,
     pub text: Pair,
-    pub megabytes: f64,
-    pub peak_kib: i64,
+    pub bytes: usize,
+    pub peak: i64,
 }
 
 /// The best of several rounds, the two sides in turn.
 fn in_turn(rounds: usize, mut call: impl FnMut(Side)) -> Pair {
-    let mut best = Pair { measured: f64::MAX, plain: f64::MAX };
-    for _ in 0..rounds {
-        best.measured = best.measured.min(time(|| call(MEASURED)));
-        best.plain = best.plain.min(time(|| call(PLAIN)));
-    }
-    best
+    (0..rounds).fold(Pair::NONE, |best, _| {
+        let measured = time(|| call(MEASURED));
+        let plain = time(|| call(PLAIN));
+        best.or(&Pair { measured, plain })
+    })
 }
 
 /// Measures one text; both sides must give the same grids.
@@ -40,12 +48,12 @@ pub fn measure(rounds: usize, text: &[u8]) -> Found {
     let mut lent = Lent::for_text(text);
     let mut other = lent.clone();
     (MEASURED.read)(text, &mut lent.ground);
-    let peak_kib = peak(|| (MEASURED.map)(&mut lent));
+    let peak = peak(|| (MEASURED.map)(&mut lent));
     (PLAIN.read)(text, &mut other.ground);
     (PLAIN.map)(&mut other);
     assert!(lent == other, "both sides give the same grids");
     drop(other);
-    let text_pair = in_turn(rounds, |side| (side.read)(text, &mut lent.ground));
+    let reading = in_turn(rounds, |side| (side.read)(text, &mut lent.ground));
     let map = in_turn(rounds, |side| (side.map)(&mut lent));
-    Found { map, text: text_pair, megabytes: text.len() as f64 / 1e6, peak_kib }
+    Found { map, text: reading, bytes: text.len(), peak }
 }
