@@ -8,10 +8,10 @@ pub const NO_FACTOR: u32 = 4_294_967_295;
 pub const TOO_LONG: u32 = 4_294_967_294;
 
 /// "Above 304,800 (1,000 ft, a house limit): too long."
-const LONGEST_MM: u64 = 304_800;
+pub const LONGEST_MM: u64 = 304_800;
 
 /// "Length in mm: floor(length·c / 1,000)."
-fn millimetres(length: u64, side: i64) -> u64 {
+pub fn millimetres(length: u64, side: i64) -> u64 {
     length * side as u64 / 1_000
 }
 
@@ -30,7 +30,7 @@ pub fn exponent(q: i64, side: i64) -> u32 {
 }
 
 /// "t^10·2,212,848^k ≤ (100·mm)^k·100^10".
-fn reaches(t: u64, k: u32, mm: u64) -> bool {
+pub fn reaches(t: u64, k: u32, mm: u64) -> bool {
     let left = Big::of(t).power(10).times(&Big::of(2_212_848).power(k));
     let right = Big::of(100 * mm).power(k).times(&Big::of(100).power(10));
     left <= right
@@ -51,7 +51,7 @@ pub fn sine(q: i64, side: i64) -> u64 {
 }
 
 /// "S = floor((65,410·u² + 4,560,000·u + 65,000,000) / 1,000,000)."
-fn steepness_factor(u: u64) -> u64 {
+pub fn steepness_factor(u: u64) -> u64 {
     (65_410 * u * u + 4_560_000 * u + 65_000_000) / 1_000_000
 }
 

@@ -101,7 +101,7 @@ fn spiral(seed: &mut Seed, shape: Shape) -> Vec<i64> {
 }
 
 /// The cells of a walk that turns right before the edge and before its own track, one cell of wall between.
-fn wound(shape: Shape) -> Vec<usize> {
+pub fn wound(shape: Shape) -> Vec<usize> {
     let (rows, columns) = (shape.rows as i64, shape.columns as i64);
     let mut free = vec![true; shape.cells()];
     let on_grid = |row: i64, column: i64| 0 <= row && row < rows && 0 <= column && column < columns;

@@ -6,10 +6,10 @@ use crate::settings::{Percents, Rule};
 use crate::trail::onward;
 
 /// "No inflow: 5,000", half a cell side; also what a flat pair brings.
-const HALF_SIDE: u64 = 5_000;
+pub const HALF_SIDE: u64 = 5_000;
 
 /// "A channel cell has 1,000·count > n·largest, or count > the given number of cells".
-fn channel(rule: Rule, count: u64, largest: u64) -> bool {
+pub fn channel(rule: Rule, count: u64, largest: u64) -> bool {
     match rule {
         Rule::Tenths(n) => 1_000 * count > n * largest,
         Rule::Cells(cells) => count > cells,
@@ -33,6 +33,18 @@ fn step(direction: u8) -> u64 {
     if diagonal { 14_142 } else { 10_000 }
 }
 
+/// "Both steepnesses 0: 5,000. A cut: 0. Else its length plus 10,000, or 14,142 if diagonal." What an inflow of
+/// steepness p with this length and direction brings to a cell of steepness q.
+pub fn amount(percents: &Percents, side: i64, q: i64, p: i64, length: u64, direction: u8) -> u64 {
+    if q == 0 && p == 0 {
+        HALF_SIDE
+    } else if cut(q, p, cutoff(percents, q, side)) {
+        0
+    } else {
+        length + step(direction)
+    }
+}
+
 /// The cells that point at this one.
 fn inflows(shape: Shape, direction: &[u8], cell: usize) -> Vec<usize> {
     let points_here = |&next: &usize| onward(shape, direction, next) == Some(cell);
@@ -49,16 +61,10 @@ pub struct Terrain<'a> {
 }
 
 impl Terrain<'_> {
-    /// "Both steepnesses 0: 5,000. A cut: 0. Else its length plus 10,000, or 14,142 if diagonal."
+    /// What one inflow brings.
     fn amount(&self, length: &[u64], cell: usize, inflow: usize) -> u64 {
         let (q, p) = (self.flow.steepness[cell], self.flow.steepness[inflow]);
-        if q == 0 && p == 0 {
-            HALF_SIDE
-        } else if cut(q, p, cutoff(self.percents, q, self.side)) {
-            0
-        } else {
-            length[inflow] + step(self.flow.direction[inflow])
-        }
+        amount(self.percents, self.side, q, p, length[inflow], self.flow.direction[inflow])
     }
 
     /// The cell's length once its inflows have theirs: "The greatest amount is the length."

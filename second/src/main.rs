@@ -6,8 +6,11 @@ mod cases;
 mod compare;
 mod direction;
 mod factor;
+mod fast;
+mod fast_ways;
 mod fields;
 mod fill;
+mod full;
 mod grid;
 mod hostile;
 mod length;
@@ -19,14 +22,15 @@ mod selfcheck;
 mod settings;
 mod sheet;
 mod spelling;
+mod terrains;
 mod text;
 mod trail;
 
 use std::io::{self, Read, Write};
 use std::process::ExitCode;
 
-const USAGE: &str =
-    "usage: second sheet < TEXT | sheets < STREAM | cases SEED N | compare SEED N PRINTER... | selfcheck";
+const USAGE: &str = "usage: second sheet < TEXT | sheets < STREAM | cases SEED N | compare SEED N PRINTER... | \
+    terrain NAME SIZE SEED | full SIZE PROGRAM... | selfcheck";
 
 fn standard_input() -> io::Result<Vec<u8>> {
     let mut bytes = Vec::new();
@@ -53,6 +57,11 @@ fn run(words: &[&str]) -> io::Result<()> {
         ["compare", seed, count, printer @ ..] if !printer.is_empty() => {
             compare::compare(whole(seed)?, whole(count)?, &printer.join(" "))
         }
+        ["terrain", name, size, seed] => {
+            let text = terrains::terrain_text(name, whole(size)?, whole(seed)?);
+            output.write_all(&text.ok_or_else(|| io::Error::other(USAGE))?)
+        }
+        ["full", size, program @ ..] if !program.is_empty() => full::compare(whole(size)?, &program.join(" ")),
         ["selfcheck"] => {
             selfcheck::selfcheck();
             Ok(())

@@ -22,7 +22,7 @@ pub struct Map {
 }
 
 /// "The map call tests 1, 2, 3, 4, 5 in that order, 5 at the first bad cell in row order."
-fn judge(shape: Shape, side: i64, ground: &[i32], settings: Settings) -> Result<Percents, Refusal> {
+pub fn judge(shape: Shape, side: i64, ground: &[i32], settings: Settings) -> Result<Percents, Refusal> {
     let good = 1..=MOST_ROWS;
     if !good.contains(&shape.rows) || !good.contains(&shape.columns) {
         return refuse(refusal::SHAPE, 0);

@@ -130,7 +130,7 @@ fn lengths_by_sweeps(shape: Shape, side: i64, map: &Map, settings: Settings) -> 
 }
 
 /// Settings of every kind.
-fn any_settings(seed: &mut Seed) -> Settings {
+pub fn any_settings(seed: &mut Seed) -> Settings {
     let (tenths, cells) = (seed.below(1_001) as f64 / 10.0, seed.below(20) as u32);
     let channel = *seed.pick(&[Channel::None, Channel::Percentage(tenths), Channel::Cells(cells)]);
     Settings { low: seed.below(101) as f64 / 100.0, high: seed.below(101) as f64 / 100.0, channel }

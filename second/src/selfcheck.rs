@@ -2,6 +2,7 @@
 
 use crate::cases::{self, Example, EXAMPLES, PIT};
 use crate::factor::{exponent, slope_length_factor};
+use crate::fast_ways;
 use crate::grid::{Shape, NODATA};
 use crate::hostile;
 use crate::map::{map, Map};
@@ -24,8 +25,9 @@ const PIT_SHEET: &str = "3 3 1000 9 2\n\
     2 1 500 500 64 1 5000 54379\n\
     2 2 500 500 64 1 5000 54379\n";
 
-/// The number of seeded fields and of hostile texts of each kind.
+/// The number of seeded fields, of those for the fast map, and of hostile texts of each kind.
 const FIELDS: usize = 600;
+const FAST_FIELDS: usize = 400;
 const HOSTILE: usize = 300;
 
 /// The map of one of document 01's examples, side 10 m.
@@ -161,5 +163,6 @@ pub fn selfcheck() {
     (0..FIELDS).for_each(second_ways::field);
     hostile_texts();
     framing();
-    println!("selfcheck: all examples and {FIELDS} fields hold");
+    fast_ways::agree(FAST_FIELDS);
+    println!("selfcheck: all examples and {FIELDS} fields hold, {FAST_FIELDS} more by the fast map");
 }
