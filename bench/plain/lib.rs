@@ -1,0 +1,35 @@
+//! A plain, unverified program of document 01's rules, with the algorithms of crates/text, crates/terrain and
+//! crates/factor: what their speed is measured against. Every grid is the caller's. The stages are not inlined, so that
+//! a profiler sees each.
+
+mod cells;
+mod direction;
+mod factor;
+mod fill;
+mod flat;
+mod length;
+mod map;
+mod settings;
+mod text;
+mod thresholds;
+mod trail;
+
+pub use map::{map, Grids};
+pub use settings::{Channel, Settings};
+pub use text::{read_grid, read_header, Header};
+
+/// Document 01, "Quantities": NoData as a height, as a code and as a factor.
+pub const NODATA: i32 = -999_900;
+pub const NO_CODE: u8 = 255;
+pub const NO_FACTOR: u32 = u32::MAX;
+
+/// Document 01, "Numbers of refusal": number and place.
+#[derive(Clone, Copy, Debug, PartialEq, Eq)]
+pub struct Refusal {
+    pub number: u32,
+    pub place: usize,
+}
+
+fn refuse<T>(number: u32, place: usize) -> Result<T, Refusal> {
+    Err(Refusal { number, place })
+}

@@ -1,0 +1,43 @@
+-- Settings as numbers: none is lost on the way, and a kind that is no rule is not accepted. Assumes nothing.
+use mathlib.Core.Path.{_≡_, refl, sym, ap}
+use mathlib.Core.Bool.{false}
+use Prim.Native.Nat.{ℕ, _≤_, _<_}
+use native.Mathlib.Omega.{arith}
+use borrow.Author.Tests.{ne-eqb}
+use lib.Ieee.{Float}
+use Rattle.settings.specs.Settings.{wholeOf, thresholdOf, thresholdAccepted, judgedOf}
+use Rattle.settings.specs.declared.Channel.{Channel}
+use Rattle.settings.specs.declared.Channel.the-variants.{Percentage, Cells, NoChannel}
+use Rattle.settings.specs.declared.Settings.{Settings}
+use Rattle.settings.specs.declared.Judged.the-variants.{Refused}
+use Rattle.settings.proofs.Cutoffs.{judged-channel}
+use Rattle.fullsize.specs.Crossing.{Numbers, noRule, channelOf, settingsOf, numbersWith, numbersOf}
+
+-- the settings of numbers that were handed out
+abbrev pub back : Numbers → Settings
+back n = settingsOf (n .low) (n .high) (n .kind) (n .cells) (n .percentage)
+
+back-with : (low high : Float) (rule : Channel) → back (numbersWith low high rule) ≡ record { low = low; high = high; channel = rule }
+unfolding numbersWith settingsOf channelOf
+back-with low high NoChannel = refl
+back-with low high (Cells n) = refl
+back-with low high (Percentage x) = refl
+
+pub back-numbers : (s : Settings) → back (numbersOf s) ≡ s
+unfolding numbersOf
+back-numbers s = back-with (s .low) (s .high) (s .channel)
+
+-- 101 percent is not accepted
+no-rule : thresholdAccepted (thresholdOf noRule) ≡ false
+unfolding thresholdAccepted thresholdOf noRule
+no-rule = refl
+
+other-rule : (kind cells : ℕ) (percentage : Float) → 2 < kind → channelOf kind cells percentage ≡ noRule
+unfolding channelOf
+other-rule kind cells percentage h = rw (ne-eqb kind 0 (λ e. omega arith), ne-eqb kind 1 (λ e. omega arith), ne-eqb kind 2 (λ e. omega arith))
+
+-- beside accepted cutoffs, any other kind is what is wrong: the third setting
+pub other-refused : (low high : Float) (kind cells : ℕ) (percentage : Float) → wholeOf 100 100 low ≤ 100 → wholeOf 100 100 high ≤ 100 → 2 < kind → judgedOf (settingsOf low high kind cells percentage) ≡ Refused 3
+unfolding settingsOf
+other-refused low high kind cells percentage l h k =
+    sym (judged-channel (settingsOf low high kind cells percentage) refl l refl h (thresholdOf noRule) (sym (ap thresholdOf (other-rule kind cells percentage k))) no-rule)

@@ -1,0 +1,21 @@
+-- `fullsize::lsmap_read_grid` meets its contract: what it hands out is the answer of the reader call, and the heights are those that it left. Assumes nothing.
+use mathlib.Core.Path.{_∙_, ap}
+use borrow.Author.Needs.{needs}
+use Rattle.fullsize.specs.Outcomes.{gridReading}
+use Rattle.fullsize.proofs.lsmap_read_grid.Statement.{statement}
+use Rattle.fullsize.proofs.lsmap_read_grid.Tie as tie
+
+read-grid-requires : tie.Need-read-grid-requires
+read-grid-requires c κs = search needs
+
+hand-out-reading-requires : tie.Need-hand-out-reading-requires
+hand-out-reading-requires c κs = search needs
+
+same-length : tie.Need-same-length
+same-length c = search needs
+
+returns : tie.Need-returns
+returns c = ap (λ o. gridReading o (c .before .before .before .before .before .before .before .read-grid .last .1 .0)) (c .hand-out-reading .ensures) ∙ c .before .before .before .before .before .before .before .read-grid .ensures
+
+pub lsmap-read-grid-spec : {M : Type 1} → statement M
+lsmap-read-grid-spec = tie.close (tie.spec read-grid-requires hand-out-reading-requires same-length returns)

@@ -1,0 +1,18 @@
+-- What a call gives, as the outcome that the wrapped call's promise speaks of: the number is the result, and the rest stands in the lent numbers. Assumes nothing.
+use Prim.Native.Nat.{ℕ}
+use mathlib.Core.List.{List}
+use lib.IntN.{ℤ, pos}
+use Rattle.text.specs.Answers.{Outcome, GridOutcome}
+use Rattle.terrain.specs.Answers.{Answer}
+
+-- of the header call and the reader call: number and place, and the four numbers
+abbrev pub reading : ℕ → ℕ → ℕ → ℕ → ℕ → ℤ → Outcome
+reading number place rows columns side noData = record { number = number; place = place; rows = rows; columns = columns; side = pos side; noData = noData }
+
+-- the same with the lent heights afterwards
+abbrev pub gridReading : Outcome → List ℤ → GridOutcome
+gridReading answer heights = record { answer = answer; heights = heights }
+
+-- of the map call: number and place, the number of valid cells and the steps of the longest trail
+abbrev pub mapping : ℕ → ℕ → ℕ → ℕ → Answer
+mapping number place valids longest = record { number = number; place = place; valids = valids; longest = longest }

@@ -1,0 +1,65 @@
+// An answer handed out: each number of it goes to its own place, and the number of the refusal is the result.
+ghost use mathlib.Core.Path.{_≡_};
+ghost use Rattle.text.specs.Answers.{outcomeOf};
+ghost use Rattle.terrain.specs.Answers.{told};
+ghost use Rattle.fullsize.specs.Outcomes.{reading, mapping};
+
+// Hands out the answer of a reading.
+pub(crate) fn hand_out_reading(
+    answer: text::Answer,
+    place: &mut usize,
+    rows: &mut usize,
+    columns: &mut usize,
+    side: &mut u32,
+    no_data: &mut i64,
+) -> u32
+    ensures { λ r. ⌜ reading r (now (place .exit)) (now (rows .exit)) (now (columns .exit)) (now (side .exit)) (now (no_data .exit)) ≡ outcomeOf answer ⌝ }
+{
+    match answer {
+        text::Answer::Accepted(header) => {
+            *place = 0;
+            *rows = header.rows;
+            *columns = header.columns;
+            *side = header.side;
+            let cm = header.no_data;
+            *no_data = cm;
+            0
+        }
+        text::Answer::Refused(refusal) => {
+            *place = refusal.place;
+            *rows = 0;
+            *columns = 0;
+            *side = 0;
+            *no_data = 0;
+            refusal.number
+        }
+    }
+}
+
+// Hands out the answer of a map call.
+pub(crate) fn hand_out_mapping(
+    answer: terrain::Answer,
+    place: &mut usize,
+    valid: &mut u32,
+    longest: &mut u32,
+) -> u32
+    ensures { λ r. ⌜ mapping r (now (place .exit)) (now (valid .exit)) (now (longest .exit)) ≡ told answer ⌝ }
+{
+    match answer {
+        terrain::Answer::Accepted {
+            valid: cells,
+            longest: steps,
+        } => {
+            *place = 0;
+            *valid = cells;
+            *longest = steps;
+            0
+        }
+        terrain::Answer::Refused(refusal) => {
+            *place = refusal.place;
+            *valid = 0;
+            *longest = 0;
+            refusal.number
+        }
+    }
+}

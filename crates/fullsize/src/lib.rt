@@ -1,0 +1,109 @@
+// The calls of the layers at full size, for a program in another language that lends the memory.
+//
+// Each call hands on what it is lent and gives the number of the refusal, 0 where the input is accepted; the place and the other
+// numbers go to single numbers that are lent too. The promise of each call is that of the call it wraps, for every input. No call has a
+// `requires`: a caller owes only what no call can see, that each pointer with its length is memory of its own.
+mod answers;
+mod crossing;
+
+ghost use mathlib.Core.Path.{_≡_};
+ghost use Rattle.text.specs.Answers.{headerAnswer, gridAnswer};
+ghost use Rattle.settings.specs.Settings.{defaultSettings};
+ghost use Rattle.terrain.specs.Drainage.{Trails, Totals, Surface};
+ghost use Rattle.factor.specs.Answers.{lent, answer, after};
+ghost use Rattle.fullsize.specs.Outcomes.{reading, gridReading, mapping};
+ghost use Rattle.fullsize.specs.Crossing.{numbers, numbersOf, settingsOf};
+use settings::Settings;
+
+// Reads the header alone: `text::read_header`.
+#[no_mangle]
+pub extern "C" fn lsmap_read_header(
+    text: &[u8],
+    place: &mut usize,
+    rows: &mut usize,
+    columns: &mut usize,
+    side: &mut u32,
+    no_data: &mut i64,
+) -> u32
+    ensures { λ r. ⌜ reading r (now (place .exit)) (now (rows .exit)) (now (columns .exit)) (now (side .exit)) (now (no_data .exit)) ≡ headerAnswer (now (text .entry)) ⌝ }
+{
+    let answer = text::read_header(text);
+    answers::hand_out_reading(answer, place, rows, columns, side, no_data)
+}
+
+// Reads the whole text into the lent heights: `text::read_grid`.
+#[no_mangle]
+pub extern "C" fn lsmap_read_grid(
+    text: &[u8],
+    heights: &mut [i32],
+    place: &mut usize,
+    rows: &mut usize,
+    columns: &mut usize,
+    side: &mut u32,
+    no_data: &mut i64,
+) -> u32
+    ensures { λ r. ⌜ gridReading (reading r (now (place .exit)) (now (rows .exit)) (now (columns .exit)) (now (side .exit)) (now (no_data .exit))) (now (heights .exit)) ≡ gridAnswer (now (heights .entry)) (now (text .entry)) ⌝ }
+{
+    let answer = text::read_grid(text, heights);
+    answers::hand_out_reading(answer, place, rows, columns, side, no_data)
+}
+
+// The library's default settings, as the numbers that `lsmap_map` takes: `Settings::default`.
+#[no_mangle]
+pub extern "C" fn lsmap_default_settings(
+    low: &mut f64,
+    high: &mut f64,
+    kind: &mut u32,
+    cells: &mut u32,
+    percentage: &mut f64,
+)
+    ensures { λ _. ⌜ numbers (now (low .exit)) (now (high .exit)) (now (kind .exit)) (now (cells .exit)) (now (percentage .exit)) ≡ numbersOf defaultSettings ⌝ }
+{
+    let settings = Settings::default();
+    crossing::hand_out(settings, low, high, kind, cells, percentage)
+}
+
+// Maps a ground into the lent grids: `factor::map`, with the settings of the five numbers.
+#[no_mangle]
+pub extern "C" fn lsmap_map(
+    rows: usize,
+    columns: usize,
+    side: u32,
+    low: f64,
+    high: f64,
+    kind: u32,
+    cells: u32,
+    percentage: f64,
+    ground: &[i32],
+    filled: &mut [i32],
+    direction: &mut [u8],
+    count: &mut [u32],
+    lengths: &mut [u64],
+    factors: &mut [u32],
+    workspace: &mut [u32],
+    place: &mut usize,
+    valid: &mut u32,
+    longest: &mut u32,
+) -> u32
+    ensures answers { λ r. ⌜ mapping r (now (place .exit)) (now (valid .exit)) (now (longest .exit)) ≡ answer rows columns side (settingsOf low high kind cells percentage) (now (ground .entry)) (lent (now (filled .entry)) (now (direction .entry)) (now (count .entry)) (now (lengths .entry)) (now (factors .entry)) (now (workspace .entry))) ⌝ }
+    ensures leaves { λ _. ⌜ lent (now (filled .exit)) (now (direction .exit)) (now (count .exit)) (now (lengths .exit)) (now (factors .exit)) (now (workspace .exit)) ≡ after rows columns side (settingsOf low high kind cells percentage) (now (ground .entry)) (lent (now (filled .entry)) (now (direction .entry)) (now (count .entry)) (now (lengths .entry)) (now (factors .entry)) (now (workspace .entry))) ⌝ }
+    ensures trails { λ r. ⌜ (r ≡ 0 → Trails rows columns (now (ground .entry)) (now (filled .exit)) (now (direction .exit))) ⌝ }
+    ensures totals { λ r. ⌜ (r ≡ 0 → Totals rows columns (now (direction .exit)) (now (count .exit)) (now (valid .exit))) ⌝ }
+    ensures surface { λ r. ⌜ (r ≡ 0 → Surface rows columns (now (ground .entry)) (now (filled .exit))) ⌝ }
+{
+    let settings = crossing::settings_of(low, high, kind, cells, percentage);
+    let answer = factor::map(
+        rows,
+        columns,
+        side,
+        settings,
+        ground,
+        filled,
+        direction,
+        count,
+        lengths,
+        factors,
+        workspace,
+    );
+    answers::hand_out_mapping(answer, place, valid, longest)
+}

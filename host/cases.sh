@@ -1,0 +1,94 @@
+# The cases of host/check, which reads this file.
+
+head='ncols 3 nrows 3 xllcorner 0 yllcorner 0 cellsize 10'
+
+# Sheets that are known: document 01's pit; and of the real grids the sums that the second program's sheets have, with
+# its limits of a printer (2,048 cells, 32,768 bytes) lifted for volcano.
+sheets() {
+    printf '%s\n5 5 5\n5 2 4\n5 5 5\n' "$head" >pit.asc
+    "$lsmap" pit.asc --channel none --grids grids >out
+    cmp out "$root/host/pit.txt" || fail "the pit's sheet"
+    [ "$(cat grids/length.txt)" = 'length rows 3 columns 3 type u64 side 1000' ] || fail "the description of a grid"
+    [ "$(od -An -td4 -v grids/filled.bin | tr -s ' \n' ' ')" = ' 500 500 500 500 400 400 500 500 500 ' ] || fail "the filled heights on disk"
+    [ "$(od -An -tu4 -v grids/ls.bin | tr -s ' \n' ' ')" = ' 33088 54379 54379 54379 0 4810 33088 54379 54379 ' ] || fail "LS on disk"
+    printf 'ncols 2 nrows 1 xllcorner 0 yllcorner 0 cellsize 1000\n-5 -9999\n' >long.asc
+    printf '1 2 100000 1 0\n0 0 -500 -500 0 1 5000 long\n0 1 - - - - - -\n' >wanted
+    "$lsmap" long.asc --channel none | cmp - wanted || fail "NoData and too long"
+    data=${DATA:-$root/../shared/data}
+    [ -d "$data" ] || { echo "host/check: no $data, the real grids are skipped"; return; }
+    while read -r name sum; do
+        "$lsmap" "$data/$name.asc" --channel none >out
+        [ "$(cksum <out | cut -d' ' -f1)" = "$sum" ] || fail "the sheet of $name"
+    done <"$root/host/sums.txt"
+}
+
+# Files that are no field.
+files() {
+    printf '%s\n12,5 5 5\n5 2 4\n5 5 5\n' "$head" >comma.asc
+    stops 1 'refused 7 at 52' 'comma.asc: refused 7 at 52 (line 2, column 1, at `12,5`): expected a number' comma.asc
+    stops 1 'refused 7 at 52' 'decimals take a point and no comma' comma.asc
+    printf '%s\n5 5 5\n5 2 4\n' "$head" >short.asc
+    stops 1 'refused 9 at 64' '(line 4, column 1, at the end of the text): the text ends too early' short.asc
+    stops 1 'refused 9 at 64' 'the header asks for 3 rows of 3 heights' short.asc
+    printf '\357\273\277%s\n5 5 5\n5 2 4\n5 5 5\n' "$head" >bom.asc
+    stops 1 'refused 6 at 0' 'byte order mark' bom.asc
+    printf '%s\n5 5 5\n5 2 4\n5 5 5\nend\n' "$head" >more.asc
+    stops 1 'refused 10 at 70' '(line 5, column 1, at `end`): nothing may follow' more.asc
+    : >empty.asc
+    stops 1 'refused 9 at 0' 'the file is empty' empty.asc
+    head -c 200000000 /dev/zero | tr '\0' 7 >digits.asc
+    stops 1 'refused 6 at 0' 'at `777777777777777777777777..`): expected the header' digits.asc
+    rm digits.asc
+    mkdir folder.asc
+    stops 2 '' 'cannot read folder.asc: Is a directory' folder.asc
+    stops 2 '' 'cannot read missing.asc: No such file or directory' missing.asc
+}
+
+# lengths HEIGHTS WORDS...: the slope lengths of a strip of heights.
+lengths() {
+    printf 'ncols %d nrows 1 xllcorner 0 yllcorner 0 cellsize 10 %s\n' "$(echo "$1" | wc -w)" "$1" >strip.asc
+    shift
+    "$lsmap" strip.asc "$@" | awk 'NR > 1 { printf " %s", $7 }'
+}
+
+# Document 01's strips, by which each flag shows that it reaches the library as the setting that it names.
+settings() {
+    [ "$(lengths '9 8 7 5' --channel none)" = ' 5000 15000 25000 0' ] || fail "cutoffs 0.5"
+    [ "$(lengths '9 8 7 5' --channel none --low 1.0 --high 1.0)" = ' 5000 15000 25000 35000' ] || fail "cutoffs 1.0"
+    [ "$(lengths '9 7 6' --channel none --high 0.51)" = ' 5000 15000 0' ] || fail "the high cutoff"
+    [ "$(lengths '9 8 7 5' --channel none --low 1.0)" = ' 5000 15000 25000 35000' ] || fail "the low cutoff"
+    [ "$(lengths '9 8 7 6' --channel cells:2)" = ' 5000 15000 0 0' ] || fail "a number of cells"
+    [ "$(lengths '9 8 7 6' --channel percent:75.0)" = ' 5000 15000 25000 0' ] || fail "a percentage"
+}
+
+# Settings that the library refuses, and words that are no flags.
+flags() {
+    stops 1 'refused 4 at 1' '--low is a cutoff' pit.asc --low 0.505
+    stops 1 'refused 4 at 1' '--low is a cutoff' pit.asc --low nan --high 2
+    stops 1 'refused 4 at 2' '--high is a cutoff' pit.asc --high 1.01
+    stops 1 'refused 4 at 3' '--channel percent:P takes' pit.asc --channel percent:100.1
+    stops 2 '' '--low: "half" is not a number' pit.asc --low half
+    stops 2 '' '--channel cells:N: "1.5" is not a number' pit.asc --channel cells:1.5
+    stops 2 '' '--channel: "some" is none of none, cells:N, percent:P' pit.asc --channel some
+    stops 2 '' '--deep: no such flag' pit.asc --deep
+    stops 2 '' 'one field at a time' pit.asc pit.asc
+    stops 2 '' 'no FIELD.asc is named'
+    "$lsmap" pit.asc --verbose 2>&1 >out | grep -qx 'lsmap: low 0.5, high 0.5, channel percent:1' || fail "the defaults"
+    "$lsmap" pit.asc --channel percent:1.0 --low 0.5 --high 0.5 | cmp - out || fail "the defaults as flags"
+    "$lsmap" --help | grep -q 'Exit status' || fail "--help"
+    got=0
+    "$lsmap" pit.asc --grids pit.asc >out 2>err || got=$?
+    [ "$got" -eq 2 ] && [ ! -s out ] && grep -q 'cannot make pit.asc' err || fail "grids into a file"
+}
+
+# A rough field of full size, on 64 KiB of stack; the library asks the system for no memory.
+full_size() {
+    awk 'BEGIN { srand(1); print "ncols 1024 nrows 1024 xllcorner 0 yllcorner 0 cellsize 5"
+        for (r = 0; r < 1024; r++) { line = ""; for (c = 0; c < 1024; c++) line = line sprintf("%.2f ", 300 + r / 50 + 9 * sin(c / 60) + rand()); print line } }' >full.asc
+    "$root/target/stack" full.asc | grep -q '^accepted' || fail "the calls want more than 64 KiB of stack"
+    "$lsmap" full.asc --grids grids >out
+    [ "$(wc -l <out)" -eq 1048577 ] || fail "the sheet of full size"
+    [ "$(wc -c <grids/length.bin)" -eq 8388608 ] || fail "the grids of full size"
+    wanted=$(nm -u "$root/target/staticlib/libfullsize.a" | grep ' U ' | grep -v ' mem[a-z]*$' || true)
+    [ -z "$wanted" ] || fail "the library calls $wanted"
+}

@@ -1,0 +1,180 @@
+//! The calls of crates/fullsize, with each `&[T]` as a pointer and a length. The declarations here have to
+//! agree with crates/fullsize/src/lib.rt; nothing checks that but host/check.
+
+unsafe extern "C" {
+    fn lsmap_read_header(
+        text: *const u8,
+        text_len: usize,
+        place: &mut usize,
+        rows: &mut usize,
+        columns: &mut usize,
+        side: &mut u32,
+        no_data: &mut i64,
+    ) -> u32;
+
+    fn lsmap_read_grid(
+        text: *const u8,
+        text_len: usize,
+        heights: *mut i32,
+        heights_len: usize,
+        place: &mut usize,
+        rows: &mut usize,
+        columns: &mut usize,
+        side: &mut u32,
+        no_data: &mut i64,
+    ) -> u32;
+
+    fn lsmap_default_settings(low: &mut f64, high: &mut f64, kind: &mut u32, cells: &mut u32, percentage: &mut f64);
+
+    fn lsmap_map(
+        rows: usize,
+        columns: usize,
+        side: u32,
+        low: f64,
+        high: f64,
+        kind: u32,
+        cells: u32,
+        percentage: f64,
+        ground: *const i32,
+        ground_len: usize,
+        filled: *mut i32,
+        filled_len: usize,
+        direction: *mut u8,
+        direction_len: usize,
+        count: *mut u32,
+        count_len: usize,
+        lengths: *mut u64,
+        lengths_len: usize,
+        factors: *mut u32,
+        factors_len: usize,
+        workspace: *mut u32,
+        workspace_len: usize,
+        place: &mut usize,
+        valid: &mut u32,
+        longest: &mut u32,
+    ) -> u32;
+}
+
+/// A refusal's number and place.
+#[derive(Clone, Copy)]
+pub struct Refusal {
+    pub number: u32,
+    pub place: usize,
+}
+
+/// What the header says; the side is in cm.
+#[derive(Clone, Copy, Default)]
+pub struct Header {
+    pub rows: usize,
+    pub columns: usize,
+    pub side: u32,
+    pub no_data: i64,
+}
+
+/// The two cutoffs and the channel rule as the library takes them: kind 0 is none, 1 cells, 2 a percentage.
+#[derive(Clone, Copy, Default)]
+pub struct Settings {
+    pub low: f64,
+    pub high: f64,
+    pub kind: u32,
+    pub cells: u32,
+    pub percentage: f64,
+}
+
+/// The grids of a map, one value per cell in row order.
+pub struct Grids {
+    pub filled: Vec<i32>,
+    pub direction: Vec<u8>,
+    pub count: Vec<u32>,
+    pub lengths: Vec<u64>,
+    pub factors: Vec<u32>,
+    pub workspace: Vec<u32>,
+}
+
+/// The number of valid cells and the steps of the longest trail.
+#[derive(Clone, Copy, Default)]
+pub struct Totals {
+    pub valid: u32,
+    pub longest: u32,
+}
+
+impl Grids {
+    /// Grids for so many cells, to be lent.
+    pub fn new(cells: usize) -> Grids {
+        Grids {
+            filled: vec![0; cells],
+            direction: vec![0; cells],
+            count: vec![0; cells],
+            lengths: vec![0; cells],
+            factors: vec![0; cells],
+            workspace: vec![0; cells],
+        }
+    }
+}
+
+fn answer<T>(number: u32, place: usize, value: T) -> Result<T, Refusal> {
+    if number == 0 { Ok(value) } else { Err(Refusal { number, place }) }
+}
+
+/// Reads the header alone.
+pub fn read_header(text: &[u8]) -> Result<Header, Refusal> {
+    let (mut place, mut h) = (0, Header::default());
+    let number = unsafe {
+        lsmap_read_header(
+            text.as_ptr(),
+            text.len(),
+            &mut place,
+            &mut h.rows,
+            &mut h.columns,
+            &mut h.side,
+            &mut h.no_data,
+        )
+    };
+    answer(number, place, h)
+}
+
+/// Reads the whole text into the heights, in cm.
+pub fn read_grid(text: &[u8], heights: &mut [i32]) -> Result<Header, Refusal> {
+    let (mut place, mut h) = (0, Header::default());
+    let number = unsafe {
+        lsmap_read_grid(
+            text.as_ptr(),
+            text.len(),
+            heights.as_mut_ptr(),
+            heights.len(),
+            &mut place,
+            &mut h.rows,
+            &mut h.columns,
+            &mut h.side,
+            &mut h.no_data,
+        )
+    };
+    answer(number, place, h)
+}
+
+/// The library's default settings.
+pub fn default_settings() -> Settings {
+    let mut s = Settings::default();
+    unsafe { lsmap_default_settings(&mut s.low, &mut s.high, &mut s.kind, &mut s.cells, &mut s.percentage) };
+    s
+}
+
+/// Maps the ground into the grids.
+pub fn map(h: Header, s: Settings, ground: &[i32], g: &mut Grids) -> Result<Totals, Refusal> {
+    let (mut place, mut t) = (0, Totals::default());
+    #[rustfmt::skip]
+    let number = unsafe {
+        lsmap_map(
+            h.rows, h.columns, h.side, s.low, s.high, s.kind, s.cells, s.percentage,
+            ground.as_ptr(), ground.len(),
+            g.filled.as_mut_ptr(), g.filled.len(),
+            g.direction.as_mut_ptr(), g.direction.len(),
+            g.count.as_mut_ptr(), g.count.len(),
+            g.lengths.as_mut_ptr(), g.lengths.len(),
+            g.factors.as_mut_ptr(), g.factors.len(),
+            g.workspace.as_mut_ptr(), g.workspace.len(),
+            &mut place, &mut t.valid, &mut t.longest,
+        )
+    };
+    answer(number, place, t)
+}

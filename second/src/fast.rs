@@ -1,0 +1,46 @@
+//! The map once more in near-linear time, for grids of full size. States document 01 from "Filling and directions" to
+//! "LS", as `map.rs` does; the self-check holds the two together.
+
+mod downhill;
+mod flood;
+mod flow;
+mod land;
+mod table;
+
+use crate::direction::Flow;
+use crate::factor::NO_FACTOR;
+use crate::grid::Shape;
+use crate::map::{judge, Map};
+use crate::refusal::Refusal;
+use crate::settings::Settings;
+use downhill::Downhill;
+use land::Land;
+pub use table::Table;
+
+/// LS of every place; NoData places have none.
+fn factors(land: &Land, side: i64, table: &Table, steepness: &[i64], length: &[u64]) -> Vec<u32> {
+    let mut factor = vec![NO_FACTOR; land.places()];
+    land.cells().for_each(|cell| factor[cell] = table.factor(length[cell], steepness[cell], side));
+    factor
+}
+
+/// The map of a ground, or the refusal.
+pub fn map(table: &Table, shape: Shape, side: i64, ground: &[i32], settings: Settings) -> Result<Map, Refusal> {
+    let percents = judge(shape, side, ground, settings)?;
+    let land = Land::of(shape, ground);
+    let filled = flood::filled(&land);
+    let flow = flow::flow(&land, &filled);
+    let downhill = Downhill::of(&land, &flow);
+    let count = downhill.counts();
+    let length = downhill.lengths(&flow, &count, side, &percents);
+    let factor = factors(&land, side, table, &flow.steepness, &length);
+    Ok(Map {
+        filled: land.inner(&filled),
+        flow: Flow { direction: land.inner(&flow.direction), steepness: land.inner(&flow.steepness) },
+        count: land.inner(&count),
+        length: land.inner(&length),
+        factor: land.inner(&factor),
+        valid: land.cells().count(),
+        longest: downhill.longest(),
+    })
+}

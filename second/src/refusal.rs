@@ -1,0 +1,25 @@
+//! A refusal: its number and its place. States document 01, "Numbers of refusal".
+
+/// "returns number and place".
+#[derive(Clone, Copy, Debug, PartialEq, Eq)]
+pub struct Refusal {
+    pub number: u32,
+    pub place: usize,
+}
+
+/// The answer of a call that refuses.
+pub fn refuse<T>(number: u32, place: usize) -> Result<T, Refusal> {
+    Err(Refusal { number, place })
+}
+
+pub const SHAPE: u32 = 1;
+pub const LENT: u32 = 2;
+pub const SIDE: u32 = 3;
+pub const SETTING: u32 = 4;
+pub const HEIGHT: u32 = 5;
+pub const NAME: u32 = 6;
+pub const FORM: u32 = 7;
+pub const FINE: u32 = 8;
+pub const ENDS: u32 = 9;
+pub const AFTER: u32 = 10;
+pub const PRINTER: u32 = 11;

@@ -1,0 +1,163 @@
+//! The rules in a second way, over seeded fields: filled heights by thresholds, flats by a search from each cell,
+//! counts by sums, lengths by sweeps, L in words of 128 bits. Serves the self-check.
+
+use crate::direction::NO_DIRECTION;
+use crate::factor::slope_length_factor;
+use crate::fields::{self, Field};
+use crate::fill::rim;
+use crate::grid::{Shape, NODATA};
+use crate::length::Terrain;
+use crate::map::{map, Map};
+use crate::seed::Seed;
+use crate::settings::{percents, Channel, Settings};
+use crate::spelling::{text, Manner};
+use crate::text::{read_grid, read_header};
+use crate::trail::onward;
+
+/// L without powers above the fifth, where both sides are the same power, and else in 128 bits where they fit.
+fn reaches_in_words(t: u128, k: u32, mm: u128) -> Option<bool> {
+    // 2,212,848 and 100·mm in lowest terms.
+    let (left, right) = (553_212_u128, 25 * mm);
+    let (power, of_t) = match k {
+        5 => (1, 2),
+        4 => (2, 5),
+        3 => (3, 10),
+        _ => (1, 5),
+    };
+    let t_side = t.pow(of_t).checked_mul(left.pow(power))?;
+    Some(t_side <= right.pow(power).checked_mul(100_u128.pow(of_t))?)
+}
+
+/// The factor L by big numbers against words of 128 bits, every so many mm.
+pub fn factors_in_words() {
+    for mm in (0..304_800).step_by(97).chain([22_128, 22_129, 88_513, 88_514, 304_800]) {
+        for k in 2..=5 {
+            let t = slope_length_factor(k, mm);
+            let [reached, next] = [t, t + 1].map(|t| reaches_in_words(t.into(), k, mm.into()));
+            assert!(reached != Some(false) && next != Some(true), "t = {t} at {mm} mm for k = {k}");
+        }
+    }
+}
+
+/// The filled height by thresholds: the least height up to which the ground can be walked from a rim cell.
+fn filled_by_thresholds(shape: Shape, ground: &[i32]) -> Vec<i32> {
+    let mut levels: Vec<i32> = ground.iter().copied().filter(|&height| height != NODATA).collect();
+    levels.sort();
+    levels.dedup();
+    let mut filled = vec![NODATA; shape.cells()];
+    for level in levels {
+        let open = |cell: usize| ground[cell] != NODATA && ground[cell] <= level;
+        let mut seen: Vec<bool> = (0..shape.cells()).map(|cell| open(cell) && rim(shape, ground, cell)).collect();
+        let mut waiting: Vec<usize> = (0..shape.cells()).filter(|&cell| seen[cell]).collect();
+        while let Some(cell) = waiting.pop() {
+            filled[cell] = if filled[cell] == NODATA { level } else { filled[cell] };
+            let around = shape.neighbours(cell).map(|(_, next)| next);
+            let fresh: Vec<usize> = around.filter(|&next| open(next) && !seen[next]).collect();
+            fresh.iter().for_each(|&next| seen[next] = true);
+            waiting.extend(fresh);
+        }
+    }
+    filled
+}
+
+/// The count of a cell is 1 and the counts of its inflows, and the counts of the cells where trails leave add up.
+fn counts_by_inflows(shape: Shape, map: &Map) {
+    let mut sums: Vec<u32> = map.flow.direction.iter().map(|&code| u32::from(code != NO_DIRECTION)).collect();
+    for cell in 0..shape.cells() {
+        if let Some(next) = onward(shape, &map.flow.direction, cell) {
+            sums[next] += map.count[cell];
+        }
+    }
+    assert_eq!(sums, map.count);
+    let leaving = (0..shape.cells()).filter(|&cell| map.flow.direction[cell] == 0);
+    assert_eq!(leaving.map(|cell| map.count[cell] as usize).sum::<usize>(), map.valid);
+}
+
+/// The fewest steps from one cell over its own filled height to a rim cell or a cell with a lower neighbour, by a
+/// search from that cell.
+fn steps_by_search(shape: Shape, ground: &[i32], map: &Map, from: usize) -> usize {
+    let ends = |&cell: &usize| rim(shape, ground, cell) || map.flow.steepness[cell] > 0;
+    let (mut reached, mut steps) = (vec![from], 0);
+    while !reached.iter().any(ends) {
+        let around = reached.iter().flat_map(|&cell| shape.neighbours(cell)).map(|(_, next)| next);
+        reached = around.filter(|&next| map.filled[next] == map.filled[from]).chain([from]).collect();
+        reached.sort();
+        reached.dedup();
+        steps += 1;
+    }
+    steps
+}
+
+/// A cell without a lower neighbour, not on the rim, points at the first equal one that is one step nearer.
+fn flats_by_search(shape: Shape, ground: &[i32], map: &Map) {
+    let flat = |cell: usize| map.count[cell] > 0 && map.flow.steepness[cell] == 0 && !rim(shape, ground, cell);
+    for cell in (0..shape.cells()).filter(|&cell| flat(cell)) {
+        let steps = steps_by_search(shape, ground, map, cell);
+        let equal = |next: usize| map.filled[next] == map.filled[cell];
+        let nearer = |next: usize| equal(next) && steps_by_search(shape, ground, map, next) + 1 == steps;
+        let first = shape.neighbours(cell).find(|&(_, next)| nearer(next)).map(|(side, _)| side.code);
+        assert_eq!(Some(map.flow.direction[cell]), first);
+    }
+}
+
+/// The longest trail is the greatest number of rounds in which some cell still has an onward cell.
+fn longest_by_rounds(shape: Shape, map: &Map) {
+    let mut walkers: Vec<usize> = (0..shape.cells()).filter(|&cell| map.count[cell] > 0).collect();
+    let mut rounds = 0;
+    loop {
+        walkers = walkers.iter().filter_map(|&cell| onward(shape, &map.flow.direction, cell)).collect();
+        if walkers.is_empty() {
+            return assert_eq!(rounds, map.longest);
+        }
+        rounds += 1;
+    }
+}
+
+/// Lengths by sweeps from zeros until nothing changes.
+fn lengths_by_sweeps(shape: Shape, side: i64, map: &Map, settings: Settings) -> Vec<u64> {
+    let percents = percents(settings).expect("accepted before");
+    let terrain = Terrain { shape, side, flow: &map.flow, count: &map.count, percents: &percents };
+    let largest = terrain.largest();
+    let mut length = vec![0; shape.cells()];
+    loop {
+        let measured = |cell| if map.count[cell] == 0 { 0 } else { terrain.measured(&length, largest, cell) };
+        let swept: Vec<u64> = (0..shape.cells()).map(measured).collect();
+        if swept == length {
+            return length;
+        }
+        length = swept;
+    }
+}
+
+/// Settings of every kind.
+pub fn any_settings(seed: &mut Seed) -> Settings {
+    let (tenths, cells) = (seed.below(1_001) as f64 / 10.0, seed.below(20) as u32);
+    let channel = *seed.pick(&[Channel::None, Channel::Percentage(tenths), Channel::Cells(cells)]);
+    Settings { low: seed.below(101) as f64 / 100.0, high: seed.below(101) as f64 / 100.0, channel }
+}
+
+/// The reader gives a field back, and the map's grids hold in the second way too.
+pub fn field(number: usize) {
+    let mut seed = Seed::of(1, number as u64);
+    let shape = Shape { rows: 1 + seed.below(12), columns: 1 + seed.below(12) };
+    let field = fields::field(&mut seed, number % fields::RELIEFS.len(), shape);
+    let ground: Vec<i32> = field.heights.iter().map(|height| height.map_or(NODATA, |height| height as i32)).collect();
+    read_back(&mut seed, &field, &ground);
+    let settings = any_settings(&mut seed);
+    let map = map(shape, field.side, &ground, settings).expect("a field is accepted");
+    assert_eq!(map.filled, filled_by_thresholds(shape, &ground));
+    flats_by_search(shape, &ground, &map);
+    counts_by_inflows(shape, &map);
+    longest_by_rounds(shape, &map);
+    assert_eq!(map.length, lengths_by_sweeps(shape, field.side, &map, settings));
+}
+
+/// A field's text is read as that field.
+fn read_back(seed: &mut Seed, field: &Field, ground: &[i32]) {
+    let bytes = text(seed, Manner::Mixed, field).bytes;
+    let mut lent = vec![0; ground.len()];
+    let header = read_grid(&bytes, &mut lent).expect("a field's text is accepted");
+    assert_eq!(read_header(&bytes), Ok(header));
+    assert_eq!((header.shape, header.side, header.nodata), (field.shape, field.side, field.nodata.unwrap_or(-999_900)));
+    assert_eq!(lent, ground);
+}

@@ -1,0 +1,34 @@
+//! Trails, flow counts and the longest trail, each trail walked cell by cell. States document 01, "Filling and
+//! directions", its paragraphs on trails and flow count.
+
+use crate::direction::NO_DIRECTION;
+use crate::grid::{side_of, Shape};
+
+/// Flow counts and the longest trail in steps between cells.
+pub struct Trails {
+    pub count: Vec<u32>,
+    pub longest: usize,
+}
+
+/// "it goes on to the neighbour that the direction points at; at a cell with direction 0 it ends".
+pub fn onward(shape: Shape, direction: &[u8], cell: usize) -> Option<usize> {
+    side_of(direction[cell]).and_then(|side| shape.neighbour(cell, side))
+}
+
+/// "A trail begins at a valid cell": all its cells, the first one included.
+fn trail(shape: Shape, direction: &[u8], cell: usize) -> Vec<usize> {
+    std::iter::successors(Some(cell), |&at| onward(shape, direction, at)).collect()
+}
+
+/// "Flow count: the number of valid cells whose trail passes the cell, itself included"; "the longest trail, in
+/// steps between cells; leaving the map is no step, and an empty map has 0".
+pub fn trails(shape: Shape, direction: &[u8]) -> Trails {
+    let mut count = vec![0; shape.cells()];
+    let mut longest = 0;
+    for cell in (0..shape.cells()).filter(|&cell| direction[cell] != NO_DIRECTION) {
+        let passed = trail(shape, direction, cell);
+        passed.iter().for_each(|&at| count[at] += 1);
+        longest = longest.max(passed.len() - 1);
+    }
+    Trails { count, longest }
+}
