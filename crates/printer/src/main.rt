@@ -8,7 +8,7 @@ use settings::Settings;
 // One byte more than a text may have is read, so that a longer text shows; and no sheet is longer than its room.
 fn print(rules: Settings) {
     let mut text = [0u8; 32769];
-    let mut lines = [0u8; 327680];
+    let mut lines = sheet::room();
     let length = io::read_full(STDIN_FILENO, &mut text);
     let end = sheet::print(&text[..length], rules, &mut lines);
     io::write_all(STDOUT_FILENO, &lines[..end]);

@@ -2,12 +2,13 @@
 use mathlib.Core.Path.{_≡_, sym, subst, _∙_}
 use mathlib.Core.List.{List}
 use Prim.Native.Nat.{ℕ, _≤_}
-use lib.ListN.{length, take, replicate, length-replicate}
+use lib.ListN.{length, take}
 use lib.Seq.{length-take-le}
 
-module _ (room : List ℕ) (r : ℕ) (kept : length room ≡ length (replicate {A = ℕ} 327680 0)) (fits : r ≤ 327680) where
+-- what stood in the room before, and what stands there with the sheet of r bytes
+module _ (before room : List ℕ) {r : ℕ} (long : 327680 ≡ length before) (kept : length room ≡ length before) (fits : r ≤ 327680) where
   pub in-room : r ≤ length room
-  in-room = subst (λ (n : ℕ). r ≤ n) (sym (kept ∙ length-replicate {A = ℕ} 327680 0)) fits
+  in-room = subst (λ (n : ℕ). r ≤ n) (long ∙ sym kept) fits
 
   pub part-of-room : r ≡ length (take r room)
   part-of-room = sym (length-take-le r room in-room)

@@ -150,3 +150,10 @@ pub fn print(text: &[u8], settings: Settings, sheet: &mut [u8]) -> usize
     }
     print_grid(text, head, settings, sheet)
 }
+
+// A room that every sheet fits. The promise gives its length alone, which is what lending it needs.
+pub fn room() -> [u8; 327680]
+    ensures { λ r. ⌜ 327680 ≡ length r ⌝ }
+{
+    [0; 327680]
+}

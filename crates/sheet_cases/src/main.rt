@@ -2,6 +2,8 @@
 // and then those bytes. What must be printed, the file `stdout`, comes from a second program that was written for itself.
 mod frames;
 
+ghost use mathlib.Core.Path.{_≡_};
+ghost use lib.ListN.{length};
 use frames::Frame;
 use libc::STDIN_FILENO;
 use libc::STDOUT_FILENO;
@@ -10,7 +12,7 @@ use settings::Settings;
 
 // Prints one text's sheet, with cutoffs 0.5 and no channels.
 fn print_case(number: usize, text: &[u8]) {
-    let mut lines = [0u8; 327680];
+    let mut lines = sheet::room();
     let rules = Settings {
         low: 0.5,
         high: 0.5,
@@ -38,8 +40,15 @@ fn print_cases(stream: &[u8]) {
     }
 }
 
+// Room for a stream. The contract gives its length alone, which is what lending it needs.
+fn room() -> [u8; 524288]
+    ensures { λ r. ⌜ 524288 ≡ length r ⌝ }
+{
+    [0; 524288]
+}
+
 fn main() {
-    let mut stream = [0u8; 524288];
+    let mut stream = room();
     let length = io::read_full(STDIN_FILENO, &mut stream);
     print_cases(&stream[..length]);
 }

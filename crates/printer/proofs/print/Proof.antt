@@ -1,8 +1,11 @@
--- `printer::print` is safe: the sheet fits its room. Assumes nothing.
-use Rattle.sheet.proofs.Rooms.{in-room, part-of-room}
+-- `printer::print` is safe: the sheet is a part of its room. Assumes nothing.
+use Rattle.sheet.proofs.Rooms.{part-of-room}
 use borrow.Author.Needs.{needs}
 use Rattle.printer.proofs.print.Statement.{statement}
 use Rattle.printer.proofs.print.Tie as tie
+
+room-requires : tie.Need-room-requires
+room-requires c κs = search needs
 
 slice-aggregate-read-full : tie.Need-slice-aggregate-read-full
 slice-aggregate-read-full c = search needs
@@ -23,10 +26,10 @@ print-requires : tie.Need-print-requires
 print-requires c κs = search needs
 
 array-share-prefix-lines : tie.Need-array-share-prefix-lines
-array-share-prefix-lines c = let put = c .before .print in in-room (put .last .1 .1 .0) (put .result) (put .kept .1 .1 .0) (put .ensures .1 .1)
+array-share-prefix-lines c = search needs
 
 slice-aggregate-write-all : tie.Need-slice-aggregate-write-all
-slice-aggregate-write-all c = let put = c .before .before .print in part-of-room (put .last .1 .1 .0) (put .result) (put .kept .1 .1 .0) (put .ensures .1 .1)
+slice-aggregate-write-all c = let put = c .before .before .print in part-of-room (c .before .before .before .before .before .before .before .before .room .result) (put .last .1 .1 .0) (c .before .before .before .before .before .before .before .before .room .ensures) (put .kept .1 .1 .0) (put .ensures .1 .1)
 
 write-all-requires : tie.Need-write-all-requires
 write-all-requires c κs = search needs
@@ -38,6 +41,7 @@ pub print-spec : {M : Type 1} → statement M
 print-spec =
     tie.close
     (tie.spec
+    room-requires
     slice-aggregate-read-full
     read-full-requires
     array-share-prefix-text

@@ -1,8 +1,11 @@
--- `sheet_cases::print_case` is safe: the sheet fits its room. Assumes nothing.
-use Rattle.sheet.proofs.Rooms.{in-room, part-of-room}
+-- `sheet_cases::print_case` is safe: the sheet is a part of its room. Assumes nothing.
+use Rattle.sheet.proofs.Rooms.{part-of-room}
 use borrow.Author.Needs.{needs}
 use Rattle.sheet_cases.proofs.print_case.Statement.{statement}
 use Rattle.sheet_cases.proofs.print_case.Tie as tie
+
+room-requires : tie.Need-room-requires
+room-requires c κs = search needs
 
 slice-aggregate-print : tie.Need-slice-aggregate-print
 slice-aggregate-print c = search needs
@@ -26,10 +29,10 @@ write-all-requires-2 : tie.Need-write-all-requires-2
 write-all-requires-2 c κs = search needs
 
 array-share-prefix-lines : tie.Need-array-share-prefix-lines
-array-share-prefix-lines c = let put = c .before .before .before .before .before .before .print in in-room (put .last .1 .1 .0) (put .result) (put .kept .1 .1 .0) (put .ensures .1 .1)
+array-share-prefix-lines c = search needs
 
 slice-aggregate-write-all-3 : tie.Need-slice-aggregate-write-all-3
-slice-aggregate-write-all-3 c = let put = c .before .before .before .before .before .before .before .print in part-of-room (put .last .1 .1 .0) (put .result) (put .kept .1 .1 .0) (put .ensures .1 .1)
+slice-aggregate-write-all-3 c = let put = c .before .before .before .before .before .before .before .print in part-of-room (c .before .before .before .before .before .before .before .before .before .room .result) (put .last .1 .1 .0) (c .before .before .before .before .before .before .before .before .before .room .ensures) (put .kept .1 .1 .0) (put .ensures .1 .1)
 
 write-all-requires-3 : tie.Need-write-all-requires-3
 write-all-requires-3 c κs = search needs
@@ -41,6 +44,7 @@ pub print-case-spec : {M : Type 1} → statement M
 print-case-spec =
     tie.close
     (tie.spec
+    room-requires
     slice-aggregate-print
     print-requires
     slice-aggregate-write-all
