@@ -1,12 +1,12 @@
 -- The cells of trails as the code counts them: one more than those of the cell that a cell points at, and the longest trail from the most of them. Assumes nothing.
 use mathlib.Core.Path.{_≡_, refl, sym, ap, subst, _∙_}
 use mathlib.Core.List.{List}
-use mathlib.Core.Logic.{⊎-elim}
+use mathlib.Core.Logic.{_⊎_, ⊎-elim}
 use mathlib.Core.Bool.{Bool, true, false}
 use Prim.Native.Nat.{ℕ, zero, suc, _+_, _-_, _*_, _≤_, _<_}
 use native.Mathlib.Omega.{arith}
 use native.Mathlib.Decide.{ℕ-discrete}
-use lib.ListN.{getD, set, replicate, length-set, length-replicate, List·getD-eq-default}
+use lib.ListN.{length, getD, set, replicate, length-set, length-replicate, List·getD-eq-default}
 use lib.Seq.{getD-set-same, getD-set-other}
 use Rattle.laws.specs.Sums.{greatestTo, when}
 use Rattle.laws.proofs.Tests.{two}
@@ -83,6 +83,13 @@ module _ {rows cols : ℕ} {dir : List ℕ} (d : Directed rows cols dir) where
         long = length-replicate n 0 ∙ e;
         right = (λ x h. absurd (omega (arith, getD-zeros n x)));
       }
+
+  -- what is known of the cell y that a cell points at, and what is then noted of that cell
+  pub known-there : {known : List ℕ} (y : ℕ) → Known rows cols dir known → (0 < getD known y 0) ⊎ (length known ≤ y) → getD known y 0 ≡ cellsOf rows cols dir y
+  known-there {known} y k = ⊎-elim (λ p. k .right y p) (λ o. List·getD-eq-default known 0 {n = y} o ∙ sym (cells-off y (omega (arith, k .long))))
+
+  pub known-next : (x : ℕ) {y n : ℕ} → mappedAt rows cols dir x ≡ true → y ≡ receiverOf rows cols dir x → n ≡ cellsOf rows cols dir y → n + 1 ≡ cellsOf rows cols dir x
+  known-next x v e i = omega (arith, i, ap (cellsOf rows cols dir) e, cells-next x v)
 
   pub known-more : {known : List ℕ} {x v : ℕ} → x < rows * cols → Known rows cols dir known → v ≡ cellsOf rows cols dir x → Known rows cols dir (set known x v)
   known-more {known} {x} {v} h k e =

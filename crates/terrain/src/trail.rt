@@ -3,6 +3,7 @@
 // no trail is a ring, only the flow counts pass; counts that did not would be raised from zero until they do.
 ghost use mathlib.Core.Path.{_≡_};
 ghost use mathlib.Core.Bool.{true, not};
+ghost use mathlib.Core.Logic.{_⊎_};
 ghost use Prim.Native.Nat.{ℕ, _*_, _≤_, _<_};
 ghost use lib.ListN.{length, getD, replicate};
 ghost use lib.Dec.{ltb, eqb};
@@ -154,31 +155,48 @@ fn hand_on(count: &mut [u32], waiting: &mut [u32], x: usize, y: usize) -> u32
     waiting[y]
 }
 
-// Hands counts on along the trail from a cell that waits for nothing, as far as no cell waits.
+// Notes the cell x at a place of the order, as far as there is room. The next place.
+fn note_turn(order: &mut [u32], place: usize, x: usize) -> usize
+    requires { ⌜ x < 1048576 ⌝ }
+{
+    if order.len() <= place {
+        return place;
+    }
+    order[place] = x as u32;
+    place + 1
+}
+
+// Hands counts on along the trail from a cell that waits for nothing, as far as no cell waits, and notes the cells in their
+// order. The next place of the order.
 fn follow(
     rows: usize,
     columns: usize,
     direction: &[u8],
     count: &mut [u32],
     waiting: &mut [u32],
+    order: &mut [u32],
+    place: usize,
     start: usize,
-)
+) -> usize
     requires { ⌜ Directed rows columns (now direction) × (length (now count) ≡ rows * columns) × (length (now waiting) ≡ rows * columns) × (start < rows * columns) ⌝ }
 {
+    let mut at = place;
     let mut x = start;
     let mut turns: usize = 0;
     while turns < count.len() {
         waiting[x] = TAKEN;
+        at = note_turn(order, at, x);
         let y = receiver(rows, columns, direction, x);
         if count.len() <= y {
-            return;
+            return at;
         }
         if 0 < hand_on(count, waiting, x, y) {
-            return;
+            return at;
         }
         x = y;
         turns += 1;
     }
+    at
 }
 
 // The same from the cell x, if it waits for nothing.
@@ -188,25 +206,36 @@ fn begin(
     direction: &[u8],
     count: &mut [u32],
     waiting: &mut [u32],
+    order: &mut [u32],
+    place: usize,
     x: usize,
-)
+) -> usize
     requires { ⌜ Directed rows columns (now direction) × (length (now count) ≡ rows * columns) × (length (now waiting) ≡ rows * columns) × (x < rows * columns) ⌝ }
 {
     if 0 < waiting[x] {
-        return;
+        return place;
     }
-    follow(rows, columns, direction, count, waiting, x);
+    follow(rows, columns, direction, count, waiting, order, place, x)
 }
 
-// Hands counts on from the ridges down.
-fn descend(rows: usize, columns: usize, direction: &[u8], count: &mut [u32], waiting: &mut [u32])
+// Hands counts on from the ridges down. How many cells the order has.
+fn descend(
+    rows: usize,
+    columns: usize,
+    direction: &[u8],
+    count: &mut [u32],
+    waiting: &mut [u32],
+    order: &mut [u32],
+) -> usize
     requires { ⌜ Directed rows columns (now direction) × (length (now count) ≡ rows * columns) × (length (now waiting) ≡ rows * columns) ⌝ }
 {
+    let mut place: usize = 0;
     let mut x: usize = 0;
     while x < count.len() {
-        begin(rows, columns, direction, count, waiting, x);
+        place = begin(rows, columns, direction, count, waiting, order, place, x);
         x += 1;
     }
+    place
 }
 
 // 1 if a count is not what is gathered; else 0.
@@ -311,25 +340,81 @@ fn recount(rows: usize, columns: usize, direction: &[u8], count: &mut [u32])
     }
 }
 
-// The flow count of every cell. The workspace is scratch.
+// The flow count of every cell, and in `order` the cells from the ridges down, as many as are answered. The workspace is
+// scratch.
 pub(crate) fn count_flow(
     rows: usize,
     columns: usize,
     direction: &[u8],
     count: &mut [u32],
+    order: &mut [u32],
     workspace: &mut [u32],
-)
+) -> usize
     requires { ⌜ Directed rows columns (now direction) × (length (now count) ≡ rows * columns) × (length (now workspace) ≡ rows * columns) ⌝ }
     ensures { λ _. ⌜ now (count .exit) ≡ countsOf rows columns (now (direction .entry)) ⌝ }
 {
     clear(workspace);
     start(direction, count);
     await_all(rows, columns, direction, workspace);
-    descend(rows, columns, direction, count, workspace);
+    let noted = descend(rows, columns, direction, count, workspace, order);
     if is_counted(rows, columns, direction, count) {
-        return;
+        return noted;
     }
     recount(rows, columns, direction, count);
+    noted
+}
+
+// Whether the cells of the trail from y on are known; where y is no cell there are none.
+fn is_known(known: &[u32], y: usize) -> bool
+    ensures { λ r. ⌜ (r ≡ true → (0 < getD (now (known .entry)) y 0) ⊎ (length (now (known .entry)) ≤ y)) ⌝ }
+{
+    if known.len() <= y {
+        return true;
+    }
+    0 < known[y]
+}
+
+// Notes the number of cells of the trail from x on, if that of the cell it points at is known.
+fn note_cell(rows: usize, columns: usize, direction: &[u8], known: &mut [u32], x: usize)
+    requires { ⌜ Directed rows columns (now direction) × Known rows columns (now direction) (now known) ⌝ }
+    ensures { λ _. ⌜ Known rows columns (now (direction .entry)) (now (known .exit)) ⌝ }
+{
+    if known.len() <= x {
+        return;
+    }
+    if direction[x] == NO_CODE {
+        return;
+    }
+    let y = receiver(rows, columns, direction, x);
+    if !is_known(known, y) {
+        return;
+    }
+    known[x] = value_at(known, y) + 1;
+}
+
+// The same for the cells of the order, from its end back: there the cell that a cell points at comes first.
+fn note_back(
+    rows: usize,
+    columns: usize,
+    direction: &[u8],
+    order: &[u32],
+    noted: usize,
+    known: &mut [u32],
+)
+    requires { ⌜ Directed rows columns (now direction) × Known rows columns (now direction) (now known) ⌝ }
+    ensures { λ _. ⌜ Known rows columns (now (direction .entry)) (now (known .exit)) ⌝ }
+{
+    let mut place = noted;
+    while 0 < place {
+        place -= 1;
+        note_cell(
+            rows,
+            columns,
+            direction,
+            known,
+            value_at(order, place) as usize,
+        );
+    }
 }
 
 // The number of cells of the trail from a cell on; `known` has it for some cells, and 0 for the others.
@@ -400,18 +485,20 @@ fn longest_cells(rows: usize, columns: usize, direction: &[u8], known: &mut [u32
     most
 }
 
-// The steps of the longest trail; 0 on an empty map. The workspace is scratch, and holds zeros afterwards.
+// The steps of the longest trail; 0 on an empty map. The order may help to find it soon. The workspace is scratch.
 pub(crate) fn longest_trail(
     rows: usize,
     columns: usize,
     direction: &[u8],
+    order: &[u32],
+    noted: usize,
     workspace: &mut [u32],
 ) -> u32
     requires { ⌜ Directed rows columns (now direction) × (length (now workspace) ≡ rows * columns) ⌝ }
-    ensures { λ r. ⌜ (r ≡ longestOf rows columns (now (direction .entry))) × (now (workspace .exit) ≡ replicate (rows * columns) 0) ⌝ }
+    ensures { λ r. ⌜ r ≡ longestOf rows columns (now (direction .entry)) ⌝ }
 {
     clear(workspace);
+    note_back(rows, columns, direction, order, noted, workspace);
     let cells = longest_cells(rows, columns, direction, workspace);
-    clear(workspace);
     if cells < 1 { 0 } else { cells - 1 }
 }

@@ -24,17 +24,23 @@ same-length c = search needs
 same-length-2 : tie.Need-same-length-2
 same-length-2 c = search needs
 
+same-length-3 : tie.Need-same-length-3
+same-length-3 c = search needs
+
 returns : tie.Need-returns
 returns c = c .before .is-counted .ensures (c .if1 .taken)
 
 recount-requires : tie.Need-recount-requires
 recount-requires c κs = search needs
 
-same-length-3 : tie.Need-same-length-3
-same-length-3 c = search needs
-
 same-length-4 : tie.Need-same-length-4
 same-length-4 c = search needs
+
+same-length-5 : tie.Need-same-length-5
+same-length-5 c = search needs
+
+same-length-6 : tie.Need-same-length-6
+same-length-6 c = search needs
 
 returns-2 : tie.Need-returns-2
 returns-2 c = search needs
@@ -50,8 +56,10 @@ count-flow-spec =
     is-counted-requires
     same-length
     same-length-2
+    same-length-3
     returns
     recount-requires
-    same-length-3
     same-length-4
+    same-length-5
+    same-length-6
     returns-2)
