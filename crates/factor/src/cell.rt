@@ -29,6 +29,9 @@ pub(crate) fn factor_of<'a>(
     if LONGEST < mm {
         return TOO_LONG;
     }
+    if mm < 1 {
+        return 0;
+    }
     let k = exponent_of(side, q);
     let t = length_factor(k, mm as u32, five, four, three, two) as u64;
     (t * steepness_factor(side, q)) as u32

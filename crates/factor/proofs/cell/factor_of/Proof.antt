@@ -3,7 +3,7 @@ use borrow.Author.Needs.{needs}
 use Prim.Native.Nat.{_*_, _≤_}
 use native.Mathlib.Nat.{mul-le-mul, le-of-lt}
 use native.Mathlib.Omega.{arith}
-use Rattle.factor.proofs.Factors.{exponent-in, product-within, factor-long, factor-short}
+use Rattle.factor.proofs.Factors.{exponent-in, product-within, factor-long, factor-none, factor-short}
 use Rattle.factor.proofs.cell.factor_of.Statement.{statement}
 use Rattle.factor.proofs.cell.factor_of.Tie as tie
 
@@ -17,6 +17,11 @@ returns c =
     let a = c .before .before .before .before .before .args in
     factor-long (a .side) (a .q) (a .length) (c .if1 .taken)
 
+returns-2 : tie.Need-returns-2
+returns-2 c =
+    let a = c .before .before .before .before .before .before .args in
+    factor-none (a .side) (a .q) (a .length) (c .if2 .taken)
+
 exponent-of-requires : tie.Need-exponent-of-requires
 exponent-of-requires c κs = search needs
 
@@ -25,7 +30,7 @@ cast-length-factor c = search needs
 
 length-factor-requires : tie.Need-length-factor-requires
 length-factor-requires c κs =
-    let start = c .before .before .before .before .before .before in
+    let start = c .before .before .before .before .before .before .before in
     let in-range = exponent-in (start .args .side) (start .args .q) in
     record {
       least = omega (arith, c .exponent-of .ensures, in-range);
@@ -46,10 +51,10 @@ mul-result c = omega (arith, small c)
 cast-result : tie.Need-cast-result
 cast-result c = omega (arith, small c)
 
-returns-2 : tie.Need-returns-2
-returns-2 c =
-    let a = c .before .before .before .before .before .before .before .before .args in
-    factor-short (a .side) (a .q) (a .length) (c .before .before .before .if1 .left) (c .before .before .exponent-of .ensures) (c .before .length-factor .ensures) (c .steepness-factor .ensures)
+returns-3 : tie.Need-returns-3
+returns-3 c =
+    let a = c .before .before .before .before .before .before .before .before .before .args in
+    factor-short (a .side) (a .q) (a .length) (c .before .before .before .before .if1 .left) (c .before .before .exponent-of .ensures) (c .before .length-factor .ensures) (c .steepness-factor .ensures)
 
 pub factor-of-spec : {M : Type 1} → statement M
 factor-of-spec =
@@ -57,10 +62,11 @@ factor-of-spec =
     (tie.spec
     mul-mm
     returns
+    returns-2
     exponent-of-requires
     cast-length-factor
     length-factor-requires
     steepness-factor-requires
     mul-result
     cast-result
-    returns-2)
+    returns-3)
