@@ -37,7 +37,7 @@ use Rattle.terrain.specs.Measure.{steepest, AllFine, Charted, Bounded, c
 use Rattle.terrain.proofs.Neighbours.{each-side, across, across-small, side-none, side-leaves, level-fine, level-le, level-at, level-read, fine-fits, height-level, height-none}
 use Rattle.terrain.proofs.Filling.{greatest-fine, filled-long, filled-clear, filled-reached, filled-at, level-filled}
 use Rattle.terrain.proofs.Trails.{is-mapped, mapped-in, flows-mapped, steps-le, into-flows}
-use Rattle.terrain.proofs.Counting.{directed-falls, code-read, bit-of, into-read, mapped-read}
+use Rattle.terrain.proofs.Counting.{directed-falls, code-read, bit-of, into-read, mapped-read, largest-ge}
 use Rattle.terrain.proofs.Following.{most-less}
 use Rattle.terrain.proofs.Lengths.{from-is}
 
@@ -167,16 +167,12 @@ share-test m c =
       | no f ↦ le-ltb (m / 1000) c (omega arith) ∙ sym (le-ltb m (1000 * c) (omega arith))
     ]
 
-largest-ge : (n : ℕ) (count : List ℕ) (x : ℕ) → x < n → getD count x 0 ≤ largestOf n count
-unfolding largestOf
-largest-ge n count x h = greatest-ge n (λ y. getD count y 0) x h
-
 -- the counts above `most` are those of channels, if that holds of every number up to the largest count
 pub bounded : (rows cols : ℕ) (rules : Rules) (count : List ℕ) (most top : ℕ) → length count ≡ rows * cols → top ≡ largestOf (length count) count → ((c : ℕ) → c ≤ top → ltb most c ≡ isChannel (rules .threshold) top c) → Bounded rows cols rules most count
 unfolding channelAt
 bounded rows cols rules count most top e g m =
     let i : top ≡ largestOf (rows * cols) count = g ∙ ap (λ (n : ℕ). largestOf n count) e in
-    record { long = e; channel = (λ x h. m (getD count x 0) (omega (arith, i, largest-ge (rows * cols) count x h)) ∙ ap (λ (n : ℕ). isChannel (rules .threshold) n (getD count x 0)) i) }
+    record { long = e; channel = (λ x h. m (getD count x 0) (omega (arith, g, largest-ge count x)) ∙ ap (λ (n : ℕ). isChannel (rules .threshold) n (getD count x 0)) i) }
 
 -- ---- the side that a cell points at, and its steepness
 
