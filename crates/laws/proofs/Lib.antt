@@ -8,3 +8,6 @@ pub mod Search
 pub mod Pigeon
 pub mod Settle
 pub mod Raise
+pub mod Orders
+pub mod Peel
+pub mod Handing

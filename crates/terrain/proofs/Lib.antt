@@ -6,6 +6,8 @@ pub mod Directions
 pub mod Trails
 pub mod Counting
 pub mod Following
+pub mod Descending
+pub mod Passing
 pub mod Drainage
 pub mod Lengths
 pub mod Measuring

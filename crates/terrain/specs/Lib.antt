@@ -11,6 +11,7 @@ pub mod Answers
 pub mod Inside
 pub mod Flood
 pub mod Directed
+pub mod Downhill
 pub mod Measure
 pub mod Relief
 pub mod Levels

@@ -5,6 +5,7 @@
 // flats, directions, trails, drops, lengths.
 mod cells;
 mod direction;
+mod downhill;
 mod drops;
 mod filled;
 mod flat;
@@ -204,8 +205,9 @@ fn survey(
     ensures { λ r. ⌜ (told r ≡ answerOf rows columns (now (ground .entry)) (accepted rules)) × (lent (now (filled .exit)) (now (direction .exit)) (now (count .exit)) (now (lengths .exit)) (now (drops .exit)) (now (workspace .exit)) ≡ gridsOf rows columns side (now (ground .entry)) (lent (now (filled .entry)) (now (direction .entry)) (now (count .entry)) (now (lengths .entry)) (now (drops .entry)) (now (workspace .entry))) (accepted rules)) ⌝ }
 {
     let valid = shape(rows, columns, ground, filled, direction, count, workspace);
-    let noted = trail::count_flow(rows, columns, direction, count, drops, workspace);
-    let longest = trail::longest_trail(rows, columns, direction, drops, noted, workspace);
+    let places = downhill::descend(rows, columns, direction, workspace, drops);
+    trail::count_flow(rows, columns, direction, drops, places, count);
+    let longest = trail::longest_trail(rows, columns, direction, drops, places, workspace);
     drops::measure(rows, columns, filled, direction, drops);
     length::measure(
         rows,
