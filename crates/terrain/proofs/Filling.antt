@@ -19,7 +19,7 @@ use Rattle.terrain.specs.Cells.{neighbour, Valid, levelOf, heightOf, lev
 use Rattle.terrain.specs.Surfaces.{Run, last, step, greatest, maxZ}
 use Rattle.terrain.specs.Filled.{top, lowestOf, filling, filledLevels, filledOf, Stands}
 use Rattle.terrain.specs.Flood.{FillKept, FillStill}
-use Rattle.terrain.proofs.Neighbours.{across, across-small, west, neighbour-back, level-at, level-max, level-fine, levels-long, level-height, fine-at, valid-level, level-valid, none-level, level-invalid}
+use Rattle.terrain.proofs.Neighbours.{west, level-at, level-max, level-fine, levels-long, level-height, fine-at, valid-level, level-valid, none-level, level-invalid}
 
 -- ---- the lowest neighbour
 
@@ -81,14 +81,6 @@ module _ (rows cols : ℕ) (ground : List ℤ) (ready : Ready rows cols ground) 
         | yes z ↦ stands-rim x k v p h z (omega arith)
         | no f ↦ (let s = kept .stands (nb x k) (active (nb x k) (omega arith)) low in (step x k (level-valid ready x p) h (s .0), omega (arith, s .1, level-at ground x, level-max (getD ground x noData) (greatest rows cols ground (s .0)))))
       ]
-
-  -- the same seen from the neighbour: y, at the side k of x, can stand at the higher of its ground and the level of x
-  pub stands-across : (l : List ℕ) → FillKept rows cols ground l → (x k v : ℕ) → x < rows * cols → k < 8 → 0 < getD g (nb x k) 0 → getD l x 0 < top → max (getD g (nb x k) 0) (getD l x 0) ≤ v → Stands rows cols ground (nb x k) v
-  stands-across l kept x k v i h p low le =
-      let inside : nb x k < rows * cols = omega (arith, in-list g (nb x k) p, levels-long ready) in
-      let back : nb (nb x k) (across k) ≡ x = neighbour-back rows cols x k i h inside in
-      let same : getD l (nb (nb x k) (across k)) 0 ≡ getD l x 0 = ap (λ (y : ℕ). getD l y 0) back in
-      stands-beside l kept (nb x k) (across k) v p (across-small k h) (omega arith) (omega arith)
 
   pub run-valid : {x : ℕ} → Run rows cols ground x → Valid ground x
   run-valid (last x r) = r .valid

@@ -19,3 +19,4 @@ pub mod Stepping
 pub mod Falls
 pub mod Surveying
 pub mod Bounds
+pub mod Words

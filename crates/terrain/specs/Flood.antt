@@ -2,29 +2,14 @@
 -- and ensures for every number that fits. Assumes nothing.
 use mathlib.Core.Path.{_≡_}
 use mathlib.Core.List.{List}
-use mathlib.Core.Bool.{Bool, cond}
-use Prim.Native.Nat.{ℕ, _*_, _≤_, max}
-use lib.ListN.{length, getD, set}
+use mathlib.Core.Bool.{Bool}
+use Prim.Native.Nat.{ℕ, _≤_, max}
+use lib.ListN.{getD}
 use lib.IntN.{ℤ}
 use lib.Dec.{ltb}
-use Rattle.laws.specs.Settle.{Kept, Still, Eased, Sweeping, Loose, relaxedOf}
-use Rattle.terrain.specs.Cells.{levelsOf, Ready}
-use Rattle.terrain.specs.Filled.{top, filling, Stands}
-
--- a ground that was accepted, and the grids that the flood works on
-pub record Flooding (rows cols : ℕ) (ground : List ℤ) (level links : List ℕ) : Type 0 where
-  pub ready : Ready rows cols ground
-  pub level-long : length level ≡ rows * cols
-  pub links-long : length links ≡ rows * cols
-
--- the levels l after the cell y was reached from a level h: from the top it comes down to the higher of its ground and h
-unfoldable pub reachedOf : List ℕ → List ℕ → ℕ → ℕ → List ℕ
-reachedOf g l h y = cond (ltb (getD l y 0) top) l (set l y (max (getD g y 0) h))
-
--- the same from a place at level 0, if that is the lowest level beside the cell
-unfoldable pub rimReachedOf : List ℕ → List ℕ → ℕ → ℕ → List ℕ
-unfolding reachedOf
-rimReachedOf g l low x = cond (ltb 0 low) l (reachedOf g l 0 x)
+use Rattle.laws.specs.Settle.{Kept, Still, Sweeping, Loose, relaxedOf}
+use Rattle.terrain.specs.Cells.{levelsOf}
+use Rattle.terrain.specs.Filled.{filling, Stands}
 
 -- a count m of a cell of level v: if it is 0, the cell is no higher than its ground u and the lowest level `low` beside it allow
 pub record LooseCell (v u low m : ℕ) : Type 0 where
@@ -43,10 +28,6 @@ module _ (rows cols : ℕ) (ground : List ℤ) where
   -- one in which no cell can be lowered
   abbrev pub FillStill : List ℕ → Type 0
   FillStill = Still (filling rows cols (levelsOf ground))
-
-  -- one that came from another by lowering
-  abbrev pub FillEased : List ℕ → List ℕ → Type 0
-  FillEased = Eased (filling rows cols (levelsOf ground)) (Stands rows cols ground)
 
   -- a sweep, and a search for cells that can be lowered
   abbrev pub FillSweeping : List ℕ → List ℕ → ℕ → Bool → Type 0

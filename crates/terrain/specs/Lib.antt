@@ -15,3 +15,4 @@ pub mod Downhill
 pub mod Measure
 pub mod Relief
 pub mod Levels
+pub mod Words

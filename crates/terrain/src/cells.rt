@@ -5,7 +5,7 @@
 //     3 SW   2 S   1 SE
 ghost use mathlib.Core.Path.{_≡_};
 ghost use mathlib.Core.Bool.{true};
-ghost use Prim.Native.Nat.{_+_, _*_, _<_, min, max};
+ghost use Prim.Native.Nat.{_+_, _*_, _≤_, _<_, min, max};
 ghost use lib.ListN.{length, getD, replicate};
 ghost use Rattle.terrain.specs.Cells.{rowSteps, colSteps, cellAt, neighbour};
 ghost use Rattle.terrain.specs.Inside.{Sized, Inside, RunsTo, besideOf, Beside};
@@ -99,6 +99,14 @@ pub(crate) fn beside(columns: usize, x: usize, k: usize) -> usize
 {
     let place = place_of(k);
     x + place / 4 * columns + place % 4 - columns - 1
+}
+
+// Where the neighbour at side k of a cell x lies, if it has one there; else any place.
+pub(crate) fn around(columns: usize, x: usize, k: usize) -> usize
+    requires { ⌜ (columns ≤ 1024) × (x < 1048576) × (k < 8) ⌝ }
+{
+    let place = place_of(k);
+    std::num::wrapping_sub_usize(x + place / 4 * columns + place % 4, columns + 1)
 }
 
 // The number at an index; 0 where there is none.

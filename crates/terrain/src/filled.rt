@@ -1,20 +1,21 @@
-// Filled heights: depression filling by priority flood with buckets (Barnes, Lehman and Mulla 2014). Every store lowers a
-// level to one that the cell's ground and a neighbour's level allow; a cell that nothing can lower any more has its filled level.
+// Filled heights: depression filling by priority flood with buckets (Barnes, Lehman and Mulla 2014), in one word for each cell.
+// The flood gives a cell a level that is not below its lowest neighbour's; if in the end no cell is below its ground, every level
+// can stand, and a cell that nothing can lower any more has its filled level. Sweeps do what the flood should have left over.
 // A level is a height plus 999,900, so NoData is 0, and a place off the grid reads as 0 too: a rim cell is one that sees a 0.
 ghost use mathlib.Core.Path.{_≡_};
-ghost use mathlib.Core.Bool.{cond};
+ghost use mathlib.Core.Bool.{true};
 ghost use mathlib.Core.List.{map};
 ghost use Prim.Native.Nat.{ℕ, _*_, _≤_, _<_};
 ghost use lib.ListN.{length, getD};
 ghost use lib.IntN.{pos};
-ghost use lib.Dec.{ltb};
 ghost use Rattle.laws.specs.Settle.{startOf};
 ghost use Rattle.terrain.specs.Quantities.{Fine};
 ghost use Rattle.terrain.specs.Cells.{levelsOf, heightOf, Ready};
 ghost use Rattle.terrain.specs.Inside.{Sized, Inside, RunsTo};
 ghost use Rattle.terrain.specs.Filled.{top, lowestOf, filling, filledLevels};
 ghost use Rattle.terrain.specs.Trail.{validsOf};
-ghost use Rattle.terrain.specs.Flood.{Flooding, reachedOf, rimReachedOf, LooseCell, FillKept, FillStill, FillEased, FillSweeping, FillLoose, Lowered};
+ghost use Rattle.terrain.specs.Flood.{LooseCell, FillKept, FillStill, FillSweeping, FillLoose, Lowered};
+ghost use Rattle.terrain.specs.Words.{doneOf, Above, Flooded};
 use crate::cells::beside;
 use crate::cells::is_inside;
 use crate::cells::larger;
@@ -22,16 +23,15 @@ use crate::cells::near;
 use crate::cells::run_end;
 use crate::cells::smaller;
 use crate::cells::value_at;
-use crate::queue::list_of;
+use crate::queue::level_of;
 use crate::queue::open_band;
 use crate::queue::pop;
-use crate::queue::push;
+use crate::queue::reach_rims;
+use crate::queue::spread;
+use crate::queue::start_word;
 
 // Above every level: the flood has not come here yet.
 const UNREACHED: u32 = 1900000;
-
-// More than any band: no band is being emptied.
-const NO_BAND: usize = 1024;
 
 // The level of the ground at the cell x.
 fn ground_level(ground: &[i32], x: usize) -> u32
@@ -77,240 +77,129 @@ pub(crate) fn lowest_near(rows: usize, columns: usize, level: &[u32], x: usize) 
     low
 }
 
-// The level that a cell with this level of ground starts from.
-fn start_level(g: u32) -> u32
-    ensures { λ r. ⌜ r ≡ cond (ltb 0 g) top 0 ⌝ }
+// The lowest level beside the cell x.
+fn lowest(rows: usize, columns: usize, level: &[u32], x: usize) -> u32
+    requires { ⌜ Sized rows columns × (length (now level) ≡ rows * columns) × (x < rows * columns) ⌝ }
+    ensures { λ r. ⌜ r ≡ lowestOf rows columns (now (level .entry)) x 8 ⌝ }
 {
-    if g < 1 { 0 } else { UNREACHED }
-}
-
-// Sets every level to where it starts from.
-fn start(ground: &[i32], level: &mut [u32])
-    requires { ⌜ ((rows : ℕ) × (columns : ℕ) × Ready rows columns (now ground) × (length (now level) ≡ rows * columns)) ⌝ }
-    ensures { λ r. ⌜ ((rows columns : ℕ) → length (now (level .entry)) ≡ rows * columns → now (level .exit) ≡ startOf (filling rows columns (levelsOf (now (ground .entry))))) ⌝ }
-{
-    let mut x: usize = 0;
-    while x < level.len() {
-        level[x] = start_level(ground_level(ground, x));
-        x += 1;
-    }
-}
-
-// Lowers the cell y, if the flood has not come there, to what its ground and a neighbour of level h allow, and queues it.
-fn reach(
-    ground: &[i32],
-    level: &mut [u32],
-    heads: &mut [u32; 2048],
-    links: &mut [u32],
-    band: usize,
-    h: u32,
-    y: usize,
-)
-    requires { ⌜ ((rows : ℕ) × (columns : ℕ) × Flooding rows columns (now ground) (now level) (now links)) ⌝ }
-    ensures { λ r. ⌜ now (level .exit) ≡ reachedOf (levelsOf (now (ground .entry))) (now (level .entry)) h y ⌝ }
-{
-    if value_at(level, y) < UNREACHED {
-        return;
-    }
-    let v = larger(ground_level(ground, y), h);
-    level[y] = v;
-    push(heads, links, list_of(v, band), y);
-}
-
-// Reaches the cell x, beside which `low` is the lowest level, if it is a rim cell.
-fn reach_rim(
-    ground: &[i32],
-    level: &mut [u32],
-    heads: &mut [u32; 2048],
-    links: &mut [u32],
-    low: u32,
-    x: usize,
-)
-    requires { ⌜ ((rows : ℕ) × (columns : ℕ) × Flooding rows columns (now ground) (now level) (now links)) ⌝ }
-    ensures { λ r. ⌜ now (level .exit) ≡ rimReachedOf (levelsOf (now (ground .entry))) (now (level .entry)) low x ⌝ }
-{
-    if 0 < low {
-        return;
-    }
-    reach(ground, level, heads, links, NO_BAND, 0, x);
-}
-
-// Reaches the rim cells of a run of cells that are inside.
-fn reach_rim_run(
-    columns: usize,
-    ground: &[i32],
-    level: &mut [u32],
-    heads: &mut [u32; 2048],
-    links: &mut [u32],
-    from: usize,
-    to: usize,
-)
-    requires { ⌜ ((rows : ℕ) × Flooding rows columns (now ground) (now level) (now links) × RunsTo rows columns from to) ⌝ }
-    ensures { λ r. ⌜ ((rows : ℕ) → Ready rows columns (now (ground .entry)) → RunsTo rows columns from to → FillEased rows columns (now (ground .entry)) (now (level .entry)) (now (level .exit))) ⌝ }
-{
-    let mut x = from;
-    while x < to {
-        let low = lowest_inside(columns, level, x);
-        reach_rim(ground, level, heads, links, low, x);
-        x += 1;
-    }
-}
-
-// Reaches every rim cell.
-fn reach_rims(
-    rows: usize,
-    columns: usize,
-    ground: &[i32],
-    level: &mut [u32],
-    heads: &mut [u32; 2048],
-    links: &mut [u32],
-)
-    requires { ⌜ Flooding rows columns (now ground) (now level) (now links) ⌝ }
-    ensures { λ r. ⌜ FillEased rows columns (now (ground .entry)) (now (level .entry)) (now (level .exit)) ⌝ }
-{
-    let mut x: usize = 0;
-    while x < level.len() {
-        let end = run_end(rows, columns, x);
-        reach_rim_run(columns, ground, level, heads, links, x, end);
-        let low = lowest_near(rows, columns, level, end);
-        reach_rim(ground, level, heads, links, low, end);
-        x = end + 1;
-    }
-}
-
-// Reaches the neighbours of a cell x of level h that is inside.
-fn spread_inside(
-    columns: usize,
-    ground: &[i32],
-    level: &mut [u32],
-    heads: &mut [u32; 2048],
-    links: &mut [u32],
-    band: usize,
-    h: u32,
-    x: usize,
-)
-    requires { ⌜ ((rows : ℕ) × Flooding rows columns (now ground) (now level) (now links) × Inside rows columns x × (h ≡ getD (now level) x 0)) ⌝ }
-    ensures { λ r. ⌜ ((rows : ℕ) → Ready rows columns (now (ground .entry)) → Inside rows columns x → FillEased rows columns (now (ground .entry)) (now (level .entry)) (now (level .exit))) ⌝ }
-{
-    let mut k: usize = 0;
-    while k < 8 {
-        reach(ground, level, heads, links, band, h, beside(columns, x, k));
-        k += 1;
-    }
-}
-
-// Reaches the neighbours of any cell x of level h.
-fn spread_near(
-    rows: usize,
-    columns: usize,
-    ground: &[i32],
-    level: &mut [u32],
-    heads: &mut [u32; 2048],
-    links: &mut [u32],
-    band: usize,
-    h: u32,
-    x: usize,
-)
-    requires { ⌜ Flooding rows columns (now ground) (now level) (now links) × (x < rows * columns) × (h ≡ getD (now level) x 0) ⌝ }
-    ensures { λ r. ⌜ FillEased rows columns (now (ground .entry)) (now (level .entry)) (now (level .exit)) ⌝ }
-{
-    let mut k: usize = 0;
-    while k < 8 {
-        reach(
-            ground,
-            level,
-            heads,
-            links,
-            band,
-            h,
-            near(rows, columns, x, k),
-        );
-        k += 1;
-    }
-}
-
-// Reaches the neighbours of the cell x.
-fn spread(
-    rows: usize,
-    columns: usize,
-    ground: &[i32],
-    level: &mut [u32],
-    heads: &mut [u32; 2048],
-    links: &mut [u32],
-    band: usize,
-    x: usize,
-)
-    requires { ⌜ Flooding rows columns (now ground) (now level) (now links) × (x < rows * columns) ⌝ }
-    ensures { λ r. ⌜ FillEased rows columns (now (ground .entry)) (now (level .entry)) (now (level .exit)) ⌝ }
-{
-    let h = level[x];
     if is_inside(rows, columns, x) {
-        spread_inside(columns, ground, level, heads, links, band, h, x);
-        return;
+        return lowest_inside(columns, level, x);
     }
-    spread_near(rows, columns, ground, level, heads, links, band, h, x);
+    lowest_near(rows, columns, level, x)
 }
 
-// Spreads from the cells of a list until it is empty.
+// Sets every word to where it starts from.
+fn start(ground: &[i32], words: &mut [u32])
+    requires { ⌜ ((rows : ℕ) × (columns : ℕ) × Ready rows columns (now ground) × (length (now words) ≡ rows * columns)) ⌝ }
+    ensures { λ r. ⌜ ((rows columns : ℕ) → length (now (words .entry)) ≡ rows * columns → doneOf (now (words .exit)) ≡ startOf (filling rows columns (levelsOf (now (ground .entry))))) ⌝ }
+{
+    let mut x: usize = 0;
+    while x < words.len() {
+        words[x] = start_word(ground_level(ground, x));
+        x += 1;
+    }
+}
+
+// Gives the cell x, which waits, this level, if it is not below the cell's lowest neighbour.
+fn finish(rows: usize, columns: usize, words: &mut [u32], level: u32, x: usize)
+    requires { ⌜ Sized rows columns × (length (now words) ≡ rows * columns) × (x < rows * columns) × (top ≤ getD (now words) x 0) ⌝ }
+    ensures { λ r. ⌜ Flooded rows columns (now (words .entry)) (now (words .exit)) ⌝ }
+{
+    if level < lowest(rows, columns, words, x) {
+        return;
+    }
+    words[x] = level;
+}
+
+// Takes the cells of the list of a level, until it is empty: each is done at this level, and its neighbours are reached.
 fn drain(
     rows: usize,
     columns: usize,
-    ground: &[i32],
-    level: &mut [u32],
     heads: &mut [u32; 2048],
-    links: &mut [u32],
+    words: &mut [u32],
     band: usize,
     list: usize,
 )
-    requires { ⌜ Flooding rows columns (now ground) (now level) (now links) × (list < 2048) ⌝ }
-    ensures { λ r. ⌜ FillEased rows columns (now (ground .entry)) (now (level .entry)) (now (level .exit)) ⌝ }
+    requires { ⌜ Sized rows columns × (length (now words) ≡ rows * columns) × (band < 1024) × (1024 ≤ list) × (list < 2048) ⌝ }
+    ensures { λ r. ⌜ Flooded rows columns (now (words .entry)) (now (words .exit)) ⌝ }
 {
+    let level = level_of(band, list);
     let mut turns: usize = 0;
-    while turns < level.len() {
-        let x = pop(heads, links, list);
-        if level.len() <= x {
+    while turns < words.len() {
+        let x = pop(heads, words, list);
+        if words.len() <= x {
             return;
         }
-        spread(rows, columns, ground, level, heads, links, band, x);
+        finish(rows, columns, words, level, x);
+        spread(columns, heads, words, band, level, x);
         turns += 1;
     }
 }
 
-// Spreads from the cells of a band, the lowest first.
-fn flood_band(
-    rows: usize,
-    columns: usize,
-    ground: &[i32],
-    level: &mut [u32],
-    heads: &mut [u32; 2048],
-    links: &mut [u32],
-    band: usize,
-)
-    requires { ⌜ Flooding rows columns (now ground) (now level) (now links) × (band < 1024) ⌝ }
-    ensures { λ r. ⌜ FillEased rows columns (now (ground .entry)) (now (level .entry)) (now (level .exit)) ⌝ }
+// Takes the cells of a band, the lowest first.
+fn flood_band(rows: usize, columns: usize, heads: &mut [u32; 2048], words: &mut [u32], band: usize)
+    requires { ⌜ Sized rows columns × (length (now words) ≡ rows * columns) × (band < 1024) ⌝ }
+    ensures { λ r. ⌜ Flooded rows columns (now (words .entry)) (now (words .exit)) ⌝ }
 {
     if heads[band] < 1 {
         return;
     }
-    open_band(level, heads, links, band);
+    open_band(heads, words, band);
     let mut list: usize = 1024;
     while list < 2048 {
-        drain(rows, columns, ground, level, heads, links, band, list);
+        drain(rows, columns, heads, words, band, list);
         list += 1;
     }
 }
 
-// Spreads from the rim inwards, the lowest cells first.
-fn flood(rows: usize, columns: usize, ground: &[i32], level: &mut [u32], links: &mut [u32])
-    requires { ⌜ Flooding rows columns (now ground) (now level) (now links) ⌝ }
-    ensures { λ r. ⌜ FillEased rows columns (now (ground .entry)) (now (level .entry)) (now (level .exit)) ⌝ }
+// Goes from the rim inwards, the lowest cells first.
+fn flood(rows: usize, columns: usize, words: &mut [u32])
+    requires { ⌜ Sized rows columns × (length (now words) ≡ rows * columns) ⌝ }
+    ensures { λ r. ⌜ Flooded rows columns (now (words .entry)) (now (words .exit)) ⌝ }
 {
     let mut heads: [u32; 2048] = [0; 2048];
-    reach_rims(rows, columns, ground, level, &mut heads, links);
+    reach_rims(columns, &mut heads, words);
     let mut band: usize = 0;
     while band < 1024 {
-        flood_band(rows, columns, ground, level, &mut heads, links, band);
+        flood_band(rows, columns, &mut heads, words, band);
         band += 1;
+    }
+}
+
+// Whether no cell that is done is below its ground.
+fn is_above(ground: &[i32], words: &[u32]) -> bool
+    requires { ⌜ ((rows : ℕ) × (columns : ℕ) × Ready rows columns (now ground) × (length (now words) ≡ rows * columns)) ⌝ }
+    ensures { λ r. ⌜ (r ≡ true → Above (now (ground .entry)) (doneOf (now (words .entry)))) ⌝ }
+{
+    let mut x: usize = 0;
+    while x < words.len() {
+        if words[x] < ground_level(ground, x) {
+            return false;
+        }
+        x += 1;
+    }
+    true
+}
+
+// Starts anew, if some cell that is done is below its ground, which does not happen.
+fn hold(rows: usize, columns: usize, ground: &[i32], words: &mut [u32])
+    requires { ⌜ Ready rows columns (now ground) × (length (now words) ≡ rows * columns) × (Above (now ground) (doneOf (now words)) → FillKept rows columns (now ground) (doneOf (now words))) ⌝ }
+    ensures { λ r. ⌜ FillKept rows columns (now (ground .entry)) (doneOf (now (words .exit))) ⌝ }
+{
+    if is_above(ground, words) {
+        return;
+    }
+    start(ground, words);
+}
+
+// Writes the level of each word: a cell that is not done is at the top.
+fn write_levels(words: &mut [u32])
+    ensures { λ r. ⌜ now (words .exit) ≡ doneOf (now (words .entry)) ⌝ }
+{
+    let mut x: usize = 0;
+    while x < words.len() {
+        words[x] = smaller(words[x], UNREACHED);
+        x += 1;
     }
 }
 
@@ -364,10 +253,7 @@ fn lower(rows: usize, columns: usize, ground: &[i32], level: &mut [u32], x: usiz
     requires { ⌜ Ready rows columns (now ground) × (length (now level) ≡ rows * columns) × (x < rows * columns) ⌝ }
     ensures { λ r. ⌜ Lowered rows columns (now (ground .entry)) (now (level .entry)) (now (level .exit)) x r ⌝ }
 {
-    let v = larger(
-        ground_level(ground, x),
-        lowest_near(rows, columns, level, x),
-    );
+    let v = larger(ground_level(ground, x), lowest(rows, columns, level, x));
     if level[x] <= v {
         return false;
     }
@@ -402,19 +288,15 @@ fn settle(rows: usize, columns: usize, ground: &[i32], level: &mut [u32])
     }
 }
 
-// The levels of the filled heights. The links are scratch.
-pub(crate) fn fill(
-    rows: usize,
-    columns: usize,
-    ground: &[i32],
-    level: &mut [u32],
-    links: &mut [u32],
-)
-    requires { ⌜ Flooding rows columns (now ground) (now level) (now links) ⌝ }
+// The levels of the filled heights.
+pub(crate) fn fill(rows: usize, columns: usize, ground: &[i32], level: &mut [u32])
+    requires { ⌜ Ready rows columns (now ground) × (length (now level) ≡ rows * columns) ⌝ }
     ensures { λ r. ⌜ now (level .exit) ≡ filledLevels rows columns (now (ground .entry)) ⌝ }
 {
     start(ground, level);
-    flood(rows, columns, ground, level, links);
+    flood(rows, columns, level);
+    hold(rows, columns, ground, level);
+    write_levels(level);
     settle(rows, columns, ground, level);
 }
 

@@ -180,7 +180,7 @@ fn shape(
     requires { ⌜ Ready rows columns (now ground) × Room (rows * columns) (now filled) (now direction) (now count) (now workspace) ⌝ }
     ensures { λ r. ⌜ Relief rows columns (now (ground .entry)) (now (filled .exit)) (now (direction .exit)) r ⌝ }
 {
-    filled::fill(rows, columns, ground, workspace, count);
+    filled::fill(rows, columns, ground, workspace);
     flat::measure(rows, columns, workspace, count, filled);
     direction::point(rows, columns, workspace, count, direction);
     filled::write_heights(workspace, filled);

@@ -7,22 +7,22 @@ use Rattle.terrain.proofs.shape.Statement.{statement}
 use Rattle.terrain.proofs.shape.Tie as tie
 
 -- the levels after the filling
-levels : (c : tie.After-fill) → Levels (c .before .before .before .before .before .before .args .rows) (c .before .before .before .before .before .before .args .columns) (c .fill .last .1 .1 .1 .0)
-levels c = let s = c .before .before .before .before .before .before in relief-levels (s .pre .0) (c .fill .ensures)
+levels : (c : tie.After-fill) → Levels (c .before .before .before .before .before .args .rows) (c .before .before .before .before .before .args .columns) (c .fill .last .1 .1 .1 .0)
+levels c = let s = c .before .before .before .before .before in relief-levels (s .pre .0) (c .fill .ensures)
 
 fill-requires : tie.Need-fill-requires
 fill-requires c κs = search needs
 
 measure-requires : tie.Need-measure-requires
-measure-requires c κs = (levels (c .before .before .before .before .before .before .before), c .before .before .before .before .count .given ∙ c .before .before .before .before .before .before .before .before .before .before .before .before .before .pre .1 .count-long)
+measure-requires c κs = (levels (c .before .before .before .before .before), c .before .before .before .before .before .before .before .before .before .before .pre .1 .count-long)
 
 point-requires : tie.Need-point-requires
-point-requires c κs = (levels (c .before .before .before .before .before .before .before .before .before .before .before .before .before .before), c .before .before .before .before .before .before .measure .ensures, c .before .before .before .before .before .before .before .before .before .before .before .before .before .before .before .before .before .before .before .before .pre .1 .direction-long)
+point-requires c κs = (levels (c .before .before .before .before .before .before .before .before .before .before .before .before), c .before .before .before .before .before .before .measure .ensures, c .before .before .before .before .before .before .before .before .before .before .before .before .before .before .before .before .before .pre .1 .direction-long)
 
 write-heights-requires : tie.Need-write-heights-requires
 write-heights-requires c κs =
-    let s = c .before .before .before .before .before .before .before .before .before .before .before .before .before .before .before .before .before .before .before .before .before .before .before .before .before in
-    let f = c .before .before .before .before .before .before .before .before .before .before .before .before .before .before .before .before .before .before .before in
+    let s = c .before .before .before .before .before .before .before .before .before .before .before .before .before .before .before .before .before .before .before .before .before .before in
+    let f = c .before .before .before .before .before .before .before .before .before .before .before .before .before .before .before .before .before in
     (levels f .long ∙ sym (c .before .before .before .before .before .before .before .before .filled .given ∙ s .pre .1 .filled-long), relief-small (s .pre .0) (f .fill .ensures))
 
 valid-cells-requires : tie.Need-valid-cells-requires
@@ -42,8 +42,8 @@ same-length-4 c = search needs
 
 returns : tie.Need-returns
 returns c =
-    let s = c .before .before .before .before .before .before .before .before .before .before .before .before .before .before .before .before .before .before .before .before .before .before .before .before .before .before .before .before .before in
-    let f = c .before .before .before .before .before .before .before .before .before .before .before .before .before .before .before .before .before .before .before .before .before .before .before in
+    let s = c .before .before .before .before .before .before .before .before .before .before .before .before .before .before .before .before .before .before .before .before .before .before .before .before .before .before in
+    let f = c .before .before .before .before .before .before .before .before .before .before .before .before .before .before .before .before .before .before .before .before .before in
     relief (s .pre .0) (f .fill .ensures) (c .before .before .before .write-heights .ensures) (c .before .before .before .before .before .before .before .before .point .ensures) (c .valid-cells .ensures (s .args .rows) (s .args .columns) (levels f .long))
 
 pub shape-spec : {M : Type 1} → statement M

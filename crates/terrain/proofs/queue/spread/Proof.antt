@@ -1,0 +1,54 @@
+-- `terrain::queue::spread` meets its contract. Assumes nothing.
+use Rattle.terrain.specs.Words.{doneOf}
+use lib.ListN.{length}
+use native.Mathlib.Omega.{arith}
+use Prim.Native.Nat.{_-_, _≤_}
+use mathlib.Core.Path.{_≡_, _∙_}
+use borrow.Author.Needs.{needs}
+use Rattle.terrain.proofs.queue.spread.Statement.{statement}
+use Rattle.terrain.proofs.queue.spread.Tie as tie
+
+abbrev Inv-loop : tie.InvT-loop
+Inv-loop columns heads₀ words₀ band h x k₀ heads words k = (doneOf words ≡ doneOf words₀) × (length words ≡ length words₀) × (k ≤ 8)
+
+abbrev μ-loop : tie.MeasureT-loop
+μ-loop columns heads₀ words₀ band h x k₀ heads words k = 8 - k
+
+loop-holds : tie.Need-loop-holds Inv-loop μ-loop
+loop-holds c = search needs
+
+around-requires : tie.Need-around-requires Inv-loop μ-loop
+around-requires c κs = search needs
+
+reach-requires : tie.Need-reach-requires Inv-loop μ-loop
+reach-requires c κs = search needs
+
+add-k : tie.Need-add-k Inv-loop μ-loop
+add-k c = search needs
+
+loop-less : tie.Need-loop-less Inv-loop μ-loop
+loop-less c = search needs
+
+loop-again : tie.Need-loop-again Inv-loop μ-loop
+loop-again c = (c .before .before .reach .ensures ∙ c .before .before .before .before .before .before .before .loop .inv .0, (cc), omega arith)
+
+same-length : tie.Need-same-length Inv-loop μ-loop
+same-length c = search needs
+
+returns : tie.Need-returns Inv-loop μ-loop
+returns c = search needs
+
+pub spread-spec : {M : Type 1} → statement M
+spread-spec =
+    tie.close
+    (tie.spec
+    Inv-loop
+    μ-loop
+    loop-holds
+    around-requires
+    reach-requires
+    add-k
+    loop-less
+    loop-again
+    same-length
+    returns)
