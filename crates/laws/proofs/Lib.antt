@@ -1,4 +1,5 @@
 pub mod Tests
+pub mod Verdicts
 pub mod Signed
 pub mod Filling
 pub mod Lists

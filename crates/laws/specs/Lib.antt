@@ -8,3 +8,4 @@ pub mod Raise
 pub mod Orders
 pub mod Peel
 pub mod Handing
+pub mod Tests
