@@ -1,57 +1,33 @@
--- Codes as the code reads them: the cell that a cell points at, and whether a neighbour points back. Assumes nothing.
-use mathlib.Core.Path.{_≡_, refl, sym, ap, ap₂, _∙_}
+-- Codes as the code reads them: the cell that a cell points at. Assumes nothing.
+use mathlib.Core.Path.{_≡_, refl, sym, ap, _∙_}
 use mathlib.Core.List.{List}
 use mathlib.Core.Logic.{⊎-elim}
 use mathlib.Core.Bool.{Bool, true, false, cond, not}
-use Prim.Native.Nat.{ℕ, _-_, _*_, _≤_, _<_}
+use Prim.Native.Nat.{ℕ, _*_, _≤_, _<_}
 use native.Mathlib.Omega.{arith}
-use native.Mathlib.Decide.{decLt}
 use lib.Count.{trailingZeros, trailing-of-zero}
-use lib.ListN.{length, getD, List·getD-eq-default}
+use lib.ListN.{getD}
 use lib.Dec.{eqb}
-use borrow.Author.Tests.{le-ltb, ne-eqb}
+use borrow.Author.Tests.{le-ltb}
 use Rattle.laws.proofs.Tests.{two}
 use Rattle.laws.proofs.Lists.{getD-any}
-use Rattle.laws.proofs.Sums.{greatest-ge}
 use Rattle.terrain.specs.Cells.{neighbour, codeOf, sideOf}
-use Rattle.terrain.specs.Trail.{mappedAt, flowsAt, nextAt, stepsIn, intoAt}
-use Rattle.terrain.specs.Length.{largestOf}
-use Rattle.terrain.specs.Directed.{Directed, receiverOf, backOf}
-use Rattle.terrain.proofs.Neighbours.{each-side, across, across-small, side-none, code-some}
-use Rattle.terrain.proofs.Trails.{Falls, is-mapped, mapped-in, flows-code, code-next, flows-mapped, steps-le, into-flows, into-code}
+use Rattle.terrain.specs.Trail.{mappedAt, flowsAt, nextAt, stepsIn}
+use Rattle.terrain.specs.Directed.{Directed, receiverOf}
+use Rattle.terrain.proofs.Neighbours.{each-side, side-none}
+use Rattle.terrain.proofs.Trails.{Falls, is-mapped, mapped-in, flows-code, code-next}
 
 -- the side of a code, as its lowest bit
 bit-side : (k : ℕ) → k < 8 → trailingZeros 8 (codeOf k) ≡ k
 unfolding trailingZeros
 bit-side = each-side (λ k. trailingZeros 8 (codeOf k) ≡ k) refl refl refl refl refl refl refl refl
 
-back-code : (k : ℕ) → k < 8 → backOf k ≡ codeOf (across k)
-back-code = each-side (λ k. backOf k ≡ codeOf (across k)) refl refl refl refl refl refl refl refl
-
--- no count is above the largest
-pub largest-ge : (count : List ℕ) (y : ℕ) → getD count y 0 ≤ largestOf (length count) count
-unfolding largestOf
-largest-ge count y =
-    elim (decLt y (length count)) [
-      | yes h ↦ greatest-ge (length count) (λ x. getD count x 0) y h
-      | no f ↦ omega (arith, List·getD-eq-default count 0 {n = y} (omega arith))
-    ]
-
 module _ {rows cols : ℕ} {dir : List ℕ} (d : Directed rows cols dir) where
-  abbrev rank : ℕ → ℕ
-  rank = stepsIn rows cols dir (rows * cols)
-
   abbrev nb : ℕ → ℕ → ℕ
   nb = neighbour rows cols
 
-  abbrev into : ℕ → ℕ → Bool
-  into = intoAt rows cols dir
-
   pub directed-falls : Falls rows cols dir (stepsIn rows cols dir (rows * cols))
   directed-falls = record { long = d .long; stays = d .stays; less = d .less }
-
-  rank-le : (x : ℕ) → rank x ≤ rows * cols
-  rank-le x = steps-le rows cols dir (rows * cols) x
 
   -- ---- the cell that a cell points at
 
@@ -92,21 +68,6 @@ module _ {rows cols : ℕ} {dir : List ℕ} (d : Directed rows cols dir) where
 
   pub receiver-near : (x : ℕ) → x < rows * cols → (getD dir x 0 ≡ 255 → ⊥) → trailingZeros 8 (getD dir x 0) < 8 → neighbour rows cols x (trailingZeros 8 (getD dir x 0)) < rows * cols
   receiver-near x h v k = omega (arith, receiver-beside x h v k, receiver-in x (bit-flows x h v k))
-
-  -- ---- codes, as they are read
-
-  -- the neighbour at the side k points back, as the code reads it
-  pub into-read : (z k : ℕ) → z < rows * cols → k < 8 → eqb (getD dir (neighbour rows cols z k) 0) (backOf k) ≡ intoAt rows cols dir z k
-  into-read z k h s =
-      elim (decLt (nb z k) (rows * cols)) [
-        | yes y ↦ ap₂ eqb (sym (code-read (nb z k) y)) (back-code k s) ∙ sym (into-code rows cols dir rank directed-falls rank-le z k h s y)
-        | no f ↦ off (omega arith)
-      ]
-    where
-      off : rows * cols ≤ nb z k → eqb (getD dir (nb z k) 0) (backOf k) ≡ into z k
-      off o =
-          ne-eqb (getD dir (nb z k) 0) (backOf k) (λ e. omega (arith, List·getD-eq-default dir 0 {n = nb z k} (omega (arith, d .long)), back-code k s, code-some (across k) (across-small k s)))
-          ∙ sym (⊎-elim (λ e. absurd (omega (arith, mapped-in rows cols dir (d .long) (nb z k) (flows-mapped rows cols dir (nb z k) (into-flows rows cols dir rank directed-falls rank-le z k e .0))))) (λ e. e) (two (into z k)))
 
   pub mapped-read : (x : ℕ) → x < rows * cols → mappedAt rows cols dir x ≡ not (eqb (getD dir x 0) 255)
   unfolding mappedAt

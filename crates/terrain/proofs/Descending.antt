@@ -20,7 +20,7 @@ use Rattle.laws.proofs.Orders.{order-places}
 use Rattle.laws.proofs.Peel.{peel-start, peel-take, peel-all, next-waits}
 use Rattle.terrain.specs.Trail.{mappedAt, flowsAt, stepsIn}
 use Rattle.terrain.specs.Directed.{Directed, receiverOf}
-use Rattle.terrain.specs.Downhill.{mappedsOf, Downhill, Awaiting, Peeled}
+use Rattle.terrain.specs.Downhill.{Downhill, Awaiting, Peeled}
 use Rattle.terrain.proofs.Trails.{is-mapped, mapped-is, mapped-in, flows-mapped, steps-le}
 use Rattle.terrain.proofs.Counting.{code-read, receiver-flows, receiver-stops}
 
@@ -143,8 +143,7 @@ module _ {rows cols : ℕ} {dir : List ℕ} (d : Directed rows cols dir) where
   -- ---- the end
 
   pub peeled-all : {order w : List ℕ} {p b : ℕ} → rows * cols ≤ b → Peeled rows cols dir order w p b (rows * cols) → Downhill rows cols dir order p
-  unfolding mappedsOf
   peeled-all h s =
       let o = peel-all pointing s h (omega arith) in
       let e = order-places o (pointing .within) in
-      record { room = omega (arith, e, s .long, sum-ones n (λ x. when (valid x) 1) (λ x l. when-under (valid x) 1)); cells = o; places = e }
+      record { room = omega (arith, e, s .long, sum-ones n (λ x. when (valid x) 1) (λ x l. when-under (valid x) 1)); cells = o }

@@ -2,7 +2,7 @@
 use mathlib.Core.Path.{_≡_, refl, sym, ap, subst, _∙_}
 use mathlib.Core.List.{List}
 use mathlib.Core.Bool.{Bool, true, false, cond, _&&_, true≢false}
-use Prim.Native.Nat.{ℕ, _+_, _-_, _*_, _≤_, _<_}
+use Prim.Native.Nat.{ℕ, _+_, _-_, _*_, _%_, _≤_, _<_}
 use native.Mathlib.Nat.{le-of-lt, mul-assoc, mul-le-mul, one-mul}
 use native.Mathlib.Omega.{arith}
 use native.Mathlib.Decide.{decLt, decLe}
@@ -14,14 +14,15 @@ use borrow.Author.Count.{below-more}
 use Rattle.laws.specs.Lists.{tab, Agrees}
 use Rattle.laws.specs.Sums.{greatestTo}
 use Rattle.laws.specs.First.{firstOf}
-use Rattle.laws.proofs.Lists.{agrees-more, agrees-tab, getD-tab, length-tab}
+use Rattle.laws.proofs.Lists.{agrees-none, agrees-more, agrees-tab, getD-tab, length-tab}
 use Rattle.laws.proofs.Sums.{greatest-more, greatest-ge, greatest-is}
 use Rattle.laws.proofs.First.{first-is, first-le, first-before, first-holds, first-none}
 use Rattle.laws.proofs.Settle.{kept-active}
 use Rattle.terrain.specs.Cells.{neighbour, codeOf, cardinal, validAt, rimAt}
 use Rattle.terrain.specs.Flat.{hasLower, flatAt, flatSteps, flatStepping, Walk, there, on, walked, Within, StepsKept}
 use Rattle.terrain.specs.Direction.{steepOf, steepAt, steepestAt, steepSide, nearerAt, nearerSide, directionAt, directionsOf}
-use Rattle.terrain.specs.Levels.{Levels, dropOf, Steeper, fallIn, downAt}
+use Rattle.terrain.specs.Falls.{noFall}
+use Rattle.terrain.specs.Levels.{Levels, dropOf, Steeper, steepestIn, sideFall, FallTo, downAt, fallDownAt, Down, codeOn, fallOn}
 use Rattle.terrain.specs.declared.direction.Fall.{Fall}
 use Rattle.terrain.proofs.Flats.{flat-valid, flat-inland, flat-is, steps-kept}
 use Rattle.terrain.proofs.Directions.{lower-steepest}
@@ -73,12 +74,14 @@ steep-is k w d e = rw e (go (cardinal k))
 pub steeper-kept : {k d w : ℕ} {a : Fall} → w ≡ cond (cardinal k) 2 1 → w * d * d ≤ a .steepness → Steeper k d a a
 steeper-kept {k} {d} {w} {a} e h =
     let q = steep-is k w d e in
-    record { code = sym (ap (λ (b : Bool). cond b (a .code) (codeOf k)) (le-leb (steepOf k d) (a .steepness) (omega arith))); steepness = omega arith }
+    let t = le-leb (steepOf k d) (a .steepness) (omega arith) in
+    record { code = sym (ap (λ (b : Bool). cond b (a .code) (codeOf k)) t); steepness = omega arith; fall = sym (ap (λ (b : Bool). cond b (a .fall) (2 * d + k % 2)) t) }
 
-pub steeper-new : {k d w : ℕ} {a r : Fall} → w ≡ cond (cardinal k) 2 1 → a .steepness < w * d * d → r .code ≡ codeOf k → r .steepness ≡ w * d * d → Steeper k d a r
-steeper-new {k} {d} {w} {a} e h c s =
+pub steeper-new : {k d w : ℕ} {a r : Fall} → w ≡ cond (cardinal k) 2 1 → a .steepness < w * d * d → r .code ≡ codeOf k → r .steepness ≡ w * d * d → r .fall ≡ 2 * d + k % 2 → Steeper k d a r
+steeper-new {k} {d} {w} {a} e h c s f =
     let q = steep-is k w d e in
-    record { code = c ∙ sym (ap (λ (b : Bool). cond b (a .code) (codeOf k)) (lt-leb (steepOf k d) (a .steepness) (omega arith))); steepness = omega arith }
+    let t = lt-leb (steepOf k d) (a .steepness) (omega arith) in
+    record { code = c ∙ sym (ap (λ (b : Bool). cond b (a .code) (codeOf k)) t); steepness = omega arith; fall = f ∙ sym (ap (λ (b : Bool). cond b (a .fall) (2 * d + k % 2)) t) }
 
 pub drop-small : (v w : ℕ) → dropOf v w ≤ v
 drop-small v w = go (ltb 0 w && ltb w v)
@@ -86,11 +89,6 @@ drop-small v w = go (ltb 0 w && ltb w v)
     go : (b : Bool) → cond b (v - w) 0 ≤ v
     go true = omega arith
     go false = omega arith
-
--- the fall at the first k sides of x
-pub record FallTo (rows cols : ℕ) (lv : List ℕ) (x k : ℕ) (a : Fall) : Type 0 where
-  pub code : a .code ≡ fallIn rows cols lv x k
-  pub steepness : a .steepness ≡ greatestTo k (steepAt rows cols lv x)
 
 module _ (rows cols : ℕ) (lv : List ℕ) (x : ℕ) where
   abbrev steep : ℕ → ℕ
@@ -109,47 +107,70 @@ module _ (rows cols : ℕ) (lv : List ℕ) (x : ℕ) where
       go true = refl
       go false = flat (cardinal k)
 
-  -- at the next side the fall stays, or it is the new side's
-  fall-kept : (k : ℕ) → steep k ≤ greatestTo k steep → fallIn rows cols lv x (k + 1) ≡ fallIn rows cols lv x k
-  unfolding fallIn
-  fall-kept k h =
+  -- at the next side the steepest stays, or it is the new side
+  steepest-kept : (g : ℕ → ℕ) (k : ℕ) → steep k ≤ greatestTo k steep → steepestIn rows cols lv g x (k + 1) ≡ steepestIn rows cols lv g x k
+  unfolding steepestIn
+  steepest-kept g k h =
       let e : greatestTo (k + 1) steep ≡ greatestTo k steep = omega (arith, greatest-more k steep) in
       elim (decLt 0 (greatestTo k steep)) [
-        | yes p ↦ simp (lt-ltb 0 (greatestTo k steep) p, lt-ltb 0 (greatestTo (k + 1) steep) (omega arith)) (ap codeOf (first-kept steep k h p))
+        | yes p ↦ simp (lt-ltb 0 (greatestTo k steep) p, lt-ltb 0 (greatestTo (k + 1) steep) (omega arith)) (ap g (first-kept steep k h p))
         | no q ↦ simp (le-ltb 0 (greatestTo k steep) (omega arith), le-ltb 0 (greatestTo (k + 1) steep) (omega arith))
       ]
 
-  fall-new : (k : ℕ) → greatestTo k steep < steep k → fallIn rows cols lv x (k + 1) ≡ codeOf k
-  unfolding fallIn
-  fall-new k h = simp (lt-ltb 0 (greatestTo (k + 1) steep) (omega (arith, greatest-more k steep))) (ap codeOf (first-new steep k h))
+  steepest-new : (g : ℕ → ℕ) (k : ℕ) → greatestTo k steep < steep k → steepestIn rows cols lv g x (k + 1) ≡ g k
+  unfolding steepestIn
+  steepest-new g k h = simp (lt-ltb 0 (greatestTo (k + 1) steep) (omega (arith, greatest-more k steep))) (ap g (first-new steep k h))
+
+  steepest-more : (g : ℕ → ℕ) (k m n a b : ℕ) → m ≡ steep k → n ≡ greatestTo k steep → a ≡ steepestIn rows cols lv g x k → b ≡ g k → cond (leb m n) a b ≡ steepestIn rows cols lv g x (k + 1)
+  steepest-more g k m n a b e f p q =
+      elim (decLe m n) [
+        | yes h ↦ rw (le-leb m n h) (p ∙ sym (steepest-kept g k (omega arith)))
+        | no h ↦ rw (lt-leb m n (omega arith)) (q ∙ sym (steepest-new g k (omega arith)))
+      ]
+
+  -- at all eight sides it is the definition's
+  pub steepest-is : (g : ℕ → ℕ) → steepestIn rows cols lv g x 8 ≡ cond (hasLower rows cols lv x) (g (steepSide rows cols lv x)) 0
+  unfolding steepestIn steepSide steepestAt
+  steepest-is g = ap (λ (b : Bool). cond b (g (firstOf (λ j. eqb (steepAt rows cols lv x j) (steepestAt rows cols lv x)) 8)) 0) (sym (lower-steepest rows cols lv x))
 
 module _ {rows cols : ℕ} {lv : List ℕ} {x : ℕ} where
-  pub fall-none : {a : Fall} → a .code ≡ 0 → a .steepness ≡ 0 → FallTo rows cols lv x 0 a
-  unfolding fallIn greatestTo
-  fall-none c s = record { code = c; steepness = s }
+  pub fall-none : {a : Fall} → a .code ≡ 0 → a .steepness ≡ 0 → a .fall ≡ 0 → FallTo rows cols lv x 0 a
+  unfolding steepestIn greatestTo
+  fall-none c s f = record { code = c; steepness = s; fall = f }
 
   pub fall-more : {k d : ℕ} {a r : Fall} → FallTo rows cols lv x k a → d ≡ dropOf (getD lv x 0) (getD lv (neighbour rows cols x k) 0) → Steeper k d a r → FallTo rows cols lv x (k + 1) r
   fall-more {k} {d} {a} p e s =
+      let q = steep-drop rows cols lv x k d e in
       record {
-        code = s .code ∙ go (steepOf k d) (steep-drop rows cols lv x k d e) (decLe (steepOf k d) (a .steepness));
-        steepness = omega (arith, s .steepness, p .steepness, steep-drop rows cols lv x k d e, greatest-more k (steepAt rows cols lv x));
+        code = s .code ∙ steepest-more rows cols lv x codeOf k (steepOf k d) (a .steepness) (a .code) (codeOf k) q (p .steepness) (p .code) refl;
+        steepness = omega (arith, s .steepness, p .steepness, q, greatest-more k (steepAt rows cols lv x));
+        fall = s .fall ∙ steepest-more rows cols lv x (sideFall rows cols lv x) k (steepOf k d) (a .steepness) (a .fall) (2 * d + k % 2) q (p .steepness) (p .fall) (ap (λ (m : ℕ). 2 * m + k % 2) e);
       }
-    where
-      go : (m : ℕ) → m ≡ steepAt rows cols lv x k → Dec (m ≤ a .steepness) → cond (leb m (a .steepness)) (a .code) (codeOf k) ≡ fallIn rows cols lv x (k + 1)
-      go m q (yes h) = rw (le-leb m (a .steepness) h) (p .code ∙ sym (fall-kept rows cols lv x k (omega (arith, p .steepness))))
-      go m q (no h) = rw (lt-leb m (a .steepness) (omega arith)) (sym (fall-new rows cols lv x k (omega (arith, p .steepness))))
+
+  pub fall-all : {k : ℕ} {a : Fall} → k ≡ 8 → FallTo rows cols lv x k a → FallTo rows cols lv x 8 a
+  fall-all {k} {a} e p = subst (λ (m : ℕ). FallTo rows cols lv x m a) e p
+
+-- ---- the cells passed before the flats are
+
+module _ {rows cols : ℕ} {lv : List ℕ} where
+  pub down-none : (dir falls : List ℕ) → Down rows cols lv dir falls 0
+  down-none dir falls = record { codes = agrees-none (downAt rows cols lv) 255 dir; falls = agrees-none (fallDownAt rows cols lv) 0 falls }
+
+  pub down-more : {dir falls dir′ falls′ : List ℕ} {x : ℕ} {a : Fall} → x < length dir → x < length falls → Down rows cols lv dir falls x → FallTo rows cols lv x 8 a → (dir′ ≡ set dir x (codeOn (getD lv x 0) a)) × (falls′ ≡ set falls x (fallOn (getD lv x 0) a)) → Down rows cols lv dir′ falls′ (x + 1)
+  unfolding downAt fallDownAt
+  down-more {dir} {falls} {dir′} {falls′} {x} {a} h k p f e =
+      record {
+        codes = rw (e .0) (agrees-more (downAt rows cols lv) 255 dir x (codeOn (getD lv x 0) a) h (p .codes) (ap (λ (m : ℕ). cond (ltb 0 (getD lv x 0)) m 255) (f .code)));
+        falls = rw (e .1) (agrees-more (fallDownAt rows cols lv) 0 falls x (fallOn (getD lv x 0) a) k (p .falls) (ap (λ (m : ℕ). cond (ltb 0 (getD lv x 0)) m noFall) (f .fall)));
+      }
+
+  pub down-codes : {dir falls : List ℕ} → length dir ≡ rows * cols → Down rows cols lv dir falls (rows * cols) → dir ≡ tab (rows * cols) (downAt rows cols lv)
+  down-codes {dir} h p = agrees-tab (downAt rows cols lv) 255 dir (rows * cols) h (p .codes)
+
+  pub down-falls : {dir falls : List ℕ} → length falls ≡ rows * cols → Down rows cols lv dir falls (rows * cols) → falls ≡ tab (rows * cols) (fallDownAt rows cols lv)
+  down-falls {dir} {falls} h p = agrees-tab (fallDownAt rows cols lv) 0 falls (rows * cols) h (p .falls)
 
 module _ (rows cols : ℕ) (lv : List ℕ) (x : ℕ) where
-  -- the code that is written before the flats are
-  pub down-is : {code r : ℕ} → code ≡ fallIn rows cols lv x 8 → r ≡ cond (ltb 0 (getD lv x 0)) code 255 → r ≡ downAt rows cols lv x
-  unfolding downAt
-  down-is e q = q ∙ ap (λ (m : ℕ). cond (ltb 0 (getD lv x 0)) m 255) e
-
-  -- at all eight sides it is the definition's
-  fall-is : fallIn rows cols lv x 8 ≡ cond (hasLower rows cols lv x) (codeOf (steepSide rows cols lv x)) 0
-  unfolding fallIn steepSide steepestAt
-  fall-is = ap (λ (b : Bool). cond b (codeOf (firstOf (λ j. eqb (steepAt rows cols lv x j) (steepestAt rows cols lv x)) 8)) 0) (sym (lower-steepest rows cols lv x))
-
   -- ---- the codes of the sides passed
 
   -- no side below k is nearer
@@ -221,7 +242,7 @@ module _ {rows cols : ℕ} {lv st : List ℕ} where
     direction-down x h =
         code-down (validAt lv x) (hasLower rows cols lv x) (rimAt rows cols lv x) (codeOf (steepSide rows cols lv x)) (codeOf (nearerSide rows cols lv st x))
         (λ v l r. omega (arith, steps-some x (flat-is rows cols lv x (ltb-true 0 (getD lv x 0) v) l r)))
-        ∙ ap (λ (m : ℕ). cond (validAt lv x) m 255) (sym (fall-is rows cols lv x))
+        ∙ ap (λ (m : ℕ). cond (validAt lv x) m 255) (sym (steepest-is rows cols lv x codeOf))
 
   module _ {dir dir′ : List ℕ} {x : ℕ} (p : Pointing rows cols lv st dir x) (kept : StepsKept rows cols lv st) (l : x < rows * cols) where
     -- a flat cell gets its code, and any other keeps it

@@ -9,14 +9,11 @@ pub mod Following
 pub mod Descending
 pub mod Passing
 pub mod Drainage
-pub mod Lengths
-pub mod Measuring
 pub mod Answers
-pub mod Accepted
 pub mod Interior
 pub mod Flooding
 pub mod Stepping
 pub mod Falls
+pub mod Dropping
 pub mod Surveying
-pub mod Bounds
 pub mod Words

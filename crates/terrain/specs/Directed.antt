@@ -1,6 +1,6 @@
 -- What the functions that follow trails assume of a grid of directions, and what they answer: no promise of a public call cites this file. Assumes nothing.
 use mathlib.Core.Path.{_≡_}
-use mathlib.Core.List.{List, [], _∷_}
+use mathlib.Core.List.{List}
 use mathlib.Core.Bool.{true, false, cond}
 use Prim.Native.Nat.{ℕ, _+_, _*_, _<_}
 use lib.ListN.{length, getD}
@@ -22,12 +22,6 @@ pub record Directed (rows cols : ℕ) (dir : List ℕ) : Type 0 where
 -- the cell that x points at; rows * cols, which is no cell, where it points at none
 unfoldable pub receiverOf : ℕ → ℕ → List ℕ → ℕ → ℕ
 receiverOf rows cols dir x = cond (flowsAt rows cols dir x) (nextAt rows cols dir x) (rows * cols)
-
--- ---- counts
-
--- the code by which the neighbour at the side k points back at the cell
-abbrev pub backOf : ℕ → ℕ
-backOf k = getD (16 ∷ 32 ∷ 64 ∷ 128 ∷ 1 ∷ 2 ∷ 4 ∷ 8 ∷ []) k 0
 
 -- ---- the cells of trails
 

@@ -1,4 +1,4 @@
--- The valid cells in an order from the ridges down: no promise of a public call cites this file. Assumes nothing.
+-- The valid cells in an order from the ridges down. Assumes nothing.
 use mathlib.Core.Path.{_≡_}
 use mathlib.Core.List.{List}
 use mathlib.Core.Bool.{true}
@@ -11,16 +11,11 @@ use Rattle.laws.specs.Peel.{Peeling}
 use Rattle.terrain.specs.Trail.{mappedAt}
 use Rattle.terrain.specs.Directed.{receiverOf}
 
--- the number of valid cells
-unfoldable pub mappedsOf : ℕ → ℕ → List ℕ → ℕ
-unfolding sumTo when mappedAt
-mappedsOf rows cols dir = sumTo (rows * cols) (λ x. when (mappedAt rows cols dir x) 1)
-
--- the first m places of the order hold every valid cell once and nothing else, each after all the cells that point at it; which of the many such orders it is stays open
+-- The first m places of the order hold every valid cell once and nothing else, each after all the cells that point at it. Which of the many such orders it is, and what
+-- stands past them, stays open.
 pub record Downhill (rows cols : ℕ) (dir order : List ℕ) (m : ℕ) : Type 0 where
   pub room : m ≤ length order
   pub cells : Ordered (mappedAt rows cols dir) (receiverOf rows cols dir) order m
-  pub places : m ≡ mappedsOf rows cols dir
 
 -- ---- on the way there
 

@@ -3,17 +3,19 @@
 use mathlib.Core.Path.{_≡_}
 use mathlib.Core.List.{List}
 use mathlib.Core.Bool.{Bool, cond, _&&_}
-use Prim.Native.Nat.{ℕ, _+_, _-_, _*_, _≤_, max}
+use Prim.Native.Nat.{ℕ, _+_, _-_, _*_, _%_, _≤_, max}
 use lib.ListN.{length, getD, set}
 use lib.Dec.{ltb, leb, eqb}
 use Rattle.laws.specs.Sums.{greatestTo}
 use Rattle.laws.specs.First.{firstOf}
+use Rattle.laws.specs.Lists.{Agrees}
 use Rattle.laws.specs.Settle.{Loose, relaxedOf}
-use Rattle.terrain.specs.Cells.{codeOf, validAt}
+use Rattle.terrain.specs.Cells.{neighbour, codeOf, validAt}
 use Rattle.terrain.specs.Inside.{Sized}
 use Rattle.terrain.specs.Filled.{top}
 use Rattle.terrain.specs.Flat.{farSteps, flatAt, nearestOf, flatStepping, StepsKept}
 use Rattle.terrain.specs.Direction.{steepOf, steepAt}
+use Rattle.terrain.specs.Falls.{noFall}
 use Rattle.terrain.specs.declared.direction.Fall.{Fall}
 
 pub record Levels (rows cols : ℕ) (lv : List ℕ) : Type 0 where
@@ -66,16 +68,43 @@ dropOf v w = cond (ltb 0 w && ltb w v) (v - w) 0
 pub record Steeper (k d : ℕ) (a r : Fall) : Type 0 where
   pub code : r .code ≡ cond (leb (steepOf k d) (a .steepness)) (a .code) (codeOf k)
   pub steepness : r .steepness ≡ max (a .steepness) (steepOf k d)
+  pub fall : r .fall ≡ cond (leb (steepOf k d) (a .steepness)) (a .fall) (2 * d + k % 2)
 
--- the code of the first of the first k sides of greatest steepness; 0 where no neighbour there is lower
-unfoldable pub fallIn : ℕ → ℕ → List ℕ → ℕ → ℕ → ℕ
-unfolding steepAt greatestTo firstOf
-fallIn rows cols lv x k =
-    cond (ltb 0 (greatestTo k (steepAt rows cols lv x)))
-    (codeOf (firstOf (λ j. eqb (steepAt rows cols lv x j) (greatestTo k (steepAt rows cols lv x))) k))
-    0
+module _ (rows cols : ℕ) (lv : List ℕ) where
+  -- what g has for the first of the first k sides of greatest steepness; 0 where no neighbour there is lower
+  unfoldable pub steepestIn : (ℕ → ℕ) → ℕ → ℕ → ℕ
+  unfolding steepAt greatestTo firstOf
+  steepestIn g x k =
+      cond (ltb 0 (greatestTo k (steepAt rows cols lv x))) (g (firstOf (λ j. eqb (steepAt rows cols lv x j) (greatestTo k (steepAt rows cols lv x))) k)) 0
 
--- the code of the cell x but for flats
-unfoldable pub downAt : ℕ → ℕ → List ℕ → ℕ → ℕ
-unfolding fallIn
-downAt rows cols lv x = cond (validAt lv x) (fallIn rows cols lv x 8) 255
+  -- the fall over the side k of x
+  abbrev pub sideFall : ℕ → ℕ → ℕ
+  sideFall x k = 2 * dropOf (getD lv x 0) (getD lv (neighbour rows cols x k) 0) + k % 2
+
+  -- the fall at the first k sides of x
+  pub record FallTo (x k : ℕ) (a : Fall) : Type 0 where
+    pub code : a .code ≡ steepestIn codeOf x k
+    pub steepness : a .steepness ≡ greatestTo k (steepAt rows cols lv x)
+    pub fall : a .fall ≡ steepestIn (sideFall x) x k
+
+  -- the code of the cell x but for flats
+  unfoldable pub downAt : ℕ → ℕ
+  unfolding steepestIn
+  downAt x = cond (validAt lv x) (steepestIn codeOf x 8) 255
+
+  -- and its fall
+  unfoldable pub fallDownAt : ℕ → ℕ
+  unfolding steepestIn
+  fallDownAt x = cond (validAt lv x) (steepestIn (sideFall x) x 8) noFall
+
+  -- the cells below x have their codes but for flats, and their falls
+  pub record Down (dir fall : List ℕ) (x : ℕ) : Type 0 where
+    pub codes : Agrees downAt 255 dir x
+    pub falls : Agrees fallDownAt 0 fall x
+
+-- what is written of a cell of level v: code and fall
+abbrev pub codeOn : ℕ → Fall → ℕ
+codeOn v a = cond (ltb 0 v) (a .code) 255
+
+abbrev pub fallOn : ℕ → Fall → ℕ
+fallOn v a = cond (ltb 0 v) (a .fall) noFall

@@ -5,14 +5,13 @@ pub mod Filled
 pub mod Flat
 pub mod Direction
 pub mod Trail
+pub mod Falls
 pub mod Drainage
-pub mod Length
+pub mod Directed
+pub mod Downhill
 pub mod Answers
 pub mod Inside
 pub mod Flood
-pub mod Directed
-pub mod Downhill
-pub mod Measure
 pub mod Relief
 pub mod Levels
 pub mod Words

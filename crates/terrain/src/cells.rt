@@ -9,11 +9,9 @@ ghost use Prim.Native.Nat.{_+_, _*_, _≤_, _<_, min, max};
 ghost use lib.ListN.{length, getD, replicate};
 ghost use Rattle.terrain.specs.Cells.{rowSteps, colSteps, cellAt, neighbour};
 ghost use Rattle.terrain.specs.Inside.{Sized, Inside, RunsTo, besideOf, Beside};
-ghost use Rattle.terrain.specs.Length.{largestOf};
 
 // Where the neighbour at side k lies, counted from the one at NW: four times its row, plus its column.
-fn place_of(k: usize) -> usize
-    requires { ⌜ k < 8 ⌝ }
+pub fn place_of(k: usize) -> usize
     ensures { λ r. ⌜ r ≡ getD rowSteps k 0 * 4 + getD colSteps k 0 ⌝ }
 {
     match k {
@@ -24,7 +22,8 @@ fn place_of(k: usize) -> usize
         4 => 4,
         5 => 0,
         6 => 1,
-        _ => 2,
+        7 => 2,
+        _ => 0,
     }
 }
 
@@ -139,17 +138,4 @@ pub(crate) fn clear(s: &mut [u32])
         s[x] = 0;
         x += 1;
     }
-}
-
-// The largest flow count.
-pub(crate) fn largest(count: &[u32]) -> u32
-    ensures { λ r. ⌜ r ≡ largestOf (length (now (count .entry))) (now (count .entry)) ⌝ }
-{
-    let mut most: u32 = 0;
-    let mut x: usize = 0;
-    while x < count.len() {
-        most = larger(most, count[x]);
-        x += 1;
-    }
-    most
 }

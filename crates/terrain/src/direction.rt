@@ -2,23 +2,26 @@
 // one step nearer. Document 01, "Filling and directions".
 ghost use mathlib.Core.Path.{_≡_};
 ghost use mathlib.Core.Bool.{true, cond, _&&_};
-ghost use Prim.Native.Nat.{ℕ, _+_, _*_, _≤_, _<_};
-ghost use lib.ListN.{length, getD};
-ghost use lib.Dec.{ltb, eqb};
-ghost use Rattle.laws.specs.Lists.{tab, Agrees};
+ghost use Prim.Native.Nat.{ℕ, _+_, _*_, _%_, _≤_, _<_};
+ghost use lib.ListN.{length, getD, set};
+ghost use lib.Dec.{eqb};
+ghost use Rattle.laws.specs.Lists.{tab};
 ghost use Rattle.terrain.specs.Cells.{neighbour, codeOf, cardinal};
 ghost use Rattle.terrain.specs.Inside.{Sized, Inside, RunsTo};
 ghost use Rattle.terrain.specs.Flat.{flatSteps, farSteps};
 ghost use Rattle.terrain.specs.Direction.{directionsOf};
-ghost use Rattle.terrain.specs.Levels.{Levels, dropOf, Steeper, fallIn, downAt};
+ghost use Rattle.terrain.specs.Falls.{fallsOf};
+ghost use Rattle.terrain.specs.Levels.{Levels, dropOf, Steeper, FallTo, codeOn, fallOn, downAt, Down};
 use crate::cells::beside;
 use crate::cells::is_inside;
 use crate::cells::near;
 use crate::cells::run_end;
 use crate::cells::value_at;
 
-// The code of a NoData cell.
+// The code of a NoData cell, and its fall.
 pub(crate) const NO_CODE: u8 = 255;
+
+const NO_FALL: u32 = 4294967295;
 
 // The code of side k.
 pub(crate) fn code_of(k: usize) -> u8
@@ -64,14 +67,23 @@ fn drop_of(v: u32, w: u32) -> u64
     (v - w) as u64
 }
 
-// A code with the steepness there; 0 and 0 for none.
+// The fall of a drop over side k.
+fn fall_over(k: usize, drop: u64) -> u32
+    requires { ⌜ drop < 2000000 ⌝ }
+    ensures { λ r. ⌜ r ≡ 2 * drop + k % 2 ⌝ }
+{
+    (2 * drop) as u32 + (k % 2) as u32
+}
+
+// The code of a side with the steepness and the fall there; zeros for none.
 struct Fall {
     code: u8,
     steepness: u64,
+    fall: u32,
 }
 
 impl Fall {
-    // The steeper of this fall and that by a drop at side k; this one on a tie.
+    // The steeper of this and the side k with this drop; this one on a tie.
     fn or(self, k: usize, drop: u64) -> Fall
         requires { ⌜ (k < 8) × (drop < 2000000) ⌝ }
         ensures { λ r. ⌜ Steeper k drop self r ⌝ }
@@ -83,75 +95,100 @@ impl Fall {
         Fall {
             code: code_of(k),
             steepness: steepness,
+            fall: fall_over(k, drop),
         }
     }
 }
 
-// The code of the steepest lower neighbour of a cell x that is inside; 0 where there is none.
-fn steepest_inside(columns: usize, level: &[u32], x: usize) -> u8
+// The steepest lower neighbour of a cell x that is inside.
+fn steepest_inside(columns: usize, level: &[u32], x: usize) -> Fall
     requires { ⌜ ((rows : ℕ) × Levels rows columns (now level) × Inside rows columns x) ⌝ }
-    ensures { λ r. ⌜ ((rows : ℕ) → Inside rows columns x → r ≡ fallIn rows columns (now (level .entry)) x 8) ⌝ }
+    ensures { λ r. ⌜ ((rows : ℕ) → Inside rows columns x → FallTo rows columns (now (level .entry)) x 8 r) ⌝ }
 {
     let v = level[x];
     let mut fall = Fall {
         code: 0,
         steepness: 0,
+        fall: 0,
     };
     let mut k: usize = 0;
     while k < 8 {
         fall = fall.or(k, drop_of(v, level[beside(columns, x, k)]));
         k += 1;
     }
-    fall.code
+    fall
 }
 
 // The same of any cell x.
-fn steepest_near(rows: usize, columns: usize, level: &[u32], x: usize) -> u8
+fn steepest_near(rows: usize, columns: usize, level: &[u32], x: usize) -> Fall
     requires { ⌜ Levels rows columns (now level) × (x < rows * columns) ⌝ }
-    ensures { λ r. ⌜ r ≡ fallIn rows columns (now (level .entry)) x 8 ⌝ }
+    ensures { λ r. ⌜ FallTo rows columns (now (level .entry)) x 8 r ⌝ }
 {
     let v = level[x];
     let mut fall = Fall {
         code: 0,
         steepness: 0,
+        fall: 0,
     };
     let mut k: usize = 0;
     while k < 8 {
         fall = fall.or(k, drop_of(v, value_at(level, near(rows, columns, x, k))));
         k += 1;
     }
-    fall.code
+    fall
 }
 
-// The code of a cell of level v but for flats, from that of its steepest lower neighbour.
-fn downhill(v: u32, code: u8) -> u8
-    ensures { λ r. ⌜ r ≡ cond (ltb 0 v) code 255 ⌝ }
+// Writes the code, but for flats, and the fall of a cell x with this steepest lower neighbour.
+fn write_cell(level: &[u32], direction: &mut [u8], falls: &mut [u32], x: usize, steepest: Fall)
+    requires { ⌜ (x < length (now level)) × (length (now direction) ≡ length (now level)) × (length (now falls) ≡ length (now level)) ⌝ }
+    ensures { λ _. ⌜ (now (direction .exit) ≡ set (now (direction .entry)) x (codeOn (getD (now (level .entry)) x 0) steepest)) × (now (falls .exit) ≡ set (now (falls .entry)) x (fallOn (getD (now (level .entry)) x 0) steepest)) ⌝ }
 {
-    if v < 1 { NO_CODE } else { code }
+    if level[x] < 1 {
+        direction[x] = NO_CODE;
+        falls[x] = NO_FALL;
+        return;
+    }
+    direction[x] = steepest.code;
+    falls[x] = steepest.fall;
 }
 
-// Writes the codes but for flats of a run of cells that are inside.
-fn point_run(columns: usize, level: &[u32], direction: &mut [u8], from: usize, to: usize)
-    requires { ⌜ ((rows : ℕ) × Levels rows columns (now level) × RunsTo rows columns from to × (length (now direction) ≡ rows * columns)) ⌝ }
-    ensures { λ r. ⌜ ((rows : ℕ) → RunsTo rows columns from to → Agrees (downAt rows columns (now (level .entry))) 255 (now (direction .entry)) from → Agrees (downAt rows columns (now (level .entry))) 255 (now (direction .exit)) to) ⌝ }
+// Writes the codes, but for flats, and the falls of a run of cells that are inside.
+fn point_run(
+    columns: usize,
+    level: &[u32],
+    direction: &mut [u8],
+    falls: &mut [u32],
+    from: usize,
+    to: usize,
+)
+    requires { ⌜ ((rows : ℕ) × Levels rows columns (now level) × RunsTo rows columns from to × (length (now direction) ≡ rows * columns) × (length (now falls) ≡ rows * columns)) ⌝ }
+    ensures { λ r. ⌜ ((rows : ℕ) → RunsTo rows columns from to → Down rows columns (now (level .entry)) (now (direction .entry)) (now (falls .entry)) from → Down rows columns (now (level .entry)) (now (direction .exit)) (now (falls .exit)) to) ⌝ }
 {
     let mut x = from;
     while x < to {
-        direction[x] = downhill(level[x], steepest_inside(columns, level, x));
+        let steepest = steepest_inside(columns, level, x);
+        write_cell(level, direction, falls, x, steepest);
         x += 1;
     }
 }
 
-// Writes the code of every cell but for flats.
-fn point_down(rows: usize, columns: usize, level: &[u32], direction: &mut [u8])
-    requires { ⌜ Levels rows columns (now level) × (length (now direction) ≡ rows * columns) ⌝ }
-    ensures { λ r. ⌜ now (direction .exit) ≡ tab (rows * columns) (downAt rows columns (now (level .entry))) ⌝ }
+// Writes the code of every cell, but for flats, and its fall.
+fn point_down(
+    rows: usize,
+    columns: usize,
+    level: &[u32],
+    direction: &mut [u8],
+    falls: &mut [u32],
+)
+    requires { ⌜ Levels rows columns (now level) × (length (now direction) ≡ rows * columns) × (length (now falls) ≡ rows * columns) ⌝ }
+    ensures { λ r. ⌜ Down rows columns (now (level .entry)) (now (direction .exit)) (now (falls .exit)) (rows * columns) ⌝ }
 {
     let mut x: usize = 0;
     while x < direction.len() {
         let end = run_end(rows, columns, x);
-        point_run(columns, level, direction, x, end);
-        direction[end] = downhill(level[end], steepest_near(rows, columns, level, end));
+        point_run(columns, level, direction, falls, x, end);
+        let steepest = steepest_near(rows, columns, level, end);
+        write_cell(level, direction, falls, end, steepest);
         x = end + 1;
     }
 }
@@ -203,11 +240,18 @@ fn point_flats(rows: usize, columns: usize, level: &[u32], steps: &[u32], direct
     }
 }
 
-// Writes the direction of every cell.
-pub(crate) fn point(rows: usize, columns: usize, level: &[u32], steps: &[u32], direction: &mut [u8])
-    requires { ⌜ Levels rows columns (now level) × (now steps ≡ flatSteps rows columns (now level)) × (length (now direction) ≡ rows * columns) ⌝ }
-    ensures { λ r. ⌜ now (direction .exit) ≡ directionsOf rows columns (now (level .entry)) ⌝ }
+// Writes the direction and the fall of every cell.
+pub(crate) fn point(
+    rows: usize,
+    columns: usize,
+    level: &[u32],
+    steps: &[u32],
+    direction: &mut [u8],
+    falls: &mut [u32],
+)
+    requires { ⌜ Levels rows columns (now level) × (now steps ≡ flatSteps rows columns (now level)) × (length (now direction) ≡ rows * columns) × (length (now falls) ≡ rows * columns) ⌝ }
+    ensures { λ r. ⌜ (now (direction .exit) ≡ directionsOf rows columns (now (level .entry))) × (now (falls .exit) ≡ fallsOf rows columns (now (level .entry)) (directionsOf rows columns (now (level .entry)))) ⌝ }
 {
-    point_down(rows, columns, level, direction);
+    point_down(rows, columns, level, direction, falls);
     point_flats(rows, columns, level, steps, direction);
 }

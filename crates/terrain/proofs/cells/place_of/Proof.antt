@@ -30,11 +30,12 @@ returns-7 : tie.Need-returns-7
 returns-7 c = let e : c .before .args .k ≡ 6 = omega arith in rw e
 
 returns-8 : tie.Need-returns-8
-returns-8 c =
-    let r = c .match .rest in
-    each-side (λ j. c .before .args .k ≡ j → 2 ≡ getD rowSteps j 0 * 4 + getD colSteps j 0) (λ e. absurd (r .0 .0 .0 .0 .0 .0 .1 e)) (λ e. absurd (r .0 .0 .0 .0 .0 .1 e)) (λ e. absurd (r .0 .0 .0 .0 .1 e)) (λ e. absurd (r .0 .0 .0 .1 e)) (λ e. absurd (r .0 .0 .1 e)) (λ e. absurd (r .0 .1 e)) (λ e. absurd (r .1 e)) (λ e. refl) (c .before .args .k) (c .before .pre) refl
+returns-8 c = let e : c .before .args .k ≡ 7 = omega arith in rw e
+
+returns-9 : tie.Need-returns-9
+returns-9 c = ?
 
 pub place-of-spec : {M : Type 1} → statement M
 place-of-spec =
     tie.close
-    (tie.spec returns returns-2 returns-3 returns-4 returns-5 returns-6 returns-7 returns-8)
+    (tie.spec returns returns-2 returns-3 returns-4 returns-5 returns-6 returns-7 returns-8 returns-9)
