@@ -1,8 +1,8 @@
 -- Peeling: what it starts with, what taking a cell keeps, and that it takes every cell, since ranks fall along the pointing. Assumes nothing.
-use mathlib.Core.Path.{_≡_, refl, sym, ap, subst, _∙_}
+use mathlib.Core.Path.{_≡_, refl, sym, ap, _∙_}
 use mathlib.Core.List.{List}
 use mathlib.Core.Logic.{⊎-elim}
-use mathlib.Core.Bool.{Bool, true, false, true≢false}
+use mathlib.Core.Bool.{Bool, true}
 use Prim.Native.Nat.{ℕ, zero, suc, _+_, _-_, _≤_, _<_}
 use native.Mathlib.Omega.{arith}
 use native.Mathlib.Decide.{decLt, ℕ-discrete}
@@ -10,14 +10,14 @@ use lib.ListN.{length, getD, set, length-set}
 use lib.Seq.{getD-set-same, getD-set-other}
 use lib.Dec.{eqb}
 use borrow.Author.Tests.{eq-eqb, ne-eqb, eqb-true}
-use Rattle.laws.specs.Sums.{sumTo, when}
-use Rattle.laws.specs.Orders.{standsIn, Ordered, Pointing}
+use Rattle.laws.specs.Sums.{sumTo, greatestTo, when}
+use Rattle.laws.specs.Orders.{standsIn, Ordered, Pointing, Falling}
 use Rattle.laws.specs.Peel.{leftOf, Peeling, Taking}
 use Rattle.laws.proofs.Tests.{two}
-use Rattle.laws.proofs.Sums.{sum-ext, sum-zero, sum-one, sum-add, sum-ones, when-yes, when-no, when-under, when-zero}
-use Rattle.laws.proofs.Orders.{sum-but-one, sum-ge, stands-none, stands-more, stands-set, stands-store, stands-le, stands-here, stands-at, stands-total}
+use Rattle.laws.proofs.Sums.{sum-but-one, sum-ge, sum-ext, sum-zero, sum-one, sum-add, sum-ones, greatest-ge, when-yes, when-no, when-under, when-zero}
+use Rattle.laws.proofs.Orders.{stands-none, stands-set, stands-store, stands-le, stands-here, stands-at, stands-total, placed-store, placed-here, placed-other}
 
-module _ {n : ℕ} {cell : ℕ → Bool} {to rank : ℕ → ℕ} (f : Pointing n cell to rank) where
+module _ {n : ℕ} {cell : ℕ → Bool} {to : ℕ → ℕ} (f : Pointing n cell to) where
   -- ---- what a cell waits for
 
   -- nothing is taken
@@ -84,6 +84,10 @@ module _ {n : ℕ} {cell : ℕ → Bool} {to rank : ℕ → ℕ} (f : Pointing n
               | no d ↦ omega (arith, when-no 1 (ne-eqb x z d), s .once z, when-under (cell z) 1)
             ]
 
+    -- all that point at it are taken
+    pub hand-after : x < n → (u : ℕ) → to u ≡ x → 0 < standsIn order p u
+    hand-after h u e = omega (arith, left-ge order p x u h e, s .waits x (hand-cell h) (hand-new h), s .held h)
+
     -- the cell that it points at is not taken
     next-new : x < n → to x < n → standsIn order p (to x) ≡ 0
     next-new h k =
@@ -91,9 +95,6 @@ module _ {n : ℕ} {cell : ℕ → Bool} {to rank : ℕ → ℕ} (f : Pointing n
           | yes l ↦ (let r = stands-at order p (to x) l in absurd (omega (arith, s .after (r .0) x (r .1) (sym (r .2)), stands-le order (r .0) p x (omega (arith, r .1)), hand-new h)))
           | no d ↦ omega arith
         ]
-
-    next-self : x < n → to x < n → to x ≡ x → ⊥
-    next-self h k e = omega (arith, f .less x k, ap rank e)
 
     -- and waits for it
     pub next-waits : x < n → to x < n → 0 < getD waiting (to x) 0
@@ -116,10 +117,10 @@ module _ {n : ℕ} {cell : ℕ → Bool} {to rank : ℕ → ℕ} (f : Pointing n
         room = omega (arith, hand-room h, s .long)
 
         same : (z : ℕ) → (z ≡ x → ⊥) → standsIn (set order p x) (p + 1) z ≡ standsIn order p z
-        same z d = omega (arith, stands-store order p z x room, when-no 1 (ne-eqb x z (λ e. d (sym e))))
+        same = placed-other (placed-store order p x room)
 
         here : standsIn (set order p x) (p + 1) x ≡ 1
-        here = omega (arith, stands-store order p x x room, when-yes 1 (eq-eqb x x refl), hand-new h)
+        here = omega (arith, placed-here (placed-store order p x room), hand-new h)
 
         apart : (z : ℕ) → standsIn (set order p x) (p + 1) z ≡ 0 → z ≡ x → ⊥
         apart z e q = omega (arith, here, ap (standsIn (set order p x) (p + 1)) q)
@@ -134,7 +135,7 @@ module _ {n : ℕ} {cell : ℕ → Bool} {to rank : ℕ → ℕ} (f : Pointing n
         behind : (j u : ℕ) → j < p + 1 → to u ≡ getD (set order p x) j 0 → 0 < standsIn (set order p x) j u
         behind j u l e =
             elim (ℕ-discrete j p) [
-              | yes q ↦ (let g : to u ≡ x = e ∙ ap (λ (i : ℕ). getD (set order p x) i 0) q ∙ getD-set-same order p x 0 room in omega (arith, ap (λ (i : ℕ). standsIn (set order p x) i u) q, stands-set order p p u x (omega arith), left-ge order p x u h g, s .waits x (hand-cell h) (hand-new h), s .held h))
+              | yes q ↦ (let g : to u ≡ x = e ∙ ap (λ (i : ℕ). getD (set order p x) i 0) q ∙ getD-set-same order p x 0 room in omega (arith, ap (λ (i : ℕ). standsIn (set order p x) i u) q, stands-set order p p u x (omega arith), hand-after h u g))
               | no d ↦ omega (arith, s .after j u (omega arith) (e ∙ getD-set-other order p j x 0 d), stands-set order j p u x (omega arith))
             ]
 
@@ -184,28 +185,31 @@ module _ {n : ℕ} {cell : ℕ → Bool} {to rank : ℕ → ℕ} (f : Pointing n
     pub peel-none : n ≤ x → (y : ℕ) → n ≤ y → Peeling n cell to order waiting p b y
     peel-none h y k = record { long = s .long; wide = s .wide; once = s .once; after = s .after; waits = s .waits; shut = s .shut; ready = (λ z v l e q. absurd (omega (arith, s .ready z v l e q, f .within z v))); held = (λ l. absurd (omega arith)) }
 
-    -- at the end every cell is taken
-    all-below : n ≤ b → n ≤ x → (m z : ℕ) → n - rank z < m → cell z ≡ true → 0 < standsIn order p z
-    all-below h k zero z l v = absurd (omega arith)
-    all-below h k (suc m) z l v =
-        elim (decLt 0 (standsIn order p z)) [
-          | yes t ↦ t
-          | no d ↦ absurd (omega (arith, none (left-none order p z (λ u e. all-below h k m u (omega (arith, up u e, f .bounded u)) (f .from u (omega (arith, f .within z v))))) (omega arith), f .within z v))
-        ]
-      where
-        up : (u : ℕ) → to u ≡ z → rank z < rank u
-        up u e = omega (arith, f .less u (omega (arith, f .within z v)), ap rank e)
+    -- at the end a cell that is not taken is pointed at by another
+    module _ (h : n ≤ b) (k : n ≤ x) where
+      pub end-taken : (z : ℕ) → cell z ≡ true → ((u : ℕ) → to u ≡ z → 0 < standsIn order p u) → 0 < standsIn order p z
+      end-taken z v q =
+          elim (decLt 0 (standsIn order p z)) [
+            | yes l ↦ l
+            | no d ↦ absurd (omega (arith, f .within z v, s .ready z v (omega (arith, f .within z v)) (omega arith) (s .waits z v (omega arith) ∙ left-none order p z q)))
+          ]
 
-        none : leftOf n to order p z ≡ 0 → standsIn order p z ≡ 0 → z ≡ x
-        none e q = s .ready z v (omega (arith, f .within z v)) q (s .waits z v q ∙ e)
+    -- and where ranks fall every cell is taken
+    module _ {rank : ℕ → ℕ} (g : Falling n to rank) (h : n ≤ b) (k : n ≤ x) where
+      all-above : (m z : ℕ) → greatestTo n rank - rank z < m → cell z ≡ true → 0 < standsIn order p z
+      all-above zero z l v = absurd (omega arith)
+      all-above (suc m) z l v = end-taken h k z v (λ u e. let w = up u e in all-above m u (omega (arith, w .0, w .1)) (f .from u (omega (arith, f .within z v))))
+        where
+          up : (u : ℕ) → to u ≡ z → (rank z < rank u) × (rank u ≤ greatestTo n rank)
+          up u e = let l : to u < n = omega (arith, f .within z v) in (omega (arith, g .less u l, ap rank e), greatest-ge n rank u (f .within u (f .from u l)))
 
-    pub peel-all : n ≤ b → n ≤ x → Ordered cell to order p
-    peel-all h k = record { once = once; after = s .after }
-      where
-        once : (z : ℕ) → standsIn order p z ≡ when (cell z) 1
-        once z =
-            ⊎-elim (λ v. omega (arith, all-below h k (suc (n - rank z)) z (omega arith) v, s .once z, when-yes 1 v))
-            (λ v. omega (arith, s .once z, when-no 1 v)) (two (cell z))
+      pub peel-all : Ordered cell to order p
+      peel-all = record { once = once; after = s .after }
+        where
+          once : (z : ℕ) → standsIn order p z ≡ when (cell z) 1
+          once z =
+              ⊎-elim (λ v. omega (arith, all-above (suc (greatestTo n rank - rank z)) z (omega arith) v, s .once z, when-yes 1 v))
+              (λ v. omega (arith, s .once z, when-no 1 v)) (two (cell z))
 
   -- ---- the start: no cell waits for less than points at it
 
