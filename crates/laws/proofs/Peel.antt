@@ -1,4 +1,4 @@
--- Peeling: what it starts with, what taking a cell keeps, and that it takes every cell, since ranks fall along the pointing. Assumes nothing.
+-- Peeling: what it starts with, what taking a cell keeps, and that it takes every cell where ranks fall along the pointing. Assumes nothing.
 use mathlib.Core.Path.{_≡_, refl, sym, ap, _∙_}
 use mathlib.Core.List.{List}
 use mathlib.Core.Logic.{⊎-elim}
@@ -169,23 +169,27 @@ module _ {n : ℕ} {cell : ℕ → Bool} {to : ℕ → ℕ} (f : Pointing n cell
   -- ---- from cell to cell, and the end
 
   module _ {order waiting : List ℕ} {p b x : ℕ} (s : Peeling n cell to order waiting p b x) where
+    -- another bound, or another cell in hand
+    rebound : {c y : ℕ} → ((z : ℕ) → cell z ≡ true → z < c → standsIn order p z ≡ 0 → getD waiting z 0 ≡ 0 → z ≡ y) → (y < n → getD waiting y 0 ≡ 0) → Peeling n cell to order waiting p c y
+    rebound ready held = record { long = s .long; wide = s .wide; once = s .once; after = s .after; waits = s .waits; shut = s .shut; ready = ready; held = held }
+
     -- with none in hand, the next cell is taken in hand if it waits for none
     pub peel-begin : n ≤ x → getD waiting b 0 ≡ 0 → Peeling n cell to order waiting p (b + 1) b
-    peel-begin h e = record { long = s .long; wide = s .wide; once = s .once; after = s .after; waits = s .waits; shut = s .shut; ready = (λ z v l q w. elim (decLt z b) [ yes k ↦ absurd (omega (arith, s .ready z v k q w, f .within z v)) | no k ↦ omega arith ]); held = (λ l. e) }
+    peel-begin h e = rebound (λ z v l q w. elim (decLt z b) [ yes k ↦ absurd (omega (arith, s .ready z v k q w, f .within z v)) | no k ↦ omega arith ]) (λ l. e)
 
     -- and else passed
     pub peel-pass : n ≤ x → 0 < getD waiting b 0 → Peeling n cell to order waiting p (b + 1) x
-    peel-pass h e = record { long = s .long; wide = s .wide; once = s .once; after = s .after; waits = s .waits; shut = s .shut; ready = (λ z v l q w. elim (decLt z b) [ yes k ↦ s .ready z v k q w | no k ↦ (let g : z ≡ b = omega arith in absurd (omega (arith, w, ap (λ (i : ℕ). getD waiting i 0) g))) ]); held = s .held }
+    peel-pass h e = rebound (λ z v l q w. elim (decLt z b) [ yes k ↦ s .ready z v k q w | no k ↦ (let g : z ≡ b = omega arith in absurd (omega (arith, w, ap (λ (i : ℕ). getD waiting i 0) g))) ]) (s .held)
 
     -- the bound does not matter to taking a cell
     pub peel-less : Peeling n cell to order waiting p 0 x
-    peel-less = record { long = s .long; wide = s .wide; once = s .once; after = s .after; waits = s .waits; shut = s .shut; ready = (λ z v l. absurd (omega arith)); held = s .held }
+    peel-less = rebound (λ z v l. absurd (omega arith)) (s .held)
 
     -- no cell is in hand
     pub peel-none : n ≤ x → (y : ℕ) → n ≤ y → Peeling n cell to order waiting p b y
-    peel-none h y k = record { long = s .long; wide = s .wide; once = s .once; after = s .after; waits = s .waits; shut = s .shut; ready = (λ z v l e q. absurd (omega (arith, s .ready z v l e q, f .within z v))); held = (λ l. absurd (omega arith)) }
+    peel-none h y k = rebound (λ z v l e q. absurd (omega (arith, s .ready z v l e q, f .within z v))) (λ l. absurd (omega arith))
 
-    -- at the end a cell that is not taken is pointed at by another
+    -- at the end a cell is taken if all that point at it are
     module _ (h : n ≤ b) (k : n ≤ x) where
       pub end-taken : (z : ℕ) → cell z ≡ true → ((u : ℕ) → to u ≡ z → 0 < standsIn order p u) → 0 < standsIn order p z
       end-taken z v q =
