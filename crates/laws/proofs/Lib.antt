@@ -11,4 +11,5 @@ pub mod Settle
 pub mod Raise
 pub mod Orders
 pub mod Peel
+pub mod Rings
 pub mod Handing

@@ -1,20 +1,20 @@
--- Peeling: what it starts with, what taking a cell keeps, and that it takes every cell where ranks fall along the pointing. Assumes nothing.
+-- Peeling: what it starts with, what taking a cell keeps, and what holds when none is left to take. Assumes nothing.
 use mathlib.Core.Path.{_≡_, refl, sym, ap, _∙_}
 use mathlib.Core.List.{List}
 use mathlib.Core.Logic.{⊎-elim}
 use mathlib.Core.Bool.{Bool, true}
-use Prim.Native.Nat.{ℕ, zero, suc, _+_, _-_, _≤_, _<_}
+use Prim.Native.Nat.{ℕ, _+_, _-_, _≤_, _<_}
 use native.Mathlib.Omega.{arith}
 use native.Mathlib.Decide.{decLt, ℕ-discrete}
 use lib.ListN.{length, getD, set, length-set}
 use lib.Seq.{getD-set-same, getD-set-other}
 use lib.Dec.{eqb}
 use borrow.Author.Tests.{eq-eqb, ne-eqb, eqb-true}
-use Rattle.laws.specs.Sums.{sumTo, greatestTo, when}
-use Rattle.laws.specs.Orders.{standsIn, Ordered, Pointing, Falling}
+use Rattle.laws.specs.Sums.{sumTo, when}
+use Rattle.laws.specs.Orders.{standsIn, Pointing}
 use Rattle.laws.specs.Peel.{leftOf, Peeling, Taking}
 use Rattle.laws.proofs.Tests.{two}
-use Rattle.laws.proofs.Sums.{sum-but-one, sum-ge, sum-ext, sum-zero, sum-one, sum-add, sum-ones, greatest-ge, when-yes, when-no, when-under, when-zero}
+use Rattle.laws.proofs.Sums.{sum-but-one, sum-ge, sum-ext, sum-zero, sum-one, sum-add, sum-ones, when-yes, when-no, when-under, when-zero}
 use Rattle.laws.proofs.Orders.{stands-none, stands-set, stands-store, stands-le, stands-here, stands-at, stands-total, placed-store, placed-here, placed-other}
 
 module _ {n : ℕ} {cell : ℕ → Bool} {to : ℕ → ℕ} (f : Pointing n cell to) where
@@ -60,7 +60,7 @@ module _ {n : ℕ} {cell : ℕ → Bool} {to : ℕ → ℕ} (f : Pointing n cell
     pub hand-new : x < n → standsIn order p x ≡ 0
     hand-new h = s .shut x h (s .held h) .1
 
-    place-in : (i : ℕ) → i < p → getD order i 0 < n
+    pub place-in : (i : ℕ) → i < p → getD order i 0 < n
     place-in i h =
         let y = getD order i 0 in
         ⊎-elim (λ e. f .within y e) (λ e. absurd (omega (arith, stands-here order p i h, s .once y, when-no 1 e))) (two (cell y))
@@ -190,30 +190,12 @@ module _ {n : ℕ} {cell : ℕ → Bool} {to : ℕ → ℕ} (f : Pointing n cell
     peel-none h y k = rebound (λ z v l e q. absurd (omega (arith, s .ready z v l e q, f .within z v))) (λ l. absurd (omega arith))
 
     -- at the end a cell is taken if all that point at it are
-    module _ (h : n ≤ b) (k : n ≤ x) where
-      pub end-taken : (z : ℕ) → cell z ≡ true → ((u : ℕ) → to u ≡ z → 0 < standsIn order p u) → 0 < standsIn order p z
-      end-taken z v q =
-          elim (decLt 0 (standsIn order p z)) [
-            | yes l ↦ l
-            | no d ↦ absurd (omega (arith, f .within z v, s .ready z v (omega (arith, f .within z v)) (omega arith) (s .waits z v (omega arith) ∙ left-none order p z q)))
-          ]
-
-    -- and where ranks fall every cell is taken
-    module _ {rank : ℕ → ℕ} (g : Falling n to rank) (h : n ≤ b) (k : n ≤ x) where
-      all-above : (m z : ℕ) → greatestTo n rank - rank z < m → cell z ≡ true → 0 < standsIn order p z
-      all-above zero z l v = absurd (omega arith)
-      all-above (suc m) z l v = end-taken h k z v (λ u e. let w = up u e in all-above m u (omega (arith, w .0, w .1)) (f .from u (omega (arith, f .within z v))))
-        where
-          up : (u : ℕ) → to u ≡ z → (rank z < rank u) × (rank u ≤ greatestTo n rank)
-          up u e = let l : to u < n = omega (arith, f .within z v) in (omega (arith, g .less u l, ap rank e), greatest-ge n rank u (f .within u (f .from u l)))
-
-      pub peel-all : Ordered cell to order p
-      peel-all = record { once = once; after = s .after }
-        where
-          once : (z : ℕ) → standsIn order p z ≡ when (cell z) 1
-          once z =
-              ⊎-elim (λ v. omega (arith, all-above (suc (greatestTo n rank - rank z)) z (omega arith) v, s .once z, when-yes 1 v))
-              (λ v. omega (arith, s .once z, when-no 1 v)) (two (cell z))
+    pub end-taken : n ≤ b → n ≤ x → (z : ℕ) → cell z ≡ true → ((u : ℕ) → to u ≡ z → 0 < standsIn order p u) → 0 < standsIn order p z
+    end-taken h k z v q =
+        elim (decLt 0 (standsIn order p z)) [
+          | yes l ↦ l
+          | no d ↦ absurd (omega (arith, f .within z v, s .ready z v (omega (arith, f .within z v)) (omega arith) (s .waits z v (omega arith) ∙ left-none order p z q)))
+        ]
 
   -- ---- the start: no cell waits for less than points at it
 

@@ -7,5 +7,6 @@ pub mod Settle
 pub mod Raise
 pub mod Orders
 pub mod Peel
+pub mod Rings
 pub mod Handing
 pub mod Tests
