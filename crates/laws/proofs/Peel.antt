@@ -21,7 +21,7 @@ module _ {n : ℕ} {cell : ℕ → Bool} {to : ℕ → ℕ} (f : Pointing n cell
   -- ---- what a cell waits for
 
   -- nothing is taken
-  pub left-start : (order : List ℕ) (z : ℕ) → leftOf n to order 0 z ≡ sumTo n (λ x. when (eqb (to x) z) 1)
+  left-start : (order : List ℕ) (z : ℕ) → leftOf n to order 0 z ≡ sumTo n (λ x. when (eqb (to x) z) 1)
   unfolding leftOf
   left-start order z = sum-ext n (λ x. when (eqb (to x) z) (1 - standsIn order 0 x)) (λ x. when (eqb (to x) z) 1) (λ x l. ap (when (eqb (to x) z)) (omega (arith, stands-none order x)))
 

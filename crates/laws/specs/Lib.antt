@@ -4,7 +4,6 @@ pub mod First
 pub mod Search
 pub mod Pigeon
 pub mod Settle
-pub mod Raise
 pub mod Orders
 pub mod Peel
 pub mod Rings
