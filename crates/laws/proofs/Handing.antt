@@ -1,21 +1,19 @@
 -- Values handed on along an order: when a cell's turn comes its value is whole, and at the end every cell's is. Assumes nothing.
-use mathlib.Core.Path.{_≡_, refl, sym, ap, subst, _∙_}
+use mathlib.Core.Path.{_≡_, refl, sym, ap, _∙_}
 use mathlib.Core.List.{List}
-use mathlib.Core.Logic.{⊎-elim}
 use mathlib.Core.Bool.{Bool, true, false}
-use Prim.Native.Nat.{ℕ, zero, suc, _+_, _≤_, _<_, max}
+use Prim.Native.Nat.{ℕ, _+_, _≤_, _<_, max}
 use native.Mathlib.Omega.{arith}
-use native.Mathlib.Decide.{ℕ-discrete}
+use native.Mathlib.Decide.{decLt, ℕ-discrete}
 use lib.ListN.{length, getD, set, length-set}
 use lib.Seq.{getD-set-same, getD-set-other}
 use lib.Dec.{eqb, ltb}
 use borrow.Author.Tests.{eq-eqb, ne-eqb, eqb-true, lt-ltb, le-ltb}
 use Rattle.laws.specs.Sums.{sumTo, greatestTo, when}
-use Rattle.laws.specs.Orders.{standsIn, Ordered, Pointing}
-use Rattle.laws.specs.Handing.{Joining, gotOf, Handing, Handed}
-use Rattle.laws.proofs.Tests.{two}
-use Rattle.laws.proofs.Sums.{sum-zero, sum-le, greatest-ge, greatest-le, greatest-mono, greatest-ext, when-yes, when-no, when-under, when-zero, when-le, when-ext}
-use Rattle.laws.proofs.Orders.{sum-but-one, stands-none, stands-more, order-cell, order-new}
+use Rattle.laws.specs.Orders.{standsIn, Placed, Ordered}
+use Rattle.laws.specs.Handing.{Joining, gotOf, Handing, Handed, Turn}
+use Rattle.laws.proofs.Sums.{sum-but-one, sum-zero, sum-le, greatest-ge, greatest-le, greatest-mono, when-yes, when-no, when-under, when-zero, when-le, when-ext}
+use Rattle.laws.proofs.Orders.{stands-none, placed-next, placed-here, placed-other, order-cell, order-new}
 
 -- ---- the two ways to join
 
@@ -47,112 +45,188 @@ greatest-joining =
     over : (n : ℕ) (f g : ℕ → ℕ) (k : ℕ) → ((i : ℕ) → i < n → (i ≡ k → ⊥) → f i ≡ g i) → g k ≡ 0 → (i : ℕ) → i < n → g i ≤ greatestTo n f
     over n f g k e z i l = elim (ℕ-discrete i k) [ yes q ↦ omega (arith, ap g q) | no d ↦ omega (arith, e i l d, greatest-ge n f i l) ]
 
-module _ {join : ℕ → ℕ → ℕ} {all : ℕ → (ℕ → ℕ) → ℕ} {n : ℕ} {cell : ℕ → Bool} {to rank : ℕ → ℕ} {give : ℕ → ℕ → ℕ} {own v : ℕ → ℕ} (w : Handed join all n cell to rank give own v) (order : List ℕ) where
-  abbrev got : ℕ → ℕ → ℕ
-  got = gotOf join all n to give own v order
+module _ {join : ℕ → ℕ → ℕ} {all : ℕ → (ℕ → ℕ) → ℕ} {n : ℕ} {cell : ℕ → Bool} {to : ℕ → ℕ} {give : ℕ → ℕ → ℕ} {own v : ℕ → ℕ} (w : Handed join all n cell to give own v) where
+  all-ext : (f g : ℕ → ℕ) → ((i : ℕ) → i < n → f i ≡ g i) → all n f ≡ all n g
+  all-ext f g e = omega (arith, w .joins .mono n f g (λ i l. omega (arith, e i l)), w .joins .mono n g f (λ i l. omega (arith, e i l)))
 
-  abbrev Hands : List ℕ → ℕ → Type 0
-  Hands l p = Handing join all n to give own v order l p
-
-  -- what x gives to z, and what it has given when the first p places are done
+  -- what x gives to z, and what it has given where x stands at m places
   abbrev part : ℕ → ℕ → ℕ
   part z x = when (eqb (to x) z) (give x (v x))
 
   abbrev given : ℕ → ℕ → ℕ → ℕ
-  given p z x = when (eqb (to x) z) (when (ltb 0 (standsIn order p x)) (give x (v x)))
+  given z x m = when (eqb (to x) z) (when (ltb 0 m) (give x (v x)))
 
-  all-ext : (g h : ℕ → ℕ) → ((i : ℕ) → i < n → g i ≡ h i) → all n g ≡ all n h
-  all-ext g h e = omega (arith, w .joins .mono n g h (λ i l. omega (arith, e i l)), w .joins .mono n h g (λ i l. omega (arith, e i l)))
+  given-le : (z x m : ℕ) → given z x m ≤ part z x
+  given-le z x m = when-le (eqb (to x) z) _ _ (λ e. when-under (ltb 0 m) (give x (v x)))
 
-  given-le : (p z x : ℕ) → given p z x ≤ part z x
-  given-le p z x = when-le (eqb (to x) z) _ _ (λ e. when-under (ltb 0 (standsIn order p x)) (give x (v x)))
+  given-whole : (z x m : ℕ) → (to x ≡ z → 0 < m) → given z x m ≡ part z x
+  given-whole z x m h = when-ext (eqb (to x) z) _ _ (λ e. when-yes (give x (v x)) (lt-ltb 0 m (h (eqb-true (to x) z e))))
 
-  given-whole : (p z x : ℕ) → (to x ≡ z → 0 < standsIn order p x) → given p z x ≡ part z x
-  given-whole p z x h = when-ext (eqb (to x) z) _ _ (λ e. when-yes (give x (v x)) (lt-ltb 0 (standsIn order p x) (h (eqb-true (to x) z e))))
-
-  given-new : (p z x : ℕ) → standsIn order p x ≡ 0 → given p z x ≡ 0
-  given-new p z x e = ap (when (eqb (to x) z)) (when-no (give x (v x)) (le-ltb 0 (standsIn order p x) (omega arith))) ∙ when-zero (eqb (to x) z)
-
-  given-other : (p z x : ℕ) → (getD order p 0 ≡ x → ⊥) → given (p + 1) z x ≡ given p z x
-  given-other p z x d =
-      let e : standsIn order (p + 1) x ≡ standsIn order p x = omega (arith, stands-more order p x, when-no 1 (ne-eqb (getD order p 0) x d)) in
-      ap (λ (m : ℕ). when (eqb (to x) z) (when (ltb 0 m) (give x (v x)))) e
+  given-new : (z x m : ℕ) → m ≡ 0 → given z x m ≡ 0
+  given-new z x m e = ap (when (eqb (to x) z)) (when-no (give x (v x)) (le-ltb 0 m (omega arith))) ∙ when-zero (eqb (to x) z)
 
   -- ---- the value so far
 
-  got-start : (z : ℕ) → got 0 z ≡ own z
+  abbrev got : List ℕ → ℕ → ℕ → ℕ
+  got = gotOf join all n to give own v
+
+  got-start : (order : List ℕ) (z : ℕ) → got order 0 z ≡ own z
   unfolding gotOf
-  got-start z = ap (join (own z)) (w .joins .zeros n (given 0 z) (λ x l. given-new 0 z x (stands-none order x))) ∙ w .joins .unit (own z)
+  got-start order z = ap (join (own z)) (w .joins .zeros n (λ x. given z x (standsIn order 0 x)) (λ x l. given-new z x (standsIn order 0 x) (stands-none order x))) ∙ w .joins .unit (own z)
 
-  -- it is never above the whole
-  got-le : (p z : ℕ) → z < n → got p z ≤ v z
+  got-le : (order : List ℕ) (p z : ℕ) → z < n → got order p z ≤ v z
   unfolding gotOf
-  got-le p z h = omega (arith, w .local z h, w .joins .up (own z) (all n (given p z)) (all n (part z)) (w .joins .mono n (given p z) (part z) (λ x l. given-le p z x)))
+  got-le order p z h =
+      let s : ℕ → ℕ = λ x. given z x (standsIn order p x) in
+      omega (arith, w .local z h, w .joins .up (own z) (all n s) (all n (part z)) (w .joins .mono n s (part z) (λ x l. given-le z x (standsIn order p x))))
 
-  got-whole : (p z : ℕ) → z < n → ((x : ℕ) → to x ≡ z → 0 < standsIn order p x) → got p z ≡ v z
+  got-whole : (order : List ℕ) (p z : ℕ) → z < n → ((x : ℕ) → to x ≡ z → 0 < standsIn order p x) → got order p z ≡ v z
   unfolding gotOf
-  got-whole p z h q = ap (join (own z)) (all-ext (given p z) (part z) (λ x l. given-whole p z x (q x))) ∙ sym (w .local z h)
+  got-whole order p z h q =
+      ap (join (own z)) (all-ext (λ x. given z x (standsIn order p x)) (part z) (λ x l. given-whole z x (standsIn order p x) (q x)))
+      ∙ sym (w .local z h)
 
-  -- a cell hands on to the one that it points at alone
-  got-same : (p z : ℕ) → (to (getD order p 0) ≡ z → ⊥) → got (p + 1) z ≡ got p z
-  unfolding gotOf
-  got-same p z d = ap (join (own z)) (all-ext (given (p + 1) z) (given p z) each)
-    where
-      each : (x : ℕ) → x < n → given (p + 1) z x ≡ given p z x
-      each x l =
-          elim (ℕ-discrete (getD order p 0) x) [
-            | yes e ↦ (let q = ne-eqb (to x) z (λ g. d (ap to e ∙ g)) in when-no _ q ∙ sym (when-no _ q))
-            | no g ↦ given-other p z x g
-          ]
-
-  got-more : (p z : ℕ) → getD order p 0 < n → standsIn order p (getD order p 0) ≡ 0 → to (getD order p 0) ≡ z → got (p + 1) z ≡ join (got p z) (give (getD order p 0) (v (getD order p 0)))
-  unfolding gotOf
-  got-more p z h s e =
-      let x = getD order p 0 in
-      ap (join (own z)) (w .joins .more n (given (p + 1) z) (given p z) x h others (given-new p z x s) ∙ ap (join (all n (given p z))) whole)
-      ∙ sym (w .joins .assoc (own z) (all n (given p z)) (give x (v x)))
-    where
-      others : (i : ℕ) → i < n → (i ≡ getD order p 0 → ⊥) → given (p + 1) z i ≡ given p z i
-      others i l d = given-other p z i (λ q. d (sym q))
-
-      whole : given (p + 1) z (getD order p 0) ≡ give (getD order p 0) (v (getD order p 0))
-      whole =
-          given-whole (p + 1) z (getD order p 0) (λ q. omega (arith, stands-more order p (getD order p 0), when-yes 1 (eq-eqb (getD order p 0) (getD order p 0) refl)))
-          ∙ when-yes (give (getD order p 0) (v (getD order p 0))) (eq-eqb (to (getD order p 0)) z e)
-
-  -- ---- a loop along the order
-
-  pub hand-start : {l : List ℕ} → length l ≡ n → ((z : ℕ) → z < n → getD l z 0 ≡ own z) → Handing join all n to give own v order l 0
-  hand-start h e = record { long = h; is = (λ z k. e z k ∙ sym (got-start z)) }
-
-  pub hand-le : {l : List ℕ} {p : ℕ} → Handing join all n to give own v order l p → (z : ℕ) → z < n → getD l z 0 ≤ v z
-  hand-le {l} {p} s z h = omega (arith, s .is z h, got-le p z h)
-
-  module _ {m : ℕ} (o : Ordered cell to order m) where
-    turn-in : (p : ℕ) → p < m → getD order p 0 < n
-    turn-in p h = w .points .within (getD order p 0) (order-cell o p h)
-
-    -- the value of the cell whose turn it is, is whole
-    pub hand-whole : {l : List ℕ} {p : ℕ} → Handing join all n to give own v order l p → p < m → getD l (getD order p 0) 0 ≡ v (getD order p 0)
-    hand-whole {l} {p} s h = s .is (getD order p 0) (turn-in p h) ∙ got-whole p (getD order p 0) (turn-in p h) (λ x e. o .after p x h e)
-
-    pub hand-on : {l : List ℕ} {p a : ℕ} → Handing join all n to give own v order l p → p < m → to (getD order p 0) < n → a ≡ join (getD l (to (getD order p 0)) 0) (give (getD order p 0) (getD l (getD order p 0) 0)) → Handing join all n to give own v order (set l (to (getD order p 0)) a) (p + 1)
-    hand-on {l} {p} {a} s h k e =
-        record {
-          long = length-set l (to (getD order p 0)) a ∙ s .long;
-          is = is;
-        }
+  -- the turn of the cell x
+  module _ {order order′ : List ℕ} {p q x : ℕ} (next : Placed order p order′ q x) where
+    -- it hands on to the one that it points at alone
+    got-same : (z : ℕ) → (z ≡ to x → ⊥) → got order′ q z ≡ got order p z
+    unfolding gotOf
+    got-same z d = ap (join (own z)) (all-ext (λ u. given z u (standsIn order′ q u)) (λ u. given z u (standsIn order p u)) each)
       where
-        is : (z : ℕ) → z < n → getD (set l (to (getD order p 0)) a) z 0 ≡ got (p + 1) z
-        is z q =
-            elim (ℕ-discrete z (to (getD order p 0))) [
-              | yes g ↦ ap (λ (i : ℕ). getD (set l (to (getD order p 0)) a) i 0) g ∙ getD-set-same l (to (getD order p 0)) a 0 (omega (arith, s .long)) ∙ e ∙ ap (λ (i : ℕ). join i (give (getD order p 0) (getD l (getD order p 0) 0))) (ap (λ (i : ℕ). getD l i 0) (sym g) ∙ s .is z q) ∙ ap (λ (i : ℕ). join (got p z) (give (getD order p 0) i)) (hand-whole s h) ∙ sym (got-more p z (turn-in p h) (order-new o p h) (sym g))
-              | no d ↦ getD-set-other l (to (getD order p 0)) z a 0 d ∙ s .is z q ∙ sym (got-same p z (λ g. d (sym g)))
+        each : (u : ℕ) → u < n → given z u (standsIn order′ q u) ≡ given z u (standsIn order p u)
+        each u l =
+            elim (ℕ-discrete u x) [
+              | yes e ↦ (let q = ne-eqb (to u) z (λ g. d (sym g ∙ ap to e)) in when-no _ q ∙ sym (when-no _ q))
+              | no g ↦ ap (given z u) (placed-other next u g)
             ]
 
-    pub hand-off : {l : List ℕ} {p : ℕ} → Handing join all n to give own v order l p → p < m → n ≤ to (getD order p 0) → Handing join all n to give own v order l (p + 1)
-    hand-off {l} {p} s h k = record { long = s .long; is = (λ z q. s .is z q ∙ sym (got-same p z (λ g. omega arith))) }
+    got-more : (z : ℕ) → x < n → standsIn order p x ≡ 0 → z ≡ to x → got order′ q z ≡ join (got order p z) (give x (v x))
+    unfolding gotOf
+    got-more z h new e =
+        let s : ℕ → ℕ = λ u. given z u (standsIn order p u) in
+        let s′ : ℕ → ℕ = λ u. given z u (standsIn order′ q u) in
+        ap (join (own z)) (w .joins .more n s′ s x h (λ u l d. ap (given z u) (placed-other next u d)) (given-new z x (standsIn order p x) new) ∙ ap (join (all n s)) whole)
+        ∙ sym (w .joins .assoc (own z) (all n s) (give x (v x)))
+      where
+        whole : given z x (standsIn order′ q x) ≡ give x (v x)
+        whole = given-whole z x (standsIn order′ q x) (λ q. omega (arith, placed-here next)) ∙ when-yes (give x (v x)) (eq-eqb (to x) z (sym e))
 
-    -- at the end every value is whole
-    pub hand-all : {l : List ℕ} → Handing join all n to give own v order l m → (z : ℕ) → z < n → getD l z 0 ≡ v z
-    hand-all s z h = s .is z h ∙ got-whole m z h (λ x e. omega (arith, o .once x, when-yes 1 (w .points .from x (omega arith))))
+  -- ---- a program that hands on
+
+  module _ {fin : ℕ → ℕ → ℕ} where
+    pub hand-start : (order : List ℕ) {l : List ℕ} → length l ≡ n → ((z : ℕ) → z < n → getD l z 0 ≡ own z) → Handing join all n to give own v fin order l 0
+    hand-start order h e =
+        record {
+          long = h;
+          got = (λ z k q. e z k ∙ sym (got-start order z));
+          done = (λ z q. absurd (omega (arith, stands-none order z)));
+          after = (λ x q. absurd (omega (arith, stands-none order (to x))));
+        }
+
+    module _ {order l : List ℕ} {p : ℕ} (s : Handing join all n to give own v fin order l p) where
+      -- a value is never above the whole
+      pub hand-le : (z : ℕ) → z < n → standsIn order p z ≡ 0 → getD l z 0 ≤ v z
+      hand-le z h e = omega (arith, s .got z h e, got-le order p z h)
+
+      -- that of a cell whose turn it is, is whole
+      pub hand-whole : (x : ℕ) → x < n → standsIn order p x ≡ 0 → ((u : ℕ) → to u ≡ x → 0 < standsIn order p u) → getD l x 0 ≡ v x
+      hand-whole x h e q = s .got x h e ∙ got-whole order p x h q
+
+      -- the one that it points at has not had its turn
+      pub hand-next : (x : ℕ) → standsIn order p x ≡ 0 → standsIn order p (to x) ≡ 0
+      hand-next x e = elim (decLt 0 (standsIn order p (to x))) [ yes l ↦ absurd (omega (arith, s .after x l)) | no d ↦ omega arith ]
+
+      -- and what that has after the turn is not above its whole
+      pub hand-fits : {order′ : List ℕ} {q x : ℕ} → x < n → to x < n → standsIn order p x ≡ 0 → Placed order p order′ q x → join (getD l (to x) 0) (give x (v x)) ≤ v (to x)
+      hand-fits {order′} {q} {x} h k e next =
+          omega (
+            arith,
+            ap (λ (m : ℕ). join m (give x (v x))) (s .got (to x) k (hand-next x e)),
+            got-more next (to x) h e refl,
+            got-le order′ q (to x) k,
+          )
+
+      -- the turn of a cell
+      pub hand-turn : {order′ k : List ℕ} {q x : ℕ} → x < n → standsIn order p x ≡ 0 → ((u : ℕ) → to u ≡ x → 0 < standsIn order p u) → Placed order p order′ q x → Turn join n to give v fin l k x → Handing join all n to give own v fin order′ k q
+      hand-turn {order′} {k} {q} {x} h new before next t =
+          record {
+            long = t .long ∙ s .long;
+            got = gets;
+            done = does;
+            after = behind;
+          }
+        where
+          gets : (z : ℕ) → z < n → standsIn order′ q z ≡ 0 → getD k z 0 ≡ gotOf join all n to give own v order′ q z
+          gets z b e =
+              let d : z ≡ x → ⊥ = λ g. omega (arith, placed-here next, ap (standsIn order′ q) g) in
+              let now = s .got z b (omega (arith, next .one z)) in
+              elim (ℕ-discrete z (to x)) [
+                | yes g ↦ ap (λ (i : ℕ). getD k i 0) g ∙ t .gave (omega arith) ∙ ap (λ (i : ℕ). join i (give x (v x))) (ap (λ (i : ℕ). getD l i 0) (sym g) ∙ now) ∙ sym (got-more next z h new g)
+                | no g ↦ t .kept z d g ∙ now ∙ sym (got-same next z g)
+              ]
+
+          does : (z : ℕ) → 0 < standsIn order′ q z → getD k z 0 ≡ fin z (v z)
+          does z b =
+              elim (ℕ-discrete z x) [
+                | yes e ↦ ap (λ (i : ℕ). getD k i 0) e ∙ t .made ∙ ap (λ (i : ℕ). fin i (v i)) (sym e)
+                | no d ↦ (let c : 0 < standsIn order p z = omega (arith, placed-other next z d) in t .kept z d (λ e. omega (arith, s .after x (omega (arith, ap (standsIn order p) e)))) ∙ s .done z c)
+              ]
+
+          behind : (u : ℕ) → 0 < standsIn order′ q (to u) → 0 < standsIn order′ q u
+          behind u b =
+              elim (ℕ-discrete (to u) x) [
+                | yes e ↦ omega (arith, before u e, next .one u)
+                | no d ↦ omega (arith, s .after u (omega (arith, placed-other next (to u) d)), next .one u)
+              ]
+
+    -- ---- what a program may do at a turn
+
+    module _ {l : List ℕ} {x : ℕ} where
+      -- the entry is made already, and there is none to hand on to
+      pub turn-off : n ≤ to x → getD l x 0 ≡ fin x (v x) → Turn join n to give v fin l l x
+      turn-off h e = record { long = refl; made = e; gave = (λ k. absurd (omega arith)); kept = (λ z d g. refl) }
+
+      -- the entry is made already, and x hands on
+      pub turn-on : {a : ℕ} → length l ≡ n → to x < n → getD l x 0 ≡ fin x (v x) → a ≡ join (getD l (to x) 0) (give x (v x)) → Turn join n to give v fin l (set l (to x) a) x
+      turn-on {a} h k e g =
+          record {
+            long = length-set l (to x) a;
+            made = getD-set-other l (to x) x a 0 (λ q. w .points .apart x k (sym q)) ∙ e;
+            gave = (λ q. getD-set-same l (to x) a 0 (omega arith) ∙ g);
+            kept = (λ z d q. getD-set-other l (to x) z a 0 q);
+          }
+
+      -- the entry is stored first
+      pub turn-stored : {k : List ℕ} (a : ℕ) → Turn join n to give v fin (set l x a) k x → Turn join n to give v fin l k x
+      turn-stored a t =
+          record {
+            long = t .long ∙ length-set l x a;
+            made = t .made;
+            gave = (λ h. t .gave h ∙ ap (λ (m : ℕ). join m (give x (v x))) (getD-set-other l x (to x) a 0 (w .points .apart x h)));
+            kept = (λ z d q. t .kept z d q ∙ getD-set-other l x z a 0 d);
+          }
+
+    -- ---- along an order that is there
+
+    module _ {order : List ℕ} {m : ℕ} (o : Ordered cell to order m) where
+      module _ {l : List ℕ} {p : ℕ} (s : Handing join all n to give own v fin order l p) (h : p < m) where
+        turn-in : getD order p 0 < n
+        turn-in = w .points .within (getD order p 0) (order-cell o p h)
+
+        pub next-whole : getD l (getD order p 0) 0 ≡ v (getD order p 0)
+        next-whole = hand-whole s (getD order p 0) turn-in (order-new o p h) (λ u. o .after p u h)
+
+        pub next-fits : to (getD order p 0) < n → join (getD l (to (getD order p 0)) 0) (give (getD order p 0) (v (getD order p 0))) ≤ v (to (getD order p 0))
+        next-fits k = hand-fits s turn-in k (order-new o p h) (placed-next order p)
+
+        pub next-turn : {k : List ℕ} → Turn join n to give v fin l k (getD order p 0) → Handing join all n to give own v fin order k (p + 1)
+        next-turn t = hand-turn s turn-in (order-new o p h) (λ u. o .after p u h) (placed-next order p) t
+
+      module _ {l : List ℕ} (s : Handing join all n to give own v fin order l m) where
+        -- at the end every cell has what is made of its whole value
+        pub hand-all : (z : ℕ) → cell z ≡ true → getD l z 0 ≡ fin z (v z)
+        hand-all z e = s .done z (omega (arith, o .once z, when-yes 1 e))
+
+        -- and what is no cell has its value
+        pub hand-rest : (z : ℕ) → z < n → cell z ≡ false → getD l z 0 ≡ v z
+        hand-rest z h e = hand-whole s z h (omega (arith, o .once z, when-no 1 e)) (λ u q. omega (arith, o .once u, when-yes 1 (w .points .from u (omega arith))))

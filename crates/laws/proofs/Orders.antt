@@ -1,8 +1,8 @@
 -- Laws of places: at how many of the first places of a list a number stands, and what an order of cells gives. Assumes nothing.
-use mathlib.Core.Path.{_≡_, refl, sym, ap, subst, _∙_}
+use mathlib.Core.Path.{_≡_, refl, sym, ap, _∙_}
 use mathlib.Core.List.{List}
 use mathlib.Core.Logic.{⊎-elim}
-use mathlib.Core.Bool.{Bool, true, false, true≢false}
+use mathlib.Core.Bool.{Bool, true}
 use Prim.Native.Nat.{ℕ, zero, suc, _+_, _≤_, _<_}
 use native.Mathlib.Omega.{arith}
 use native.Mathlib.Numerals.{add-one}
@@ -10,28 +10,11 @@ use native.Mathlib.Decide.{decLt, decLe, ℕ-discrete}
 use lib.ListN.{length, getD, set}
 use lib.Seq.{getD-set-same, getD-set-other}
 use lib.Dec.{eqb}
-use borrow.Author.Tests.{eq-eqb, ne-eqb, eqb-true}
+use borrow.Author.Tests.{eq-eqb, ne-eqb}
 use Rattle.laws.specs.Sums.{sumTo, when}
-use Rattle.laws.specs.Orders.{standsIn, Ordered, Pointing}
+use Rattle.laws.specs.Orders.{standsIn, Placed, Ordered}
 use Rattle.laws.proofs.Tests.{two}
-use Rattle.laws.proofs.Sums.{sum-none, sum-more, sum-ext, sum-zero, sum-one, sum-add, sum-ones, when-yes, when-no, when-under}
-
--- ---- sums that differ at one number
-
-pub sum-but-one : (n : ℕ) (f g : ℕ → ℕ) (k : ℕ) → k < n → ((i : ℕ) → i < n → (i ≡ k → ⊥) → f i ≡ g i) → sumTo n f + g k ≡ sumTo n g + f k
-unfolding sumTo
-sum-but-one zero f g k l h = absurd (omega arith)
-sum-but-one (suc n) f g k l h =
-    elim (ℕ-discrete k n) [
-      | yes e ↦ omega (arith, sum-ext n f g (λ i lt. h i (omega arith) (λ q. omega arith)), ap f e, ap g e)
-      | no d ↦ omega (arith, sum-but-one n f g k (omega arith) (λ i lt q. h i (omega arith) q), h n (omega arith) (λ q. d (sym q)))
-    ]
-
--- a value is at most the sum
-pub sum-ge : (n : ℕ) (f : ℕ → ℕ) (k : ℕ) → k < n → f k ≤ sumTo n f
-unfolding sumTo
-sum-ge zero f k l = absurd (omega arith)
-sum-ge (suc n) f k l = elim (ℕ-discrete k n) [ yes e ↦ omega (arith, ap f e) | no d ↦ omega (arith, sum-ge n f k (omega arith)) ]
+use Rattle.laws.proofs.Sums.{sum-none, sum-more, sum-ext, sum-zero, sum-one, sum-add, when-yes, when-no, when-under}
 
 -- ---- places
 
@@ -90,6 +73,23 @@ stands-total order n (suc p) h =
       when-yes 1 (eq-eqb y y refl),
       stands-total order n p (λ i l. h i (omega arith)),
     )
+
+-- ---- a place more
+
+-- the next of the list
+pub placed-next : (order : List ℕ) (p : ℕ) → Placed order p order (p + 1) (getD order p 0)
+placed-next order p = record { one = stands-more order p }
+
+-- one that is stored
+pub placed-store : (order : List ℕ) (p x : ℕ) → p < length order → Placed order p (set order p x) (p + 1) x
+placed-store order p x h = record { one = (λ z. stands-store order p z x h) }
+
+module _ {order order′ : List ℕ} {p q x : ℕ} (s : Placed order p order′ q x) where
+  pub placed-here : standsIn order′ q x ≡ standsIn order p x + 1
+  placed-here = omega (arith, s .one x, when-yes 1 (eq-eqb x x refl))
+
+  pub placed-other : (z : ℕ) → (z ≡ x → ⊥) → standsIn order′ q z ≡ standsIn order p z
+  placed-other z d = omega (arith, s .one z, when-no 1 (ne-eqb x z (λ e. d (sym e))))
 
 -- ---- an order of cells
 

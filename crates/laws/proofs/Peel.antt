@@ -1,9 +1,9 @@
--- Peeling: what it starts with, what taking a cell keeps, and that it takes every cell, since ranks fall along the pointing. Assumes nothing.
-use mathlib.Core.Path.{_≡_, refl, sym, ap, subst, _∙_}
+-- Peeling: what it starts with, what taking a cell keeps, and what holds when none is left to take. Assumes nothing.
+use mathlib.Core.Path.{_≡_, refl, sym, ap, _∙_}
 use mathlib.Core.List.{List}
 use mathlib.Core.Logic.{⊎-elim}
-use mathlib.Core.Bool.{Bool, true, false, true≢false}
-use Prim.Native.Nat.{ℕ, zero, suc, _+_, _-_, _≤_, _<_}
+use mathlib.Core.Bool.{Bool, true}
+use Prim.Native.Nat.{ℕ, _+_, _-_, _≤_, _<_}
 use native.Mathlib.Omega.{arith}
 use native.Mathlib.Decide.{decLt, ℕ-discrete}
 use lib.ListN.{length, getD, set, length-set}
@@ -11,17 +11,17 @@ use lib.Seq.{getD-set-same, getD-set-other}
 use lib.Dec.{eqb}
 use borrow.Author.Tests.{eq-eqb, ne-eqb, eqb-true}
 use Rattle.laws.specs.Sums.{sumTo, when}
-use Rattle.laws.specs.Orders.{standsIn, Ordered, Pointing}
+use Rattle.laws.specs.Orders.{standsIn, Pointing}
 use Rattle.laws.specs.Peel.{leftOf, Peeling, Taking}
 use Rattle.laws.proofs.Tests.{two}
-use Rattle.laws.proofs.Sums.{sum-ext, sum-zero, sum-one, sum-add, sum-ones, when-yes, when-no, when-under, when-zero}
-use Rattle.laws.proofs.Orders.{sum-but-one, sum-ge, stands-none, stands-more, stands-set, stands-store, stands-le, stands-here, stands-at, stands-total}
+use Rattle.laws.proofs.Sums.{sum-but-one, sum-ge, sum-ext, sum-zero, sum-one, sum-add, sum-ones, when-yes, when-no, when-under, when-zero}
+use Rattle.laws.proofs.Orders.{stands-none, stands-set, stands-store, stands-le, stands-here, stands-at, stands-total, placed-store, placed-here, placed-other}
 
-module _ {n : ℕ} {cell : ℕ → Bool} {to rank : ℕ → ℕ} (f : Pointing n cell to rank) where
+module _ {n : ℕ} {cell : ℕ → Bool} {to : ℕ → ℕ} (f : Pointing n cell to) where
   -- ---- what a cell waits for
 
   -- nothing is taken
-  pub left-start : (order : List ℕ) (z : ℕ) → leftOf n to order 0 z ≡ sumTo n (λ x. when (eqb (to x) z) 1)
+  left-start : (order : List ℕ) (z : ℕ) → leftOf n to order 0 z ≡ sumTo n (λ x. when (eqb (to x) z) 1)
   unfolding leftOf
   left-start order z = sum-ext n (λ x. when (eqb (to x) z) (1 - standsIn order 0 x)) (λ x. when (eqb (to x) z) 1) (λ x l. ap (when (eqb (to x) z)) (omega (arith, stands-none order x)))
 
@@ -60,7 +60,7 @@ module _ {n : ℕ} {cell : ℕ → Bool} {to rank : ℕ → ℕ} (f : Pointing n
     pub hand-new : x < n → standsIn order p x ≡ 0
     hand-new h = s .shut x h (s .held h) .1
 
-    place-in : (i : ℕ) → i < p → getD order i 0 < n
+    pub place-in : (i : ℕ) → i < p → getD order i 0 < n
     place-in i h =
         let y = getD order i 0 in
         ⊎-elim (λ e. f .within y e) (λ e. absurd (omega (arith, stands-here order p i h, s .once y, when-no 1 e))) (two (cell y))
@@ -84,6 +84,10 @@ module _ {n : ℕ} {cell : ℕ → Bool} {to rank : ℕ → ℕ} (f : Pointing n
               | no d ↦ omega (arith, when-no 1 (ne-eqb x z d), s .once z, when-under (cell z) 1)
             ]
 
+    -- all that point at it are taken
+    pub hand-after : x < n → (u : ℕ) → to u ≡ x → 0 < standsIn order p u
+    hand-after h u e = omega (arith, left-ge order p x u h e, s .waits x (hand-cell h) (hand-new h), s .held h)
+
     -- the cell that it points at is not taken
     next-new : x < n → to x < n → standsIn order p (to x) ≡ 0
     next-new h k =
@@ -91,9 +95,6 @@ module _ {n : ℕ} {cell : ℕ → Bool} {to rank : ℕ → ℕ} (f : Pointing n
           | yes l ↦ (let r = stands-at order p (to x) l in absurd (omega (arith, s .after (r .0) x (r .1) (sym (r .2)), stands-le order (r .0) p x (omega (arith, r .1)), hand-new h)))
           | no d ↦ omega arith
         ]
-
-    next-self : x < n → to x < n → to x ≡ x → ⊥
-    next-self h k e = omega (arith, f .less x k, ap rank e)
 
     -- and waits for it
     pub next-waits : x < n → to x < n → 0 < getD waiting (to x) 0
@@ -116,10 +117,10 @@ module _ {n : ℕ} {cell : ℕ → Bool} {to rank : ℕ → ℕ} (f : Pointing n
         room = omega (arith, hand-room h, s .long)
 
         same : (z : ℕ) → (z ≡ x → ⊥) → standsIn (set order p x) (p + 1) z ≡ standsIn order p z
-        same z d = omega (arith, stands-store order p z x room, when-no 1 (ne-eqb x z (λ e. d (sym e))))
+        same = placed-other (placed-store order p x room)
 
         here : standsIn (set order p x) (p + 1) x ≡ 1
-        here = omega (arith, stands-store order p x x room, when-yes 1 (eq-eqb x x refl), hand-new h)
+        here = omega (arith, placed-here (placed-store order p x room), hand-new h)
 
         apart : (z : ℕ) → standsIn (set order p x) (p + 1) z ≡ 0 → z ≡ x → ⊥
         apart z e q = omega (arith, here, ap (standsIn (set order p x) (p + 1)) q)
@@ -134,7 +135,7 @@ module _ {n : ℕ} {cell : ℕ → Bool} {to rank : ℕ → ℕ} (f : Pointing n
         behind : (j u : ℕ) → j < p + 1 → to u ≡ getD (set order p x) j 0 → 0 < standsIn (set order p x) j u
         behind j u l e =
             elim (ℕ-discrete j p) [
-              | yes q ↦ (let g : to u ≡ x = e ∙ ap (λ (i : ℕ). getD (set order p x) i 0) q ∙ getD-set-same order p x 0 room in omega (arith, ap (λ (i : ℕ). standsIn (set order p x) i u) q, stands-set order p p u x (omega arith), left-ge order p x u h g, s .waits x (hand-cell h) (hand-new h), s .held h))
+              | yes q ↦ (let g : to u ≡ x = e ∙ ap (λ (i : ℕ). getD (set order p x) i 0) q ∙ getD-set-same order p x 0 room in omega (arith, ap (λ (i : ℕ). standsIn (set order p x) i u) q, stands-set order p p u x (omega arith), hand-after h u g))
               | no d ↦ omega (arith, s .after j u (omega arith) (e ∙ getD-set-other order p j x 0 d), stands-set order j p u x (omega arith))
             ]
 
@@ -168,44 +169,33 @@ module _ {n : ℕ} {cell : ℕ → Bool} {to rank : ℕ → ℕ} (f : Pointing n
   -- ---- from cell to cell, and the end
 
   module _ {order waiting : List ℕ} {p b x : ℕ} (s : Peeling n cell to order waiting p b x) where
+    -- another bound, or another cell in hand
+    rebound : {c y : ℕ} → ((z : ℕ) → cell z ≡ true → z < c → standsIn order p z ≡ 0 → getD waiting z 0 ≡ 0 → z ≡ y) → (y < n → getD waiting y 0 ≡ 0) → Peeling n cell to order waiting p c y
+    rebound ready held = record { long = s .long; wide = s .wide; once = s .once; after = s .after; waits = s .waits; shut = s .shut; ready = ready; held = held }
+
     -- with none in hand, the next cell is taken in hand if it waits for none
     pub peel-begin : n ≤ x → getD waiting b 0 ≡ 0 → Peeling n cell to order waiting p (b + 1) b
-    peel-begin h e = record { long = s .long; wide = s .wide; once = s .once; after = s .after; waits = s .waits; shut = s .shut; ready = (λ z v l q w. elim (decLt z b) [ yes k ↦ absurd (omega (arith, s .ready z v k q w, f .within z v)) | no k ↦ omega arith ]); held = (λ l. e) }
+    peel-begin h e = rebound (λ z v l q w. elim (decLt z b) [ yes k ↦ absurd (omega (arith, s .ready z v k q w, f .within z v)) | no k ↦ omega arith ]) (λ l. e)
 
     -- and else passed
     pub peel-pass : n ≤ x → 0 < getD waiting b 0 → Peeling n cell to order waiting p (b + 1) x
-    peel-pass h e = record { long = s .long; wide = s .wide; once = s .once; after = s .after; waits = s .waits; shut = s .shut; ready = (λ z v l q w. elim (decLt z b) [ yes k ↦ s .ready z v k q w | no k ↦ (let g : z ≡ b = omega arith in absurd (omega (arith, w, ap (λ (i : ℕ). getD waiting i 0) g))) ]); held = s .held }
+    peel-pass h e = rebound (λ z v l q w. elim (decLt z b) [ yes k ↦ s .ready z v k q w | no k ↦ (let g : z ≡ b = omega arith in absurd (omega (arith, w, ap (λ (i : ℕ). getD waiting i 0) g))) ]) (s .held)
 
     -- the bound does not matter to taking a cell
     pub peel-less : Peeling n cell to order waiting p 0 x
-    peel-less = record { long = s .long; wide = s .wide; once = s .once; after = s .after; waits = s .waits; shut = s .shut; ready = (λ z v l. absurd (omega arith)); held = s .held }
+    peel-less = rebound (λ z v l. absurd (omega arith)) (s .held)
 
     -- no cell is in hand
     pub peel-none : n ≤ x → (y : ℕ) → n ≤ y → Peeling n cell to order waiting p b y
-    peel-none h y k = record { long = s .long; wide = s .wide; once = s .once; after = s .after; waits = s .waits; shut = s .shut; ready = (λ z v l e q. absurd (omega (arith, s .ready z v l e q, f .within z v))); held = (λ l. absurd (omega arith)) }
+    peel-none h y k = rebound (λ z v l e q. absurd (omega (arith, s .ready z v l e q, f .within z v))) (λ l. absurd (omega arith))
 
-    -- at the end every cell is taken
-    all-below : n ≤ b → n ≤ x → (m z : ℕ) → n - rank z < m → cell z ≡ true → 0 < standsIn order p z
-    all-below h k zero z l v = absurd (omega arith)
-    all-below h k (suc m) z l v =
+    -- at the end a cell is taken if all that point at it are
+    pub end-taken : n ≤ b → n ≤ x → (z : ℕ) → cell z ≡ true → ((u : ℕ) → to u ≡ z → 0 < standsIn order p u) → 0 < standsIn order p z
+    end-taken h k z v q =
         elim (decLt 0 (standsIn order p z)) [
-          | yes t ↦ t
-          | no d ↦ absurd (omega (arith, none (left-none order p z (λ u e. all-below h k m u (omega (arith, up u e, f .bounded u)) (f .from u (omega (arith, f .within z v))))) (omega arith), f .within z v))
+          | yes l ↦ l
+          | no d ↦ absurd (omega (arith, f .within z v, s .ready z v (omega (arith, f .within z v)) (omega arith) (s .waits z v (omega arith) ∙ left-none order p z q)))
         ]
-      where
-        up : (u : ℕ) → to u ≡ z → rank z < rank u
-        up u e = omega (arith, f .less u (omega (arith, f .within z v)), ap rank e)
-
-        none : leftOf n to order p z ≡ 0 → standsIn order p z ≡ 0 → z ≡ x
-        none e q = s .ready z v (omega (arith, f .within z v)) q (s .waits z v q ∙ e)
-
-    pub peel-all : n ≤ b → n ≤ x → Ordered cell to order p
-    peel-all h k = record { once = once; after = s .after }
-      where
-        once : (z : ℕ) → standsIn order p z ≡ when (cell z) 1
-        once z =
-            ⊎-elim (λ v. omega (arith, all-below h k (suc (n - rank z)) z (omega arith) v, s .once z, when-yes 1 v))
-            (λ v. omega (arith, s .once z, when-no 1 v)) (two (cell z))
 
   -- ---- the start: no cell waits for less than points at it
 

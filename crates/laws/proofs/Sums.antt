@@ -60,6 +60,22 @@ sum-one (suc n) f k l h =
       | no d ↦ omega (arith, sum-one n f k (omega arith) (λ i lt q. h i (omega arith) q), h n (omega arith) (λ q. d (sym q)))
     ]
 
+-- two sums that differ at one number
+pub sum-but-one : (n : ℕ) (f g : ℕ → ℕ) (k : ℕ) → k < n → ((i : ℕ) → i < n → (i ≡ k → ⊥) → f i ≡ g i) → sumTo n f + g k ≡ sumTo n g + f k
+unfolding sumTo
+sum-but-one zero f g k l h = absurd (omega arith)
+sum-but-one (suc n) f g k l h =
+    elim (ℕ-discrete k n) [
+      | yes e ↦ omega (arith, sum-ext n f g (λ i lt. h i (omega arith) (λ q. omega arith)), ap f e, ap g e)
+      | no d ↦ omega (arith, sum-but-one n f g k (omega arith) (λ i lt q. h i (omega arith) q), h n (omega arith) (λ q. d (sym q)))
+    ]
+
+-- a value is at most the sum
+pub sum-ge : (n : ℕ) (f : ℕ → ℕ) (k : ℕ) → k < n → f k ≤ sumTo n f
+unfolding sumTo
+sum-ge zero f k l = absurd (omega arith)
+sum-ge (suc n) f k l = elim (ℕ-discrete k n) [ yes e ↦ omega (arith, ap f e) | no d ↦ omega (arith, sum-ge n f k (omega arith)) ]
+
 -- ---- the greatest
 
 pub greatest-none : (f : ℕ → ℕ) → greatestTo 0 f ≡ 0
