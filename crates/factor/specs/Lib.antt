@@ -1,9 +1,13 @@
 pub mod Quantities
+pub mod Slope
+pub mod Channel
+pub mod Inflow
+pub mod Length
 pub mod Greatest
 pub mod Exponent
 pub mod LengthFactor
 pub mod Steepness
 pub mod Cell
 pub mod Grid
-pub mod Inner
 pub mod Answers
+pub mod Inner

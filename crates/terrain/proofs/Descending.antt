@@ -147,3 +147,8 @@ module _ {rows cols : ℕ} {dir : List ℕ} (d : Directed rows cols dir) where
       let o = peel-all pointing s h (omega arith) in
       let e = order-places o (pointing .within) in
       record { room = omega (arith, e, s .long, sum-ones n (λ x. when (valid x) 1) (λ x l. when-under (valid x) 1)); cells = o }
+
+-- an order has no more places than the grid has cells
+pub downhill-few : {rows cols : ℕ} {dir order : List ℕ} {m : ℕ} → Directed rows cols dir → Downhill rows cols dir order m → m ≤ rows * cols
+downhill-few {rows} {cols} {dir} d o =
+    omega (arith, order-places (o .cells) (pointing d .within), sum-ones (rows * cols) (λ x. when (mappedAt rows cols dir x) 1) (λ x l. when-under (mappedAt rows cols dir x) 1))

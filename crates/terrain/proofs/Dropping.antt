@@ -34,6 +34,10 @@ fall-some : (k d : ℕ) → 0 < d → fallOf k d ≡ 2 * d + k % 2
 unfolding fallOf
 fall-some k d h = ap (λ (b : Bool). cond b (2 * d + k % 2) 0) (lt-ltb 0 d h)
 
+-- the code of a valid cell
+code-by : (valid lower rim : Bool) (down along : ℕ) {b c : Bool} → valid ≡ true → lower ≡ b → rim ≡ c → cond valid (cond lower down (cond rim 0 along)) 255 ≡ cond b down (cond c 0 along)
+code-by valid lower rim down along v l r = rw (v, l, r)
+
 module _ (rows cols : ℕ) (lv : List ℕ) where
   abbrev dir : List ℕ
   dir = directionsOf rows cols lv
@@ -70,7 +74,7 @@ module _ (rows cols : ℕ) (lv : List ℕ) where
   module _ (x : ℕ) (h : x < rows * cols) (v : 0 < getD lv x 0) where
     direction-by : {b c : Bool} → hasLower rows cols lv x ≡ b → rimAt rows cols lv x ≡ c → getD dir x 255 ≡ cond b (codeOf (steepSide rows cols lv x)) (cond c 0 (codeOf (nearerSide rows cols lv st x)))
     unfolding directionAt
-    direction-by e q = direction-at rows cols lv x h ∙ rw (lt-ltb 0 (getD lv x 0) v, e, q)
+    direction-by e q = direction-at rows cols lv x h ∙ code-by (validAt lv x) (hasLower rows cols lv x) (rimAt rows cols lv x) (codeOf (steepSide rows cols lv x)) (codeOf (nearerSide rows cols lv st x)) (lt-ltb 0 (getD lv x 0) v) e q
 
     lower-fall : hasLower rows cols lv x ≡ true → sideFall rows cols lv x (steepSide rows cols lv x) ≡ fallAt rows cols lv dir x
     lower-fall e =
@@ -90,21 +94,20 @@ module _ (rows cols : ℕ) (lv : List ℕ) where
         dropped : {a b : ℕ} → 0 < a → a < b → dropOf b a ≡ b - a
         dropped {a} {b} p q = rw (lt-ltb 0 a p, lt-ltb a b q)
 
+    still-fall : getD dir x 255 ≤ 128 → dropAt rows cols lv dir x ≡ 0 → 0 ≡ fallAt rows cols lv dir x
+    still-fall s d = sym (fall-valid x (λ q. omega arith) ∙ ap (fallOf (sideOf (getD dir x 255))) d ∙ fall-flat (sideOf (getD dir x 255)))
+
+    -- a flat cell points along its level
+    along : rimAt rows cols lv x ≡ false → hasLower rows cols lv x ≡ false → dropAt rows cols lv dir x ≡ 0
+    unfolding nearerSide
+    along q e =
+        let p = nearerAt rows cols lv st x in
+        drop-level x (nearerSide rows cols lv st x) (direction-by e q) (λ l. nearer-is rows cols lv st x (nearerSide rows cols lv st x) (first-holds p 8 l) .0) (first-top p 8)
+
     flat-fall : hasLower rows cols lv x ≡ false → 0 ≡ fallAt rows cols lv dir x
-    flat-fall e = ⊎-elim (λ q. level q) (λ q. level′ q) (two (rimAt rows cols lv x))
-      where
-        still : getD dir x 255 ≤ 128 → dropAt rows cols lv dir x ≡ 0 → 0 ≡ fallAt rows cols lv dir x
-        still s d = sym (fall-valid x (λ q. omega arith) ∙ ap (fallOf (sideOf (getD dir x 255))) d ∙ fall-flat (sideOf (getD dir x 255)))
-
-        level : rimAt rows cols lv x ≡ true → 0 ≡ fallAt rows cols lv dir x
-        level q = let c = direction-by e q in still (omega (arith, c)) (drop-leaves x c)
-
-        level′ : rimAt rows cols lv x ≡ false → 0 ≡ fallAt rows cols lv dir x
-        unfolding nearerSide
-        level′ q =
-            let k = nearerSide rows cols lv st x in
-            let c = direction-by e q in
-            still (omega (arith, c, code-small k)) (drop-level x k c (λ l. nearer-is rows cols lv st x k (first-holds (nearerAt rows cols lv st x) 8 l) .0) (first-top (nearerAt rows cols lv st x) 8))
+    flat-fall e =
+        ⊎-elim (λ q. let c = direction-by e q in still-fall (omega (arith, c)) (drop-leaves x c))
+        (λ q. let c = direction-by e q in still-fall (omega (arith, c, code-small (nearerSide rows cols lv st x))) (along q e)) (two (rimAt rows cols lv x))
 
   -- ---- the grid
 

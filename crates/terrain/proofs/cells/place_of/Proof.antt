@@ -1,7 +1,7 @@
 -- `terrain::cells::place_of` meets its contract. Assumes nothing.
 use mathlib.Core.Path.{_≡_, refl}
-use Prim.Native.Nat.{_+_, _*_}
-use lib.ListN.{getD}
+use lib.ListN.{List·getD-eq-default}
+use native.Mathlib.Decide.{decLt}
 use Rattle.terrain.specs.Cells.{rowSteps, colSteps}
 use Rattle.terrain.proofs.Neighbours.{each-side}
 use native.Mathlib.Omega.{arith}
@@ -33,7 +33,13 @@ returns-8 : tie.Need-returns-8
 returns-8 c = let e : c .before .args .k ≡ 7 = omega arith in rw e
 
 returns-9 : tie.Need-returns-9
-returns-9 c = ?
+returns-9 c =
+    let k = c .before .args .k in
+    let r = c .match .rest in
+    elim (decLt k 8) [
+      | yes h ↦ absurd (each-side (λ j. k ≡ j → ⊥) (r .0 .0 .0 .0 .0 .0 .0 .1) (r .0 .0 .0 .0 .0 .0 .1) (r .0 .0 .0 .0 .0 .1) (r .0 .0 .0 .0 .1) (r .0 .0 .0 .1) (r .0 .0 .1) (r .0 .1) (r .1) k h refl)
+      | no f ↦ omega (arith, List·getD-eq-default rowSteps 0 {n = k} (omega arith), List·getD-eq-default colSteps 0 {n = k} (omega arith))
+    ]
 
 pub place-of-spec : {M : Type 1} → statement M
 place-of-spec =

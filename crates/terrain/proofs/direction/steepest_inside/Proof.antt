@@ -1,13 +1,13 @@
 -- `terrain::direction::steepest_inside` meets its contract: the steepest of the sides passed. Assumes nothing.
-use mathlib.Core.Path.{_≡_, refl, ap, _∙_}
+use mathlib.Core.Path.{_≡_, refl, _∙_}
 use Prim.Native.Nat.{ℕ, _≤_, _-_}
 use native.Mathlib.Omega.{arith}
 use lib.ListN.{getD}
 use Rattle.terrain.specs.Cells.{neighbour}
 use Rattle.terrain.specs.Inside.{Inside}
-use Rattle.terrain.specs.Levels.{dropOf, fallIn}
+use Rattle.terrain.specs.Levels.{dropOf, FallTo}
 use Rattle.terrain.proofs.Interior.{inside-beside, inside-is, inside-lt}
-use Rattle.terrain.proofs.Falls.{FallTo, drop-small, fall-none, fall-more}
+use Rattle.terrain.proofs.Falls.{drop-small, fall-none, fall-more, fall-all}
 use borrow.Author.Needs.{needs}
 use Rattle.terrain.proofs.direction.steepest_inside.Statement.{statement}
 use Rattle.terrain.proofs.direction.steepest_inside.Tie as tie
@@ -25,7 +25,7 @@ shared-slice-read-v : tie.Need-shared-slice-read-v Inv-loop μ-loop
 shared-slice-read-v c = search needs
 
 loop-holds : tie.Need-loop-holds Inv-loop μ-loop
-loop-holds c = (omega arith, λ rows i. fall-none refl refl)
+loop-holds c = (omega arith, λ rows i. fall-none refl refl refl)
 
 beside-requires : tie.Need-beside-requires Inv-loop μ-loop
 beside-requires c κs = let s = c .before .before .before .before in inside-beside (s .pre .0) _ _ _ (s .pre .1 .sized) (s .pre .2) (omega arith)
@@ -62,10 +62,7 @@ loop-again c =
     )
 
 returns : tie.Need-returns Inv-loop μ-loop
-returns c =
-    let a = c .before .before .before .before .args in
-    let e : c .before .loop .k ≡ 8 = omega arith in
-    λ rows i. c .before .loop .inv .1 rows i .code ∙ ap (fallIn rows (a .columns) (a .level .now) (a .x)) e
+returns c = let e : c .before .loop .k ≡ 8 = omega arith in λ rows i. fall-all e (c .before .loop .inv .1 rows i)
 
 pub steepest-inside-spec : {M : Type 1} → statement M
 steepest-inside-spec =

@@ -1,11 +1,11 @@
 -- `terrain::direction::steepest_near` meets its contract: the steepest of the sides passed. Assumes nothing.
-use mathlib.Core.Path.{_≡_, refl, ap, _∙_}
+use mathlib.Core.Path.{_≡_, refl}
 use Prim.Native.Nat.{_≤_, _-_}
 use native.Mathlib.Omega.{arith}
 use lib.ListN.{getD}
 use Rattle.terrain.specs.Cells.{neighbour}
-use Rattle.terrain.specs.Levels.{dropOf, fallIn}
-use Rattle.terrain.proofs.Falls.{FallTo, drop-small, fall-none, fall-more}
+use Rattle.terrain.specs.Levels.{dropOf, FallTo}
+use Rattle.terrain.proofs.Falls.{drop-small, fall-none, fall-more, fall-all}
 use borrow.Author.Needs.{needs}
 use Rattle.terrain.proofs.direction.steepest_near.Statement.{statement}
 use Rattle.terrain.proofs.direction.steepest_near.Tie as tie
@@ -23,7 +23,7 @@ shared-slice-read-v : tie.Need-shared-slice-read-v Inv-loop μ-loop
 shared-slice-read-v c = search needs
 
 loop-holds : tie.Need-loop-holds Inv-loop μ-loop
-loop-holds c = (omega arith, fall-none refl refl)
+loop-holds c = (omega arith, fall-none refl refl refl)
 
 near-requires : tie.Need-near-requires Inv-loop μ-loop
 near-requires c κs = search needs
@@ -53,10 +53,7 @@ loop-again c =
     (omega arith, fall-more (p .inv .1) e (c .or .ensures))
 
 returns : tie.Need-returns Inv-loop μ-loop
-returns c =
-    let a = c .before .before .before .before .args in
-    let e : c .before .loop .k ≡ 8 = omega arith in
-    c .before .loop .inv .1 .code ∙ ap (fallIn (a .rows) (a .columns) (a .level .now) (a .x)) e
+returns c = let e : c .before .loop .k ≡ 8 = omega arith in fall-all e (c .before .loop .inv .1)
 
 pub steepest-near-spec : {M : Type 1} → statement M
 steepest-near-spec =

@@ -21,10 +21,13 @@ returns c = steeper-kept (c .before .before .weight .ensures) (c .if1 .taken)
 code-of-requires : tie.Need-code-of-requires
 code-of-requires c κs = search needs
 
+fall-over-requires : tie.Need-fall-over-requires
+fall-over-requires c κs = search needs
+
 returns-2 : tie.Need-returns-2
-returns-2 c = steeper-new (c .before .before .before .weight .ensures) (c .before .if1 .left) (c .code-of .ensures) refl
+returns-2 c = steeper-new (c .before .before .before .before .weight .ensures) (c .before .before .if1 .left) (c .before .code-of .ensures) refl (c .fall-over .ensures)
 
 pub or-spec : {M : Type 1} → statement M
 or-spec =
     tie.close
-    (tie.spec weight-requires mul-steepness mul-steepness-2 returns code-of-requires returns-2)
+    (tie.spec weight-requires mul-steepness mul-steepness-2 returns code-of-requires fall-over-requires returns-2)

@@ -1,0 +1,93 @@
+-- `terrain::map` meets its contract. Assumes nothing.
+use mathlib.Core.Path.{_≡_, refl, sym, ap, _∙_}
+use borrow.Author.Needs.{needs}
+use Rattle.laws.specs.Tests.{passed}
+use Rattle.terrain.specs.Answers.{Grids, lent, found, judged}
+use Rattle.terrain.proofs.Answers.{passed-ready, passed-room, refuses, accepts-all}
+use Rattle.terrain.proofs.Surveying.{relief-directed, routed-answer, routed-mapped}
+use Rattle.terrain.proofs.map.Statement.{statement}
+use Rattle.terrain.proofs.map.Tie as tie
+
+-- the arguments, from the judgement on; and the judgement, from the relief on
+abbrev start : tie.After-judge → tie.Start
+start c = let a = c .before .before .before .before .before in a .before .before .before .before .before
+
+abbrev found-at : tie.After-shape → tie.After-judge
+found-at c = let a = c .before .before .before .before in a .before .before .before .before
+
+-- the lent grids
+abbrev grids : tie.Start → Grids
+grids s = lent (s .args .filled .now) (s .args .direction .now) (s .args .count .now) (s .args .falls .now) (s .args .workspace .now)
+
+judge-requires : tie.Need-judge-requires
+judge-requires c κs = search needs
+
+enum-known-judgement : tie.Need-enum-known-judgement
+enum-known-judgement c = search needs
+
+same-length : tie.Need-same-length
+same-length c = search needs
+
+same-length-2 : tie.Need-same-length-2
+same-length-2 c = search needs
+
+same-length-3 : tie.Need-same-length-3
+same-length-3 c = search needs
+
+same-length-4 : tie.Need-same-length-4
+same-length-4 c = search needs
+
+same-length-5 : tie.Need-same-length-5
+same-length-5 c = search needs
+
+returns : tie.Need-returns
+returns c = ?
+
+enum-told : tie.Need-enum-told
+enum-told c = search needs
+
+shape-requires : tie.Need-shape-requires
+shape-requires c κs = ?
+
+route-requires : tie.Need-route-requires
+route-requires c κs = ?
+
+same-length-6 : tie.Need-same-length-6
+same-length-6 c = search needs
+
+same-length-7 : tie.Need-same-length-7
+same-length-7 c = search needs
+
+same-length-8 : tie.Need-same-length-8
+same-length-8 c = search needs
+
+same-length-9 : tie.Need-same-length-9
+same-length-9 c = search needs
+
+same-length-10 : tie.Need-same-length-10
+same-length-10 c = search needs
+
+returns-2 : tie.Need-returns-2
+returns-2 c = ?
+
+pub map-spec : {M : Type 1} → statement M
+map-spec =
+    tie.close
+    (tie.spec
+    judge-requires
+    enum-known-judgement
+    same-length
+    same-length-2
+    same-length-3
+    same-length-4
+    same-length-5
+    returns
+    enum-told
+    shape-requires
+    route-requires
+    same-length-6
+    same-length-7
+    same-length-8
+    same-length-9
+    same-length-10
+    returns-2)

@@ -1,0 +1,76 @@
+-- `terrain::shape` meets its contract. Assumes nothing.
+use mathlib.Core.Path.{sym, _∙_}
+use borrow.Author.Needs.{needs}
+use Rattle.terrain.specs.Levels.{Levels}
+use Rattle.terrain.proofs.Surveying.{relief-levels, relief-small, relief}
+use Rattle.terrain.proofs.shape.Statement.{statement}
+use Rattle.terrain.proofs.shape.Tie as tie
+
+-- the arguments, from the filling on; the filling, from the steps over flats on; and those, from the directions on
+abbrev start : tie.After-fill → tie.Start
+start c = c .before .before .before .before .before .before
+
+abbrev flooded : tie.After-measure → tie.After-fill
+flooded c = c .before .before .before .before .before .before
+
+abbrev measured : tie.After-point → tie.After-measure
+measured c = let a = c .before .before .before .before in a .before .before .before .before
+
+-- the levels after the filling
+levels : (c : tie.After-fill) → Levels (start c .args .rows) (start c .args .columns) (c .fill .last .1 .1 .1 .0)
+levels c = relief-levels (start c .pre .0) (c .fill .ensures)
+
+fill-requires : tie.Need-fill-requires
+fill-requires c κs = search needs
+
+measure-requires : tie.Need-measure-requires
+measure-requires c κs = let f = c .before .before .before .before .before in (levels f, start f .pre .1 .count-long)
+
+point-requires : tie.Need-point-requires
+point-requires c κs =
+    let m = c .before .before .before .before .before .before .before in
+    let f = flooded m in
+    (levels f, m .measure .ensures, start f .pre .1 .direction-long, start f .pre .1 .falls-long)
+
+write-heights-requires : tie.Need-write-heights-requires
+write-heights-requires c κs =
+    let m = measured (c .before .before .before .before .before .before) in
+    let f = flooded m in
+    (levels f .long ∙ sym (m .measure .kept .1 .1 .1 .1 .0 ∙ start f .pre .1 .filled-long), relief-small (start f .pre .0) (f .fill .ensures))
+
+same-length : tie.Need-same-length
+same-length c = search needs
+
+same-length-2 : tie.Need-same-length-2
+same-length-2 c = search needs
+
+same-length-3 : tie.Need-same-length-3
+same-length-3 c = search needs
+
+same-length-4 : tie.Need-same-length-4
+same-length-4 c = search needs
+
+same-length-5 : tie.Need-same-length-5
+same-length-5 c = search needs
+
+returns : tie.Need-returns
+returns c =
+    let p = c .before .before .before .before in
+    let q = p .before .before .before .before in
+    let f = flooded (measured q) in
+    relief (start f .pre .0) (f .fill .ensures) (c .before .write-heights .ensures) (q .point .ensures)
+
+pub shape-spec : {M : Type 1} → statement M
+shape-spec =
+    tie.close
+    (tie.spec
+    fill-requires
+    measure-requires
+    point-requires
+    write-heights-requires
+    same-length
+    same-length-2
+    same-length-3
+    same-length-4
+    same-length-5
+    returns)
