@@ -1,7 +1,6 @@
 -- The order from the ridges down as the code makes it: what cells wait for, taking a cell, and that the end is an order of the valid cells. Assumes nothing.
-use mathlib.Core.Path.{_≡_, sym, ap, subst, _∙_}
+use mathlib.Core.Path.{_≡_, sym, ap, _∙_}
 use mathlib.Core.List.{List}
-use mathlib.Core.Logic.{⊎-elim}
 use mathlib.Core.Bool.{Bool, true}
 use Prim.Native.Nat.{ℕ, _+_, _-_, _*_, _≤_, _<_}
 use native.Mathlib.Omega.{arith}
@@ -12,17 +11,16 @@ use lib.Dec.{eqb}
 use borrow.Author.Tests.{eq-eqb, ne-eqb}
 use Rattle.laws.specs.Lists.{Agrees}
 use Rattle.laws.specs.Sums.{sumTo, when}
-use Rattle.laws.specs.Orders.{Pointing}
 use Rattle.laws.specs.Peel.{Taking}
-use Rattle.laws.proofs.Tests.{two}
 use Rattle.laws.proofs.Sums.{sum-none, sum-more, sum-ones, when-yes, when-no, when-under}
-use Rattle.laws.proofs.Orders.{order-places}
-use Rattle.laws.proofs.Peel.{peel-start, peel-take, peel-all, next-waits}
-use Rattle.terrain.specs.Trail.{mappedAt, flowsAt, stepsIn}
+use Rattle.laws.proofs.Orders.{order-cell, order-places}
+use Rattle.laws.proofs.Peel.{peel-start, peel-take, next-waits}
+use Rattle.laws.proofs.Rings.{peel-all, falling-ringless}
+use Rattle.terrain.specs.Trail.{mappedAt}
 use Rattle.terrain.specs.Directed.{Directed, receiverOf}
 use Rattle.terrain.specs.Downhill.{Downhill, Awaiting, Peeled}
-use Rattle.terrain.proofs.Trails.{is-mapped, mapped-is, mapped-in, flows-mapped, steps-le}
-use Rattle.terrain.proofs.Counting.{code-read, receiver-flows, receiver-stops}
+use Rattle.terrain.proofs.Trails.{is-mapped, mapped-is}
+use Rattle.terrain.proofs.Receivers.{pointing, falling, code-read}
 
 module _ {rows cols : ℕ} {dir : List ℕ} (d : Directed rows cols dir) where
   abbrev n : ℕ
@@ -34,26 +32,13 @@ module _ {rows cols : ℕ} {dir : List ℕ} (d : Directed rows cols dir) where
   abbrev recv : ℕ → ℕ
   recv = receiverOf rows cols dir
 
-  points : (x : ℕ) → recv x < n → flowsAt rows cols dir x ≡ true
-  points x h = ⊎-elim (λ q. q) (λ q. absurd (omega (arith, receiver-stops d x q))) (two (flowsAt rows cols dir x))
-
-  pub pointing : Pointing (rows * cols) (mappedAt rows cols dir) (receiverOf rows cols dir) (stepsIn rows cols dir (rows * cols))
-  pointing =
-      record {
-        within = mapped-in rows cols dir (d .long);
-        from = (λ x h. flows-mapped rows cols dir x (points x h));
-        stays = (λ x h. ap valid (receiver-flows d x (points x h)) ∙ d .stays x (points x h));
-        less = (λ x h. omega (arith, d .less x (points x h), ap (stepsIn rows cols dir n) (receiver-flows d x (points x h))));
-        bounded = steps-le rows cols dir n;
-      }
-
   -- ---- what cells wait for
 
   pub await-start : {w : List ℕ} → length w ≡ rows * cols → Agrees (λ (x : ℕ). when (eqb (getD dir x 0) 255) 4294967295) 0 w (rows * cols) → Awaiting rows cols dir w 0
   await-start {w} e a =
       record {
         long = e;
-        waits = (λ z v. a z (pointing .within z v) ∙ when-no 4294967295 (ne-eqb (getD dir z 0) 255 (λ q. mapped-is rows cols dir z v (code-read d z (pointing .within z v) ∙ q))) ∙ sym (sum-none (λ u. when (eqb (recv u) z) 1)));
+        waits = (λ z v. a z (pointing d .within z v) ∙ when-no 4294967295 (ne-eqb (getD dir z 0) 255 (λ q. mapped-is rows cols dir z v (code-read d z (pointing d .within z v) ∙ q))) ∙ sym (sum-none (λ u. when (eqb (recv u) z) 1)));
         shut = (λ z h q. is-mapped rows cols dir z (λ t. omega (arith, a z h, when-yes 4294967295 (eq-eqb (getD dir z 0) 255 (sym (code-read d z h) ∙ t)))));
       }
 
@@ -61,92 +46,106 @@ module _ {rows cols : ℕ} {dir : List ℕ} (d : Directed rows cols dir) where
     -- a cell waits for no more than were seen
     pub await-small : {y : ℕ} → y ≡ receiverOf rows cols dir x → y < rows * cols → getD w y 0 ≤ x
     await-small {y} e h =
-        omega (arith, a .waits y (ap valid e ∙ pointing .stays x (omega arith)), sum-ones x (λ u. when (eqb (recv u) y) 1) (λ u l. when-under (eqb (recv u) y) 1))
+        omega (arith, a .waits y (ap valid e ∙ pointing d .stays x (omega arith)), sum-ones x (λ u. when (eqb (recv u) y) 1) (λ u l. when-under (eqb (recv u) y) 1))
 
     pub await-off : rows * cols ≤ receiverOf rows cols dir x → Awaiting rows cols dir w (x + 1)
     await-off h =
         record {
           long = a .long;
-          waits = (λ z v. omega (arith, a .waits z v, sum-more x (λ u. when (eqb (recv u) z) 1), when-no 1 (ne-eqb (recv x) z (λ e. omega (arith, pointing .within z v)))));
+          waits = (λ z v. omega (arith, a .waits z v, sum-more x (λ u. when (eqb (recv u) z) 1), when-no 1 (ne-eqb (recv x) z (λ e. omega (arith, pointing d .within z v)))));
           shut = a .shut;
         }
 
-    seen-on : {m : ℕ} → recv x < n → m ≡ getD w (recv x) 0 + 1 → Awaiting rows cols dir (set w (recv x) m) (x + 1)
-    seen-on {m} h e =
+    pub await-on : {y m : ℕ} → y ≡ receiverOf rows cols dir x → y < rows * cols → m ≡ getD w y 0 + 1 → Awaiting rows cols dir (set w y m) (x + 1)
+    await-on {y} {m} e h q =
         record {
-          long = length-set w (recv x) m ∙ a .long;
+          long = length-set w y m ∙ a .long;
           waits = waits;
-          shut = (λ z l q. elim (ℕ-discrete z (recv x)) [ yes g ↦ ap valid g ∙ pointing .stays x h | no g ↦ a .shut z l (sym (getD-set-other w (recv x) z m 0 g) ∙ q) ]);
+          shut = (λ z l t. elim (ℕ-discrete z y) [ yes g ↦ ap valid (g ∙ e) ∙ pointing d .stays x (omega arith) | no g ↦ a .shut z l (sym (getD-set-other w y z m 0 g) ∙ t) ]);
         }
       where
-        waits : (z : ℕ) → valid z ≡ true → getD (set w (recv x) m) z 0 ≡ sumTo (x + 1) (λ u. when (eqb (recv u) z) 1)
+        waits : (z : ℕ) → valid z ≡ true → getD (set w y m) z 0 ≡ sumTo (x + 1) (λ u. when (eqb (recv u) z) 1)
         waits z v =
             let s = sum-more x (λ u. when (eqb (recv u) z) 1) in
-            elim (ℕ-discrete z (recv x)) [
-              | yes g ↦ omega (arith, s, a .waits z v, ap (λ (i : ℕ). getD w i 0) g, ap (λ (i : ℕ). getD (set w (recv x) m) i 0) g, getD-set-same w (recv x) m 0 (omega (arith, a .long)), when-yes 1 (eq-eqb (recv x) z (sym g)))
-              | no g ↦ omega (arith, s, a .waits z v, getD-set-other w (recv x) z m 0 g, when-no 1 (ne-eqb (recv x) z (λ q. g (sym q))))
+            elim (ℕ-discrete z y) [
+              | yes g ↦ omega (arith, s, a .waits z v, ap (λ (i : ℕ). getD w i 0) g, ap (λ (i : ℕ). getD (set w y m) i 0) g, getD-set-same w y m 0 (omega (arith, a .long)), when-yes 1 (eq-eqb (recv x) z (sym (g ∙ e))))
+              | no g ↦ omega (arith, s, a .waits z v, getD-set-other w y z m 0 g, when-no 1 (ne-eqb (recv x) z (λ t. g (sym (e ∙ t)))))
             ]
 
-    pub await-on : {y m : ℕ} → y ≡ receiverOf rows cols dir x → y < rows * cols → m ≡ getD w y 0 + 1 → Awaiting rows cols dir (set w y m) (x + 1)
-    await-on {y} {m} q h e = subst (λ (z : ℕ). Awaiting rows cols dir (set w z m) (x + 1)) (sym q) (seen-on (omega arith) (e ∙ ap (λ (z : ℕ). getD w z 0 + 1) q))
-
   pub await-peeled : {w order : List ℕ} → length order ≡ rows * cols → Awaiting rows cols dir w (rows * cols) → Peeled rows cols dir order w 0 0 (rows * cols)
-  await-peeled o a = peel-start pointing o (a .long) (a .waits) (a .shut)
+  await-peeled o a = peel-start (pointing d) o (a .long) (a .waits) (a .shut)
 
   -- ---- taking a cell
 
   module _ {order w : List ℕ} {p b x : ℕ} (s : Peeled rows cols dir order w p b x) (h : x < rows * cols) where
+    -- what cells wait for when x is marked as taken
+    abbrev marked : List ℕ
+    marked = set w x 4294967295
+
+    pub marked-long : length (set w x 4294967295) ≡ rows * cols
+    marked-long = length-set w x 4294967295 ∙ s .wide
+
+    marked-here : getD marked x 0 ≡ 4294967295
+    marked-here = getD-set-same w x 4294967295 0 (omega (arith, s .wide))
+
     -- where the cell points at none
     pub taken-last : {y : ℕ} → y ≡ receiverOf rows cols dir x → rows * cols ≤ y → Peeled rows cols dir (set order p x) (set w x 4294967295) (p + 1) b y
-    taken-last {y} e o = peel-take pointing s h done
+    taken-last {y} e o = peel-take (pointing d) s h done
       where
-        done : Taking n recv w (set w x 4294967295) x y
+        done : Taking n recv w marked x y
         done =
             record {
               wide = length-set w x 4294967295;
-              shut = omega (arith, getD-set-same w x 4294967295 0 (omega (arith, s .wide)));
+              shut = omega (arith, marked-here);
               other = (λ z p q. getD-set-other w x z 4294967295 0 p);
               one = (λ k. absurd (omega arith));
               some = (λ k. absurd (omega arith));
               none = (λ k q. absurd (omega arith));
             }
 
-    next-apart : {y : ℕ} → y ≡ recv x → y < n → y ≡ x → ⊥
-    next-apart e l q = omega (arith, pointing .less x (omega arith), ap (stepsIn rows cols dir n) (sym e ∙ q))
+    module _ {y : ℕ} (e : y ≡ receiverOf rows cols dir x) (l : y < rows * cols) where
+      apart : y ≡ x → ⊥
+      apart q = pointing d .apart x (omega arith) (sym e ∙ q)
 
-    -- the cell that it points at waits for it
-    pub taken-waits : {y : ℕ} → y ≡ receiverOf rows cols dir x → y < rows * cols → 0 < getD (set w x 4294967295) y 0
-    taken-waits {y} e l =
-        omega (arith, getD-set-other w x y 4294967295 0 (next-apart e l), next-waits pointing s h (omega arith), ap (λ (z : ℕ). getD w z 0) e)
+      same : getD marked y 0 ≡ getD w (recv x) 0
+      same = getD-set-other w x y 4294967295 0 apart ∙ ap (λ (z : ℕ). getD w z 0) e
 
-    -- and then for one less; it is in hand if it waits for none
-    pub taken-next : {y m hand : ℕ} → y ≡ receiverOf rows cols dir x → y < rows * cols → m ≡ getD (set w x 4294967295) y 0 - 1 → (getD (set (set w x 4294967295) y m) y 0 ≡ 0 → hand ≡ y) → (0 < getD (set (set w x 4294967295) y m) y 0 → hand ≡ rows * cols) → Peeled rows cols dir (set order p x) (set (set w x 4294967295) y m) (p + 1) b hand
-    taken-next {y} {m} {hand} e l g a o = peel-take pointing s h done
-      where
-        stored : getD (set (set w x 4294967295) y m) y 0 ≡ m
-        stored = getD-set-same (set w x 4294967295) y m 0 (omega (arith, length-set w x 4294967295, s .wide))
+      -- the cell that it points at waits for it
+      pub taken-waits : 0 < getD (set w x 4294967295) y 0
+      taken-waits = omega (arith, same, next-waits (pointing d) s h (omega arith))
 
-        there : getD (set (set w x 4294967295) y m) (recv x) 0 ≡ m
-        there = ap (λ (z : ℕ). getD (set (set w x 4294967295) y m) z 0) (sym e) ∙ stored
+      -- and then for one less; it is in hand if it waits for none
+      pub taken-next : {m hand : ℕ} → m ≡ getD (set w x 4294967295) y 0 - 1 → (getD (set (set w x 4294967295) y m) y 0 ≡ 0 → hand ≡ y) → (0 < getD (set (set w x 4294967295) y m) y 0 → hand ≡ rows * cols) → Peeled rows cols dir (set order p x) (set (set w x 4294967295) y m) (p + 1) b hand
+      taken-next {m} {hand} g a o = peel-take (pointing d) s h done
+        where
+          stored : getD (set marked y m) y 0 ≡ m
+          stored = getD-set-same marked y m 0 (omega (arith, marked-long))
 
-        done : Taking n recv w (set (set w x 4294967295) y m) x hand
-        done =
-            record {
-              wide = length-set (set w x 4294967295) y m ∙ length-set w x 4294967295;
-              shut = omega (arith, getD-set-other (set w x 4294967295) y x m 0 (λ q. next-apart e l (sym q)), getD-set-same w x 4294967295 0 (omega (arith, s .wide)));
-              other = (λ z p q. getD-set-other (set w x 4294967295) y z m 0 (λ t. q (t ∙ e)) ∙ getD-set-other w x z 4294967295 0 p);
-              one = (λ k. omega (arith, there, taken-waits e l, getD-set-other w x y 4294967295 0 (next-apart e l), ap (λ (z : ℕ). getD w z 0) e));
-              some = (λ k. elim (ℕ-discrete m 0) [ yes z ↦ (a (stored ∙ z) ∙ e, ap (λ (i : ℕ). getD (set (set w x 4294967295) y m) i 0) (a (stored ∙ z)) ∙ stored ∙ z) | no f ↦ absurd (omega (arith, o (omega (arith, stored)))) ]);
-              none = (λ k z. a (ap (λ (i : ℕ). getD (set (set w x 4294967295) y m) i 0) e ∙ z) ∙ e);
-            }
+          there : getD (set marked y m) (recv x) 0 ≡ m
+          there = ap (λ (z : ℕ). getD (set marked y m) z 0) (sym e) ∙ stored
+
+          done : Taking n recv w (set marked y m) x hand
+          done =
+              record {
+                wide = length-set marked y m ∙ length-set w x 4294967295;
+                shut = omega (arith, getD-set-other marked y x m 0 (λ q. apart (sym q)), marked-here);
+                other = (λ z p q. getD-set-other marked y z m 0 (λ t. q (t ∙ e)) ∙ getD-set-other w x z 4294967295 0 p);
+                one = (λ k. omega (arith, there, taken-waits, same));
+                some = (λ k. elim (ℕ-discrete m 0) [ yes z ↦ (a (stored ∙ z) ∙ e, ap (λ (i : ℕ). getD (set marked y m) i 0) (a (stored ∙ z)) ∙ stored ∙ z) | no f ↦ absurd (omega (arith, o (omega (arith, stored)))) ]);
+                none = (λ k z. a (ap (λ (i : ℕ). getD (set marked y m) i 0) e ∙ z) ∙ e);
+              }
 
   -- ---- the end
 
   pub peeled-all : {order w : List ℕ} {p b : ℕ} → rows * cols ≤ b → Peeled rows cols dir order w p b (rows * cols) → Downhill rows cols dir order p
   peeled-all h s =
-      let o = peel-all pointing s h (omega arith) in
-      let e = order-places o (pointing .within) in
+      let o = peel-all (pointing d) s h (omega arith) (λ z r. falling-ringless r (falling d)) in
+      let e = order-places o (pointing d .within) in
       record { room = omega (arith, e, s .long, sum-ones n (λ x. when (valid x) 1) (λ x l. when-under (valid x) 1)); cells = o }
+
+  -- a place of the order holds a cell
+  pub place-cell : {order : List ℕ} {m p x : ℕ} → Downhill rows cols dir order m → p < m → x ≡ getD order p 0 → x < rows * cols
+  place-cell {order} {m} {p} o h e = omega (arith, e, pointing d .within (getD order p 0) (order-cell (o .cells) p h))
 
 -- an order has no more places than the grid has cells
 pub downhill-few : {rows cols : ℕ} {dir order : List ℕ} {m : ℕ} → Directed rows cols dir → Downhill rows cols dir order m → m ≤ rows * cols

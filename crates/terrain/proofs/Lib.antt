@@ -4,10 +4,11 @@ pub mod Surfaces
 pub mod Flats
 pub mod Directions
 pub mod Trails
-pub mod Counting
-pub mod Following
+pub mod Receivers
+pub mod Inflows
 pub mod Descending
 pub mod Passing
+pub mod Following
 pub mod Drainage
 pub mod Answers
 pub mod Interior

@@ -3,7 +3,7 @@
 use mathlib.Core.Path.{_≡_, refl, sym, ap, ap₂, subst, _∙_}
 use mathlib.Core.List.{List}
 use mathlib.Core.Logic.{⊎-elim}
-use mathlib.Core.Bool.{Bool, true, false, cond, not, _&&_, true≢false}
+use mathlib.Core.Bool.{Bool, true, false, cond, not, true≢false}
 use Prim.Native.Nat.{ℕ, zero, suc, _+_, _*_, _≤_, _<_}
 use native.Mathlib.Omega.{arith}
 use native.Mathlib.Decide.{decLt, ℕ-discrete}
@@ -11,14 +11,14 @@ use lib.ListN.{length, getD, List·getD-eq-default}
 use lib.Dec.{eqb}
 use borrow.Author.Tests.{ltb-true, lt-ltb, le-ltb, eqb-true, eqb-false, eq-eqb, ne-eqb, not-true}
 use Rattle.laws.specs.Sums.{sumTo, when}
-use Rattle.laws.proofs.Tests.{two, and-both}
+use Rattle.laws.proofs.Tests.{two}
 use Rattle.laws.proofs.Lists.{length-tab, getD-tab}
 use Rattle.laws.proofs.Pigeon.{pigeon}
 use Rattle.laws.proofs.Sums.{sum-ext, sum-zero, sum-ones, sum-add, sum-swap, sum-one, sum-when, when-yes, when-no, when-zero, when-swap, when-add, when-under}
 use Rattle.terrain.specs.Cells.{neighbour, codeOf, sideOf}
-use Rattle.terrain.specs.Trail.{Trail, ends, goes, steps, mappedAt, flowsAt, nextAt, stepsIn, passesIn, countAt, countsOf, intoAt}
+use Rattle.terrain.specs.Trail.{Trail, ends, goes, steps, mappedAt, flowsAt, nextAt, stepsIn, passesIn, countAt, countsOf}
 use Rattle.terrain.specs.Directed.{receiverOf}
-use Rattle.terrain.proofs.Neighbours.{across, across-small, side-code, code-side, code-small, side-leaves, neighbour-back, neighbour-only}
+use Rattle.terrain.proofs.Neighbours.{side-code, code-side, code-small, side-leaves}
 
 -- ---- one step
 
@@ -54,6 +54,18 @@ module _ (rows cols : ℕ) (dir : List ℕ) where
 
   pub flows-mapped : (x : ℕ) → flowsAt rows cols dir x ≡ true → mappedAt rows cols dir x ≡ true
   flows-mapped x e = is-mapped x (λ q. omega (arith, flows-code x e .1, code-small (sideOf (getD dir x 255))))
+
+  -- the cell that a cell points at
+  pub receiver-flows : (x : ℕ) → flowsAt rows cols dir x ≡ true → receiverOf rows cols dir x ≡ nextAt rows cols dir x
+  unfolding receiverOf
+  receiver-flows x q = ap (λ (b : Bool). cond b (nextAt rows cols dir x) (rows * cols)) q
+
+  pub receiver-stops : (x : ℕ) → flowsAt rows cols dir x ≡ false → receiverOf rows cols dir x ≡ rows * cols
+  unfolding receiverOf
+  receiver-stops x q = ap (λ (b : Bool). cond b (nextAt rows cols dir x) (rows * cols)) q
+
+  pub receiver-points : (x : ℕ) → receiverOf rows cols dir x < rows * cols → flowsAt rows cols dir x ≡ true
+  receiver-points x h = ⊎-elim (λ q. q) (λ q. absurd (omega (arith, receiver-stops x q))) (two (flowsAt rows cols dir x))
 
 -- ---- a number that falls along every trail
 
@@ -274,31 +286,13 @@ module _ (rows cols : ℕ) (dir : List ℕ) (pot : ℕ → ℕ) (falls : Falls r
         ∙ sym (sum-when size (cell x) (λ z. when (leavesAt z) (hits size x z)))
         ∙ ⊎-elim (λ v. ap (when (cell x)) (leaves-once size x (bound x) v)) (λ v. when-no _ v ∙ sym (when-no _ v)) (two (cell x)))
 
-    -- ---- the cells that point at a cell
-
-    abbrev nb : ℕ → ℕ → ℕ
-    nb = neighbour rows cols
-
-    abbrev into : ℕ → ℕ → Bool
-    into = intoAt rows cols dir
-
-    pub into-flows : (z k : ℕ) → intoAt rows cols dir z k ≡ true → (flowsAt rows cols dir (neighbour rows cols z k) ≡ true) × (nextAt rows cols dir (neighbour rows cols z k) ≡ z)
-    unfolding intoAt
-    into-flows z k e = let w = and-both (goesOn (nb z k)) (eqb (to (nb z k)) z) e in (w .0, eqb-true (to (nb z k)) z (w .1))
-
-    flows-into : (z k : ℕ) → goesOn (nb z k) ≡ true → to (nb z k) ≡ z → into z k ≡ true
-    unfolding intoAt
-    flows-into z k q e = ap₂ _&&_ q (eq-eqb (to (nb z k)) z e)
+    -- ---- what the cells that point at a cell bring
 
     inside : (x : ℕ) → cell x ≡ true → x < rows * cols
     inside x v = mapped-in rows cols dir (falls .long) x v
 
     here : (x : ℕ) → goesOn x ≡ true → x < rows * cols
     here x q = inside x (flows-mapped rows cols dir x q)
-
-    to-is : (x : ℕ) → to x ≡ nb x (sideOf (getD dir x 255))
-    unfolding nextAt
-    to-is x = refl
 
     hits-split : (m x y : ℕ) → goesOn x ≡ true → hits (suc m) x y ≡ when (eqb x y) 1 + hits m (to x) y
     hits-split m x y q =
@@ -310,16 +304,6 @@ module _ (rows cols : ℕ) (dir : List ℕ) (pot : ℕ → ℕ) (falls : Falls r
     abbrev recv : ℕ → ℕ
     recv = receiverOf rows cols dir
 
-    points-flows : (x : ℕ) → receiverOf rows cols dir x < rows * cols → (flowsAt rows cols dir x ≡ true) × (receiverOf rows cols dir x ≡ nextAt rows cols dir x)
-    unfolding receiverOf
-    points-flows x h =
-        ⊎-elim (λ q. (q, ap (λ (b : Bool). cond b (to x) size) q))
-        (λ q. let e : recv x ≡ rows * cols = ap (λ (b : Bool). cond b (to x) size) q in absurd (omega arith)) (two (goesOn x))
-
-    flows-points : (x : ℕ) → flowsAt rows cols dir x ≡ true → receiverOf rows cols dir x ≡ nextAt rows cols dir x
-    unfolding receiverOf
-    flows-points x q = ap (λ (b : Bool). cond b (to x) size) q
-
     -- what the cells that point at z are passed by
     abbrev brought : ℕ → ℕ → ℕ → ℕ
     brought m x z = sumTo size (λ y. when (eqb (recv y) z) (hits m x y))
@@ -327,7 +311,7 @@ module _ (rows cols : ℕ) (dir : List ℕ) (pot : ℕ → ℕ) (falls : Falls r
     brought-none : (m x z : ℕ) → z < rows * cols → ((y : ℕ) → goesOn y ≡ true → to y ≡ z → hits m x y ≡ 0) → brought m x z ≡ 0
     brought-none m x z h e =
         sum-zero size (λ y. when (eqb (recv y) z) (hits m x y)) (λ y l.
-        ⊎-elim (λ t. let g = eqb-true (recv y) z t in let w = points-flows y (omega arith) in when-yes (hits m x y) t ∙ e y (w .0) (sym (w .1) ∙ g)) (λ t. when-no (hits m x y) t) (two (eqb (recv y) z)))
+        ⊎-elim (λ t. let g = eqb-true (recv y) z t in let q = receiver-points rows cols dir y (omega arith) in when-yes (hits m x y) t ∙ e y q (sym (receiver-flows rows cols dir y q) ∙ g)) (λ t. when-no (hits m x y) t) (two (eqb (recv y) z)))
 
     brought-self : (m x z : ℕ) → z < rows * cols → x ≡ z → hits m x z ≡ when (eqb x z) 1 + brought m x z
     brought-self m x z h e =
@@ -356,7 +340,7 @@ module _ (rows cols : ℕ) (dir : List ℕ) (pot : ℕ → ℕ) (falls : Falls r
         itself : sumTo size (λ y. when (eqb (recv y) z) (when (eqb x y) 1)) ≡ when (eqb (to x) z) 1
         itself =
             sum-one size (λ y. when (eqb (recv y) z) (when (eqb x y) 1)) x (here x q) (λ y l d. ap (when (eqb (recv y) z)) (when-no 1 (ne-eqb x y (λ e. d (sym e)))) ∙ when-zero (eqb (recv y) z))
-            ∙ ap (when (eqb (recv x) z)) (when-yes 1 (eq-eqb x x refl)) ∙ ap (λ (y : ℕ). when (eqb y z) 1) (flows-points x q)
+            ∙ ap (when (eqb (recv x) z)) (when-yes 1 (eq-eqb x x refl)) ∙ ap (λ (y : ℕ). when (eqb y z) 1) (receiver-flows rows cols dir x q)
 
     hits-brought : (m x z : ℕ) → z < rows * cols → pot x ≤ m → hits m x z ≡ when (eqb x z) 1 + brought m x z
     hits-brought zero x z k h =
@@ -397,22 +381,3 @@ module _ (rows cols : ℕ) (dir : List ℕ) (pot : ℕ → ℕ) (falls : Falls r
     pub counts-at : (z : ℕ) → z < rows * cols → getD (countsOf rows cols dir) z 0 ≡ when (mappedAt rows cols dir z) (countAt rows cols dir z)
     unfolding countsOf
     counts-at z h = getD-tab (rows * cols) (λ y. when (cell y) (countAt rows cols dir y)) 0 z h
-
-    -- and it stands higher
-    pub into-above : (z k : ℕ) → intoAt rows cols dir z k ≡ true → pot z < pot (neighbour rows cols z k)
-    into-above z k e = let w = into-flows z k e in omega (arith, falls .less (nb z k) (w .0), ap pot (w .1))
-
-    -- ---- the test that a program makes: the neighbour at the side k points across
-
-    pub into-code : (z k : ℕ) → z < rows * cols → k < 8 → neighbour rows cols z k < rows * cols → intoAt rows cols dir z k ≡ eqb (getD dir (neighbour rows cols z k) 255) (codeOf (across k))
-    into-code z k i h y = ⊎-elim (λ e. e ∙ sym (eq-eqb (getD dir (nb z k) 255) (codeOf (across k)) (points e))) (λ e. e ∙ sym (ne-eqb (getD dir (nb z k) 255) (codeOf (across k)) (λ q. true≢false (sym (back q) ∙ e)))) (two (into z k))
-      where
-        back : getD dir (nb z k) 255 ≡ codeOf (across k) → into z k ≡ true
-        back q = flows-into z k (code-flows rows cols dir (nb z k) (across k) (across-small k h) q) (code-next rows cols dir (nb z k) (across k) (across-small k h) q ∙ neighbour-back rows cols z k i h y)
-
-        points : into z k ≡ true → getD dir (nb z k) 255 ≡ codeOf (across k)
-        points e =
-            let w = into-flows z k e in
-            let c = flows-code rows cols dir (nb z k) (w .0) in
-            c .1 ∙ ap codeOf (neighbour-only rows cols (nb z k) (sideOf (getD dir (nb z k) 255)) (across k) (c .0) (across-small k h)
-            (omega (arith, sym (to-is (nb z k)) ∙ w .1)) (sym (to-is (nb z k)) ∙ w .1 ∙ sym (neighbour-back rows cols z k i h y)))

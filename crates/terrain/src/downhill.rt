@@ -1,8 +1,8 @@
 // The valid cells in an order from the ridges down, by peeling (topological sorting, Kahn 1962): a cell is taken once every
 // cell that points at it is. No trail is a ring, so every cell's turn comes.
 ghost use mathlib.Core.Path.{_≡_};
-ghost use Prim.Native.Nat.{ℕ, _+_, _*_, _≤_, _<_};
-ghost use lib.ListN.{length, getD};
+ghost use Prim.Native.Nat.{ℕ, _+_, _*_, _<_};
+ghost use lib.ListN.{length};
 ghost use lib.Dec.{eqb};
 ghost use Rattle.laws.specs.Sums.{when};
 ghost use Rattle.terrain.specs.Directed.{Directed};

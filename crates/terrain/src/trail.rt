@@ -3,7 +3,7 @@
 // the cells of trails are noted backwards, since the cell that a cell points at comes later.
 ghost use mathlib.Core.Path.{_≡_};
 ghost use mathlib.Core.Bool.{not};
-ghost use Prim.Native.Nat.{ℕ, _+_, _*_, _≤_, _<_};
+ghost use Prim.Native.Nat.{_+_, _*_, _<_};
 ghost use lib.ListN.{length, getD, set};
 ghost use lib.Dec.{eqb};
 ghost use Rattle.laws.specs.Lists.{tab};
@@ -54,7 +54,7 @@ fn start(rows: usize, columns: usize, direction: &[u8], count: &mut [u32])
 // Hands the count of the cell x on to y, if that is a cell.
 fn hand_on(count: &mut [u32], x: usize, y: usize)
     requires { ⌜ (x < length (now count)) × (y < length (now count) → getD (now count) y 0 + getD (now count) x 0 < 4294967296) ⌝ }
-    ensures { λ _. ⌜ (y < length (now (count .entry)) → now (count .exit) ≡ set (now (count .entry)) y (getD (now (count .entry)) y 0 + getD (now (count .entry)) x 0)) × (length (now (count .entry)) ≤ y → now (count .exit) ≡ now (count .entry)) ⌝ }
+    ensures { λ _. ⌜ now (count .exit) ≡ set (now (count .entry)) y (getD (now (count .entry)) y 0 + getD (now (count .entry)) x 0) ⌝ }
 {
     if count.len() <= y {
         return;

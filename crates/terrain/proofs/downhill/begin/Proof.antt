@@ -1,5 +1,5 @@
 -- `terrain::downhill::begin` meets its contract. Assumes nothing.
-use Rattle.terrain.proofs.Descending.{pointing}
+use Rattle.terrain.proofs.Receivers.{pointing}
 use Rattle.laws.proofs.Peel.{peel-pass, peel-begin}
 use native.Mathlib.Omega.{arith}
 use borrow.Author.Needs.{needs}

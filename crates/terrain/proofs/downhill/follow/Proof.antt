@@ -1,5 +1,5 @@
 -- `terrain::downhill::follow` meets its contract. Assumes nothing.
-use Rattle.terrain.proofs.Descending.{pointing}
+use Rattle.terrain.proofs.Receivers.{pointing}
 use Rattle.laws.proofs.Peel.{hand-room, peel-less, peel-none}
 use Rattle.terrain.specs.Downhill.{Peeled}
 use Prim.Native.Nat.{_+_, _*_, _-_}

@@ -3,7 +3,8 @@ use Prim.Native.Nat.{_-_}
 use lib.ListN.{getD, set, length-set}
 use mathlib.Core.Path.{refl, _∙_}
 use Rattle.laws.proofs.Peel.{hand-room}
-use Rattle.terrain.proofs.Descending.{pointing, taken-last, taken-waits, taken-next}
+use Rattle.terrain.proofs.Receivers.{pointing}
+use Rattle.terrain.proofs.Descending.{marked-long, taken-last, taken-waits, taken-next}
 use native.Mathlib.Omega.{arith}
 use borrow.Author.Needs.{needs}
 use Rattle.terrain.proofs.downhill.take.Statement.{statement}
@@ -34,7 +35,7 @@ same-length-2 : tie.Need-same-length-2
 same-length-2 c = search needs
 
 returns : tie.Need-returns
-returns c = let s = c .before .before .before .before .before in λ b i. taken-last (s .pre .0) i (s .pre .2) (c .before .receiver .ensures) (omega (arith, c .if1 .taken, length-set (s .args .waiting .now) (s .args .x) 4294967295, s .pre .1 .wide))
+returns c = let s = c .before .before .before .before .before in λ b i. taken-last (s .pre .0) i (s .pre .2) (c .before .receiver .ensures) (omega (arith, c .if1 .taken, marked-long (s .pre .0) (s .pre .1) (s .pre .2)))
 
 mul-waiting-2 : tie.Need-mul-waiting-2
 mul-waiting-2 c = search needs
@@ -43,16 +44,16 @@ slice-read-waiting : tie.Need-slice-read-waiting
 slice-read-waiting c = search needs
 
 sub-waiting : tie.Need-sub-waiting
-sub-waiting c = let s = c .before .before .before .before .before .before in taken-waits (s .pre .0) (s .pre .1) (s .pre .2) (c .before .before .receiver .ensures) (omega (arith, c .before .if1 .left, length-set (s .args .waiting .now) (s .args .x) 4294967295, s .pre .1 .wide))
+sub-waiting c = let s = c .before .before .before .before .before .before in taken-waits (s .pre .0) (s .pre .1) (s .pre .2) (c .before .before .receiver .ensures) (omega (arith, c .before .if1 .left, marked-long (s .pre .0) (s .pre .1) (s .pre .2)))
 
 mul-waiting-3 : tie.Need-mul-waiting-3
-mul-waiting-3 c = let s = c .before .before .before .before .before .before in omega (arith, c .before .if1 .left, length-set (s .args .waiting .now) (s .args .x) 4294967295, s .pre .1 .wide, s .pre .0 .sized .small)
+mul-waiting-3 c = let s = c .before .before .before .before .before .before in omega (arith, c .before .if1 .left, marked-long (s .pre .0) (s .pre .1) (s .pre .2), s .pre .0 .sized .small)
 
 slice-write-waiting-2 : tie.Need-slice-write-waiting-2
 slice-write-waiting-2 c = search needs
 
 mul-if2 : tie.Need-mul-if2
-mul-if2 c = let s = c .before .before .before .before .before .before in omega (arith, c .before .if1 .left, length-set (s .args .waiting .now) (s .args .x) 4294967295, s .pre .1 .wide, s .pre .0 .sized .small)
+mul-if2 c = let s = c .before .before .before .before .before .before in omega (arith, c .before .if1 .left, marked-long (s .pre .0) (s .pre .1) (s .pre .2), s .pre .0 .sized .small)
 
 slice-read-if2 : tie.Need-slice-read-if2
 slice-read-if2 c = search needs
@@ -64,7 +65,7 @@ same-length-4 : tie.Need-same-length-4
 same-length-4 c = search needs
 
 returns-2 : tie.Need-returns-2
-returns-2 c = let s = c .before .before .before .before .before .before .before .before in let y = c .before .before .before .before .receiver in let w = set (s .args .waiting .now) (s .args .x) 4294967295 in λ b i. taken-next (s .pre .0) i (s .pre .2) (y .ensures) (omega (arith, c .before .before .before .if1 .left, length-set (s .args .waiting .now) (s .args .x) 4294967295, s .pre .1 .wide)) refl (λ e. absurd (omega (arith, c .if2 .taken))) (λ h. length-set w (y .result) (getD w (y .result) 0 - 1) ∙ length-set (s .args .waiting .now) (s .args .x) 4294967295 ∙ s .pre .1 .wide)
+returns-2 c = let s = c .before .before .before .before .before .before .before .before in let y = c .before .before .before .before .receiver in let w = set (s .args .waiting .now) (s .args .x) 4294967295 in λ b i. taken-next (s .pre .0) i (s .pre .2) (y .ensures) (omega (arith, c .before .before .before .if1 .left, marked-long (s .pre .0) (s .pre .1) (s .pre .2))) refl (λ e. absurd (omega (arith, c .if2 .taken))) (λ h. length-set w (y .result) (getD w (y .result) 0 - 1) ∙ marked-long (s .pre .0) (s .pre .1) (s .pre .2))
 
 same-length-5 : tie.Need-same-length-5
 same-length-5 c = search needs
@@ -73,7 +74,7 @@ same-length-6 : tie.Need-same-length-6
 same-length-6 c = search needs
 
 returns-3 : tie.Need-returns-3
-returns-3 c = let s = c .before .before .before .before .before .before .before .before in let y = c .before .before .before .before .receiver in λ b i. taken-next (s .pre .0) i (s .pre .2) (y .ensures) (omega (arith, c .before .before .before .if1 .left, length-set (s .args .waiting .now) (s .args .x) 4294967295, s .pre .1 .wide)) refl (λ e. refl) (λ h. absurd (omega (arith, c .if2 .left)))
+returns-3 c = let s = c .before .before .before .before .before .before .before .before in let y = c .before .before .before .before .receiver in λ b i. taken-next (s .pre .0) i (s .pre .2) (y .ensures) (omega (arith, c .before .before .before .if1 .left, marked-long (s .pre .0) (s .pre .1) (s .pre .2))) refl (λ e. refl) (λ h. absurd (omega (arith, c .if2 .left)))
 
 pub take-spec : {M : Type 1} → statement M
 take-spec =

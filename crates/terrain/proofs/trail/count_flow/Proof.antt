@@ -1,7 +1,9 @@
 -- `terrain::trail::count_flow` meets its contract. Assumes nothing.
-use Rattle.terrain.proofs.Passing.{Passing, place-cell, pass-start, pass-step, pass-fits, pass-all}
-use Prim.Native.Nat.{_≤_, _-_}
-use mathlib.Core.Path.{refl, sym, _∙_}
+use Rattle.terrain.proofs.Descending.{place-cell}
+use Rattle.terrain.proofs.Passing.{Passing, pass-start, pass-step, pass-fits, pass-all}
+use Prim.Native.Nat.{ℕ, _≤_, _+_, _-_}
+use mathlib.Core.List.{List}
+use mathlib.Core.Path.{refl, sym, subst, _∙_}
 use borrow.Author.Needs.{needs}
 use native.Mathlib.Omega.{arith}
 use Rattle.terrain.proofs.trail.count_flow.Statement.{statement}
@@ -26,13 +28,13 @@ shared-slice-read-x : tie.Need-shared-slice-read-x Inv-loop μ-loop
 shared-slice-read-x c = let s = c .before .before .before .before .before .before .before .before .before .before in omega (arith, s .pre .1 .room)
 
 cast-x : tie.Need-cast-x Inv-loop μ-loop
-cast-x c = let s = c .before .before .before .before .before .before .before .before .before .before in let p = c .before .before .loop in omega (arith, place-cell (s .pre .0) (s .pre .1) {p = p .place} (omega arith) refl, s .pre .0 .sized .small)
+cast-x c = let s = c .before .before .before .before .before .before .before .before .before .before in let p = c .before .before .loop in omega (arith, place-cell (s .pre .0) {p = p .place} (s .pre .1) (omega arith) refl, s .pre .0 .sized .small)
 
 receiver-requires : tie.Need-receiver-requires Inv-loop μ-loop
 receiver-requires c κs = let s = c .before .before .before .before .before .before .before .before .before .before in (s .pre .0, place-cell (s .pre .0) (s .pre .1) (omega arith) refl)
 
 hand-on-requires : tie.Need-hand-on-requires Inv-loop μ-loop
-hand-on-requires c κs = let s = c .before .before .before .before .before .before .before .before .before .before .before .before in let p = c .before .before .before .before .loop in (omega (arith, place-cell (s .pre .0) (s .pre .1) {p = p .place} (omega arith) refl, p .inv .0 .long), (λ h. omega (arith, pass-fits (s .pre .0) (s .pre .1) (p .inv .0) (omega arith) refl (c .before .receiver .ensures) (omega (arith, p .inv .0 .long)), s .pre .0 .sized .small)))
+hand-on-requires c κs = let s = c .before .before .before .before .before .before .before .before .before .before .before .before in let p = c .before .before .before .before .loop in (omega (arith, place-cell (s .pre .0) {p = p .place} (s .pre .1) (omega arith) refl, p .inv .0 .long), (λ h. omega (arith, pass-fits (s .pre .0) (s .pre .1) (p .inv .0) (omega arith) refl (c .before .receiver .ensures) (omega (arith, p .inv .0 .long)), s .pre .0 .sized .small)))
 
 add-place : tie.Need-add-place Inv-loop μ-loop
 add-place c = omega arith
@@ -41,7 +43,11 @@ loop-less : tie.Need-loop-less Inv-loop μ-loop
 loop-less c = omega arith
 
 loop-again : tie.Need-loop-again Inv-loop μ-loop
-loop-again c = let s = c .before .before .before .before .before .before .before .before .before .before .before .before .before .before .before in let p = c .before .before .before .before .before .before .before .loop in (pass-step (s .pre .0) (s .pre .1) (p .inv .0) (omega arith) refl (c .before .before .before .before .receiver .ensures) (c .before .before .hand-on .ensures), omega arith)
+loop-again c =
+    let s = c .before .before .before .before .before .before .before .before .before .before .before .before .before .before .before in
+    let p = c .before .before .before .before .before .before .before .loop in
+    let on = pass-step (s .pre .0) (s .pre .1) (p .inv .0) (omega arith) refl (c .before .before .before .before .receiver .ensures) in
+    (subst (λ (l : List ℕ). Passing (s .args .rows) (s .args .columns) (s .args .direction .now) (s .args .order .now) l (p .place + 1)) (sym (c .before .before .hand-on .ensures)) on, omega arith)
 
 same-length : tie.Need-same-length Inv-loop μ-loop
 same-length c = c .before .loop .inv .0 .long ∙ sym (c .before .before .before .before .before .before .before .before .before .pre .2)

@@ -1,12 +1,15 @@
 -- `terrain::trail::hand_on` meets its contract. Assumes nothing.
-use mathlib.Core.Path.{refl}
+use mathlib.Core.Path.{refl, sym}
+use Prim.Native.Nat.{_+_}
+use lib.ListN.{getD}
+use lib.Seq.{set-out}
 use native.Mathlib.Omega.{arith}
 use borrow.Author.Needs.{needs}
 use Rattle.terrain.proofs.trail.hand_on.Statement.{statement}
 use Rattle.terrain.proofs.trail.hand_on.Tie as tie
 
 returns : tie.Need-returns
-returns c = ((λ h. absurd (omega (arith, c .if1 .taken))), (λ h. refl))
+returns c = let a = c .before .args in sym (set-out (a .count .now) (a .y) (getD (a .count .now) (a .y) 0 + getD (a .count .now) (a .x) 0) (c .if1 .taken))
 
 mul-count : tie.Need-mul-count
 mul-count c = search needs
@@ -33,7 +36,7 @@ same-length : tie.Need-same-length
 same-length c = search needs
 
 returns-2 : tie.Need-returns-2
-returns-2 c = ((λ h. refl), (λ h. absurd (omega (arith, c .before .before .if1 .left))))
+returns-2 c = refl
 
 pub hand-on-spec : {M : Type 1} → statement M
 hand-on-spec =

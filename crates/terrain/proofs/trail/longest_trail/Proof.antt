@@ -1,6 +1,6 @@
 -- `terrain::trail::longest_trail` meets its contract. Assumes nothing.
-use Rattle.terrain.proofs.Passing.{Backing, place-cell, back-start, back-small, back-more, back-all}
-use Rattle.terrain.proofs.Following.{longest-cells}
+use Rattle.terrain.proofs.Descending.{place-cell}
+use Rattle.terrain.proofs.Following.{Backing, back-start, back-small, back-more, back-all}
 use Prim.Native.Nat.{_≤_, _-_}
 use mathlib.Core.Path.{refl, sym, _∙_}
 use borrow.Author.Needs.{needs}
@@ -27,7 +27,7 @@ shared-slice-read-x : tie.Need-shared-slice-read-x Inv-loop μ-loop
 shared-slice-read-x c = let s = c .before .before .before .before .before .before in omega (arith, s .pre .1 .room)
 
 cast-x : tie.Need-cast-x Inv-loop μ-loop
-cast-x c = let s = c .before .before .before .before .before .before in let p = c .before .before .loop in omega (arith, place-cell (s .pre .0) (s .pre .1) {p = p .place - 1} (omega arith) refl, s .pre .0 .sized .small)
+cast-x c = let s = c .before .before .before .before .before .before in let p = c .before .before .loop in omega (arith, place-cell (s .pre .0) {p = p .place - 1} (s .pre .1) (omega arith) refl, s .pre .0 .sized .small)
 
 receiver-requires : tie.Need-receiver-requires Inv-loop μ-loop
 receiver-requires c κs = let s = c .before .before .before .before .before .before in (s .pre .0, place-cell (s .pre .0) (s .pre .1) (omega arith) refl)
@@ -39,10 +39,10 @@ add-cells : tie.Need-add-cells Inv-loop μ-loop
 add-cells c = let s = c .before .before .before .before .before .before .before .before .before in let p = c .before .before .before .before .before .loop in omega (arith, back-small (s .pre .0) (s .pre .1) (p .inv .0) (omega arith) (p .inv .1) refl (c .before .before .receiver .ensures) (c .value-at .ensures), s .pre .0 .sized .small)
 
 mul-workspace : tie.Need-mul-workspace Inv-loop μ-loop
-mul-workspace c = let s = c .before .before .before .before .before .before .before .before .before in let p = c .before .before .before .before .before .loop in omega (arith, place-cell (s .pre .0) (s .pre .1) {p = p .place - 1} (omega arith) refl, s .pre .0 .sized .small)
+mul-workspace c = let s = c .before .before .before .before .before .before .before .before .before in let p = c .before .before .before .before .before .loop in omega (arith, place-cell (s .pre .0) {p = p .place - 1} (s .pre .1) (omega arith) refl, s .pre .0 .sized .small)
 
 slice-write-workspace : tie.Need-slice-write-workspace Inv-loop μ-loop
-slice-write-workspace c = let s = c .before .before .before .before .before .before .before .before .before in let p = c .before .before .before .before .before .loop in omega (arith, place-cell (s .pre .0) (s .pre .1) {p = p .place - 1} (omega arith) refl, p .inv .0 .long)
+slice-write-workspace c = let s = c .before .before .before .before .before .before .before .before .before in let p = c .before .before .before .before .before .loop in omega (arith, place-cell (s .pre .0) {p = p .place - 1} (s .pre .1) (omega arith) refl, p .inv .0 .long)
 
 larger-requires : tie.Need-larger-requires Inv-loop μ-loop
 larger-requires c κs = search needs
@@ -57,13 +57,13 @@ same-length : tie.Need-same-length Inv-loop μ-loop
 same-length c = c .before .before .loop .inv .0 .long ∙ sym (c .before .before .before .before .before .before .pre .2)
 
 returns : tie.Need-returns Inv-loop μ-loop
-returns c = let s = c .before .before .before .before .before .before in omega (arith, longest-cells (s .args .rows) (s .args .columns) (s .args .direction .now), back-all (s .pre .0) (s .pre .1) (omega arith) (c .before .before .loop .inv .0))
+returns c = let s = c .before .before .before .before .before .before in omega (arith, back-all (s .pre .0) (s .pre .1) (omega arith) (c .before .before .loop .inv .0))
 
 same-length-2 : tie.Need-same-length-2 Inv-loop μ-loop
 same-length-2 c = c .before .before .loop .inv .0 .long ∙ sym (c .before .before .before .before .before .before .pre .2)
 
 returns-2 : tie.Need-returns-2 Inv-loop μ-loop
-returns-2 c = let s = c .before .before .before .before .before .before in omega (arith, longest-cells (s .args .rows) (s .args .columns) (s .args .direction .now), back-all (s .pre .0) (s .pre .1) (omega arith) (c .before .before .loop .inv .0))
+returns-2 c = let s = c .before .before .before .before .before .before in omega (arith, back-all (s .pre .0) (s .pre .1) (omega arith) (c .before .before .loop .inv .0))
 
 pub longest-trail-spec : {M : Type 1} → statement M
 longest-trail-spec =

@@ -1,5 +1,5 @@
 -- `terrain::trail::start` meets its contract. Assumes nothing.
-use Rattle.terrain.proofs.Counting.{mapped-read}
+use Rattle.terrain.proofs.Receivers.{mapped-read}
 use Rattle.terrain.specs.Trail.{mappedAt}
 use Rattle.laws.proofs.Lists.{agrees-more, agrees-tab}
 use Rattle.laws.specs.Sums.{when}
