@@ -17,7 +17,9 @@ use Rattle.terrain.specs.Trail.{countsOf}
 use Rattle.terrain.specs.Drainage.{Drainage}
 use Rattle.terrain.specs.Answers.{Grids, placesOf, tests, judged, validOf, directionOf, Mapped, After, answerOf, answer, accepts}
 use Rattle.terrain.specs.Relief.{Room}
+use Rattle.text.specs.declared.Refusal.{Refusal}
 use Rattle.terrain.specs.declared.Answer.{Answer}
+use Rattle.terrain.specs.declared.Answer.the-variants.{Refused}
 use Rattle.terrain.proofs.Neighbours.{accepted-fine}
 use Rattle.terrain.proofs.Drainage.{drainage}
 
@@ -108,6 +110,11 @@ module _ (rows cols : ℕ) (ground : List ℤ) (g : Grids) where
   Promised a h =
       (a ≡ answer rows cols ground g)
       × (After rows cols ground g h (judged rows cols ground g) × (accepts a ≡ true → Drainage rows cols ground (h .filled) (h .direction) (h .count) (validOf rows cols ground)))
+
+  -- a refusal as the code makes it
+  pub refused-is : (f : Refusal) → Refused f ≡ answerOf rows cols ground (failed (f .number) (f .place))
+  unfolding answerOf
+  refused-is f = refl
 
   pub refuses : {a : Answer} {n p : ℕ} → failed n p ≡ judged rows cols ground g → a ≡ answerOf rows cols ground (failed n p) → Promised a g
   unfolding answer answerOf

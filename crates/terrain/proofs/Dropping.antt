@@ -84,11 +84,11 @@ module _ (rows cols : ℕ) (lv : List ℕ) where
         let c : getD dir x 255 ≡ codeOf k = direction-by e refl in
         let d = getD lv x 0 - getD lv (nb x k) 0 in
         sym (
-          fall-valid x (λ q. omega (arith, c, code-small k))
-          ∙ ap (λ (m : ℕ). fallOf (sideOf (getD dir x 255)) m) (drop-over x k (s .0) c)
-          ∙ ap (λ (j : ℕ). fallOf j d) (ap sideOf c ∙ side-code k (s .0))
-          ∙ fall-some k d (omega arith)
-          ∙ ap (λ (m : ℕ). 2 * m + k % 2) (sym (dropped (l .0) (l .1)))
+        fall-valid x (λ q. omega (arith, c, code-small k))
+        ∙ ap (λ (m : ℕ). fallOf (sideOf (getD dir x 255)) m) (drop-over x k (s .0) c)
+        ∙ ap (λ (j : ℕ). fallOf j d) (ap sideOf c ∙ side-code k (s .0))
+        ∙ fall-some k d (omega arith)
+        ∙ ap (λ (m : ℕ). 2 * m + k % 2) (sym (dropped (l .0) (l .1)))
         )
       where
         dropped : {a b : ℕ} → 0 < a → a < b → dropOf b a ≡ b - a

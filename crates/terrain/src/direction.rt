@@ -173,13 +173,7 @@ fn point_run(
 }
 
 // Writes the code of every cell, but for flats, and its fall.
-fn point_down(
-    rows: usize,
-    columns: usize,
-    level: &[u32],
-    direction: &mut [u8],
-    falls: &mut [u32],
-)
+fn point_down(rows: usize, columns: usize, level: &[u32], direction: &mut [u8], falls: &mut [u32])
     requires { ⌜ Levels rows columns (now level) × (length (now direction) ≡ rows * columns) × (length (now falls) ≡ rows * columns) ⌝ }
     ensures { λ r. ⌜ Down rows columns (now (level .entry)) (now (direction .exit)) (now (falls .exit)) (rows * columns) ⌝ }
 {

@@ -153,13 +153,27 @@ pub fn map(
     ensures drains { λ r. ⌜ (accepts r ≡ true → Drainage rows columns (now (ground .entry)) (now (filled .exit)) (now (direction .exit)) (now (count .exit)) (validOf rows columns (now (ground .entry)))) ⌝ }
 {
     let judgement = judge(
-        rows, columns, ground, filled, direction, count, falls, workspace,
+        rows,
+        columns,
+        ground,
+        filled,
+        direction,
+        count,
+        falls,
+        workspace,
     );
     if let Judgement::Unsound(refusal) = judgement {
         return Answer::Refused(refusal);
     }
     shape(
-        rows, columns, ground, filled, direction, count, falls, workspace,
+        rows,
+        columns,
+        ground,
+        filled,
+        direction,
+        count,
+        falls,
+        workspace,
     );
     route(rows, columns, direction, count, workspace)
 }

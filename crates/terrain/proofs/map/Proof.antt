@@ -3,7 +3,7 @@ use mathlib.Core.Path.{_≡_, refl, sym, ap, _∙_}
 use borrow.Author.Needs.{needs}
 use Rattle.laws.specs.Tests.{passed}
 use Rattle.terrain.specs.Answers.{Grids, lent, found, judged}
-use Rattle.terrain.proofs.Answers.{passed-ready, passed-room, refuses, accepts-all}
+use Rattle.terrain.proofs.Answers.{passed-ready, passed-room, refused-is, refuses, accepts-all}
 use Rattle.terrain.proofs.Surveying.{relief-directed, routed-answer, routed-mapped}
 use Rattle.terrain.proofs.map.Statement.{statement}
 use Rattle.terrain.proofs.map.Tie as tie
@@ -12,12 +12,22 @@ use Rattle.terrain.proofs.map.Tie as tie
 abbrev start : tie.After-judge → tie.Start
 start c = let a = c .before .before .before .before .before in a .before .before .before .before .before
 
+abbrev shaped : tie.After-slice-known8 → tie.After-shape
+shaped c = let a = c .before .before .before .before in a .before .before .before .before .before
+
+abbrev told-at : tie.After-shape → tie.After-enum-told
+told-at c = c .before .before .before .before .before .before
+
 abbrev found-at : tie.After-shape → tie.After-judge
-found-at c = let a = c .before .before .before .before in a .before .before .before .before
+found-at c = told-at c .before .before
 
 -- the lent grids
 abbrev grids : tie.Start → Grids
 grids s = lent (s .args .filled .now) (s .args .direction .now) (s .args .count .now) (s .args .falls .now) (s .args .workspace .now)
+
+-- the tests are passed
+passing : (c : tie.After-enum-told) → let s = start (c .before .before) in judged (s .args .rows) (s .args .columns) (s .args .ground .now) (grids s) ≡ passed
+passing c = sym (sym (ap found (c .enum-told .given .1)) ∙ c .before .before .judge .ensures)
 
 judge-requires : tie.Need-judge-requires
 judge-requires c κs = search needs
@@ -41,16 +51,32 @@ same-length-5 : tie.Need-same-length-5
 same-length-5 c = search needs
 
 returns : tie.Need-returns
-returns c = ?
+returns c =
+    let j = c .before .before .before in
+    let s = start j in
+    let given = c .before .judgement .given in
+    refuses (s .args .rows) (s .args .columns) (s .args .ground .now) (grids s) (sym (ap found (given .1)) ∙ j .judge .ensures) (refused-is (s .args .rows) (s .args .columns) (s .args .ground .now) (grids s) (given .0 .0))
 
 enum-told : tie.Need-enum-told
 enum-told c = search needs
 
 shape-requires : tie.Need-shape-requires
-shape-requires c κs = ?
+shape-requires c κs =
+    let t = c .before .before .before .before .before in
+    let e = passing t in
+    let s = start (t .before .before) in
+    (passed-ready (s .args .rows) (s .args .columns) (s .args .ground .now) (grids s) e, passed-room (s .args .rows) (s .args .columns) (s .args .ground .now) (grids s) e)
 
 route-requires : tie.Need-route-requires
-route-requires c κs = ?
+route-requires c κs =
+    let h = shaped (c .before .before .before) in
+    let s = start (found-at h) in
+    let e = passing (told-at h) in
+    let r = passed-room (s .args .rows) (s .args .columns) (s .args .ground .now) (grids s) e in (
+      relief-directed (passed-ready (s .args .rows) (s .args .columns) (s .args .ground .now) (grids s) e) (h .shape .ensures),
+      h .shape .kept .1 .1 .1 .1 .1 .0 ∙ r .count-long,
+      h .shape .kept .1 .1 .1 .1 .1 .1 .1 .0 ∙ r .workspace-long,
+    )
 
 same-length-6 : tie.Need-same-length-6
 same-length-6 c = search needs
@@ -68,7 +94,13 @@ same-length-10 : tie.Need-same-length-10
 same-length-10 c = search needs
 
 returns-2 : tie.Need-returns-2
-returns-2 c = ?
+returns-2 c =
+    let t = c .before .before .before .before in
+    let h = shaped (t .before .before .before .before) in
+    let s = start (found-at h) in
+    let e = passing (told-at h) in
+    let ready = passed-ready (s .args .rows) (s .args .columns) (s .args .ground .now) (grids s) e in
+    accepts-all (s .args .rows) (s .args .columns) (s .args .ground .now) (grids s) (sym e) (routed-answer ready (h .shape .ensures) (t .route .ensures)) (routed-mapped ready (h .shape .ensures) (t .route .ensures))
 
 pub map-spec : {M : Type 1} → statement M
 map-spec =

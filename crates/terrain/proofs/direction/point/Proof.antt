@@ -29,8 +29,7 @@ returns : tie.Need-returns
 returns c =
     let f = c .before .before .before .before in
     let d = f .before .before .before .before in
-    let s = start d in
-    (
+    let s = start d in (
       c .before .before .point-flats .ensures,
       down-falls (d .point-down .kept .1 .1 .1 .1 .0 ∙ s .pre .3) (d .point-down .ensures) ∙ falls-written (s .args .rows) (s .args .columns) (s .args .level .now),
     )

@@ -43,8 +43,7 @@ write-cell-requires c κs =
     let e = r .before .before .before in
     let l = e .before .before in
     let s = start l in
-    let n = s .pre .0 .long in
-    (
+    let n = s .pre .0 .long in (
       omega (arith, n, e .run-end .ensures .within),
       r .point-run .kept .1 .1 .0 ∙ l .loop .inv .0 ∙ s .pre .1 ∙ sym n,
       r .point-run .kept .1 .1 .1 .0 ∙ l .loop .inv .1 ∙ s .pre .2 ∙ sym n,
@@ -65,8 +64,7 @@ loop-again c =
     let s = start l in
     let within = e .run-end .ensures .within in
     let long = r .point-run .kept .1 .1 .0 ∙ l .loop .inv .0 in
-    let falls-long = r .point-run .kept .1 .1 .1 .0 ∙ l .loop .inv .1 in
-    (
+    let falls-long = r .point-run .kept .1 .1 .1 .0 ∙ l .loop .inv .1 in (
       c .before .before .before .direction2 .given ∙ long,
       c .before .falls2 .given ∙ falls-long,
       omega (arith, within),

@@ -41,8 +41,7 @@ loop-again : tie.Need-loop-again Inv-loop μ-loop
 loop-again c =
     let w = c .before .before .before .before in
     let p = w .before .before .before .before .before .loop in
-    let t = w .before .before .before .before .before .before .before .before .before .pre in
-    (
+    let t = w .before .before .before .before .before .before .before .before .before .pre in (
       c .before .before .before .direction .given ∙ p .inv .0,
       c .before .falls .given ∙ p .inv .1,
       omega arith,
