@@ -3,6 +3,3 @@ pub mod Tables
 pub mod Power
 pub mod Sines
 pub mod Factors
-pub mod Grids
-pub mod Maps
-pub mod Answers

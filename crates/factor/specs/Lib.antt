@@ -11,3 +11,4 @@ pub mod Cell
 pub mod Grid
 pub mod Answers
 pub mod Inner
+pub mod Pass

@@ -1,4 +1,4 @@
--- `factor::steepness::sine_of` meets its contract: the sine is among the `left` numbers from `u` on. Assumes nothing.
+-- `factor::sine::sine_of` meets its contract: the sine is among the `left` numbers from `u` on. Assumes nothing.
 use mathlib.Core.Path.{sym, _∙_}
 use Prim.Native.Nat.{_+_, _*_, _/_, _≤_}
 use native.Mathlib.Nat.{mul-le-mul}
@@ -6,8 +6,8 @@ use native.Mathlib.Omega.{arith}
 use Rattle.factor.specs.Steepness.{sineReaches}
 use Rattle.factor.proofs.Greatest.{Among, among-all, among-half, among-one}
 use Rattle.factor.proofs.Sines.{sine-falling, sine-wide}
-use Rattle.factor.proofs.steepness.sine_of.Statement.{statement}
-use Rattle.factor.proofs.steepness.sine_of.Tie as tie
+use Rattle.factor.proofs.sine.sine_of.Statement.{statement}
+use Rattle.factor.proofs.sine.sine_of.Tie as tie
 
 abbrev Inv-loop : tie.InvT-loop
 Inv-loop side q w top u₀ left₀ u left = Among (sineReaches side q) 1023 u left

@@ -1,12 +1,12 @@
--- `factor::steepness::steepness_factor` meets its contract: a sine is at most 1,000, so the sum fits. Assumes nothing.
+-- `factor::sine::steepness_factor` meets its contract: a sine is at most 1,000, so the sum fits. Assumes nothing.
 use borrow.Author.Needs.{needs}
 use Prim.Native.Nat.{_≤_}
 use native.Mathlib.Nat.{mul-le-mul}
 use native.Mathlib.Omega.{arith}
 use Rattle.factor.specs.Steepness.{steepnessFactor}
 use Rattle.factor.proofs.Sines.{sine-within}
-use Rattle.factor.proofs.steepness.steepness_factor.Statement.{statement}
-use Rattle.factor.proofs.steepness.steepness_factor.Tie as tie
+use Rattle.factor.proofs.sine.steepness_factor.Statement.{statement}
+use Rattle.factor.proofs.sine.steepness_factor.Tie as tie
 
 sine-of-requires : tie.Need-sine-of-requires
 sine-of-requires c κs = search needs
