@@ -58,7 +58,7 @@ module _ {rows cols : ℕ} {dir : List ℕ} (d : Directed rows cols dir) where
       let v = pointing d .from x (omega arith) in
       sym (counted x (pointing d .within x v) ∙ when-yes (countAt rows cols dir x) v))
 
-  pub counts-handed : Handed _+_ sumTo (rows * cols) (mappedAt rows cols dir) (receiverOf rows cols dir) (λ x m. m) (λ z. when (mappedAt rows cols dir z) 1) (λ z. getD (countsOf rows cols dir) z 0)
+  counts-handed : Handed _+_ sumTo (rows * cols) (mappedAt rows cols dir) (receiverOf rows cols dir) (λ x m. m) (λ z. when (mappedAt rows cols dir z) 1) (λ z. getD (countsOf rows cols dir) z 0)
   counts-handed = record { joins = sum-joining; points = pointing d; local = (λ z h. ⊎-elim (here z h) (none z h) (two (valid z))) }
     where
       here : (z : ℕ) → z < n → valid z ≡ true → getD F z 0 ≡ when (valid z) 1 + sumTo n (λ x. when (eqb (recv x) z) (getD F x 0))

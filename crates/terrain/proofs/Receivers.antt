@@ -50,7 +50,7 @@ module _ {rows cols : ℕ} {dir : List ℕ} (d : Directed rows cols dir) where
   pub falling : Falling (rows * cols) (receiverOf rows cols dir) (stepsIn rows cols dir (rows * cols))
   falling = record { less = nearer }
 
-  pub receiver-in : (x : ℕ) → flowsAt rows cols dir x ≡ true → receiverOf rows cols dir x < rows * cols
+  receiver-in : (x : ℕ) → flowsAt rows cols dir x ≡ true → receiverOf rows cols dir x < rows * cols
   receiver-in x q = omega (arith, receiver-flows rows cols dir x q, mapped-in rows cols dir (d .long) (nextAt rows cols dir x) (d .stays x q))
 
   -- ---- as the code reads it

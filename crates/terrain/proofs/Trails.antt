@@ -92,7 +92,7 @@ module _ (rows cols : ℕ) (dir : List ℕ) where
 
   -- ---- the steps of a trail
 
-  pub steps-none : (x : ℕ) → stepsIn rows cols dir 0 x ≡ 0
+  steps-none : (x : ℕ) → stepsIn rows cols dir 0 x ≡ 0
   unfolding stepsIn
   steps-none x = refl
 
@@ -101,7 +101,7 @@ module _ (rows cols : ℕ) (dir : List ℕ) where
   steps-end zero x q = refl
   steps-end (suc m) x q = ap (λ (b : Bool). cond b (stepsIn rows cols dir m (next x) + 1) 0) q
 
-  pub steps-next : (m x : ℕ) → flowsAt rows cols dir x ≡ true → stepsIn rows cols dir (suc m) x ≡ stepsIn rows cols dir m (nextAt rows cols dir x) + 1
+  steps-next : (m x : ℕ) → flowsAt rows cols dir x ≡ true → stepsIn rows cols dir (suc m) x ≡ stepsIn rows cols dir m (nextAt rows cols dir x) + 1
   unfolding stepsIn
   steps-next m x q = ap (λ (b : Bool). cond b (stepsIn rows cols dir m (next x) + 1) 0) q
 
