@@ -3,3 +3,7 @@ pub mod Tables
 pub mod Power
 pub mod Sines
 pub mod Factors
+pub mod Slopes
+pub mod Lengths
+pub mod Turns
+pub mod Walking

@@ -37,6 +37,8 @@ pub record Turning (terms : Terms) (dir count lengths factors : List ℕ) (x : �
   pub count-in : x < length count
   pub lengths-in : x < length lengths
   pub factors-in : x < length factors
+  pub lengths-few : length lengths ≤ 1048576
+  pub factors-few : length factors ≤ 1048576
   pub fall-small : getD factors x 0 ≤ greatestFall
   pub gathered-small : getD lengths x 0 ≤ greatestLength
   pub beside-room : sideAt dir x < 8 → Beside (terms .columns) x (sideAt dir x)

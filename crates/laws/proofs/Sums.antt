@@ -1,11 +1,13 @@
 -- Laws of sums and of the greatest value over the numbers below n. Assumes nothing.
 use mathlib.Core.Path.{_≡_, refl, sym, ap}
 use mathlib.Core.Bool.{Bool, true, false, cond}
-use Prim.Native.Nat.{ℕ, zero, suc, _+_, _≤_, _<_, max}
+use Prim.Native.Nat.{ℕ, zero, suc, _+_, _-_, _≤_, _<_, max}
 use native.Mathlib.Omega.{arith}
 use native.Mathlib.Numerals.{add-one}
 use native.Mathlib.Decide.{decLe, ℕ-discrete}
+use mathlib.Core.Logic.{⊎-elim}
 use Rattle.laws.specs.Sums.{sumTo, greatestTo, when}
+use Rattle.laws.proofs.Tests.{two}
 
 -- ---- sums
 
@@ -158,3 +160,9 @@ pub sum-when : (n : ℕ) (b : Bool) (f : ℕ → ℕ) → when b (sumTo n f) ≡
 unfolding when
 sum-when n true f = refl
 sum-when n false f = sym (sum-zero n (λ i. 0) (λ i l. refl))
+
+-- the greatest of what is one more is one more, where there is any
+pub greatest-less : (n : ℕ) (b : ℕ → Bool) (f : ℕ → ℕ) → greatestTo n (λ x. when (b x) (f x + 1)) - 1 ≡ greatestTo n (λ x. when (b x) (f x))
+unfolding greatestTo
+greatest-less zero b f = refl
+greatest-less (suc n) b f = ⊎-elim (λ e. omega (arith, greatest-less n b f, when-yes (f n + 1) e, when-yes (f n) e)) (λ e. omega (arith, greatest-less n b f, when-no (f n + 1) e, when-no (f n) e)) (two (b n))

@@ -3,14 +3,14 @@ use mathlib.Core.Path.{_≡_, refl, sym, ap, _∙_}
 use mathlib.Core.List.{List}
 use mathlib.Core.Logic.{⊎-elim}
 use mathlib.Core.Bool.{Bool, true, false}
-use Prim.Native.Nat.{ℕ, zero, suc, _+_, _-_, _*_, _≤_, _<_, max}
+use Prim.Native.Nat.{ℕ, _+_, _-_, _*_, _≤_, _<_, max}
 use native.Mathlib.Omega.{arith}
 use native.Mathlib.Decide.{decLt, ℕ-discrete}
 use lib.ListN.{length, getD, set, length-set, List·getD-eq-default}
 use lib.Seq.{getD-set-same, getD-set-other}
 use Rattle.laws.specs.Sums.{greatestTo, when}
 use Rattle.laws.proofs.Tests.{two}
-use Rattle.laws.proofs.Sums.{greatest-ge, greatest-le, when-yes, when-no}
+use Rattle.laws.proofs.Sums.{greatest-ge, greatest-le, greatest-less, when-yes, when-no}
 use Rattle.laws.proofs.Orders.{order-cell, order-every, order-before}
 use Rattle.terrain.specs.Trail.{mappedAt, flowsAt, nextAt, stepsIn, longestOf}
 use Rattle.terrain.specs.Directed.{Directed, receiverOf, cellsOf}
@@ -20,15 +20,10 @@ use Rattle.terrain.proofs.Receivers.{directed-falls, pointing}
 
 -- ---- the longest
 
-most-less : (n : ℕ) (b : ℕ → Bool) (f : ℕ → ℕ) → greatestTo n (λ x. when (b x) (f x + 1)) - 1 ≡ greatestTo n (λ x. when (b x) (f x))
-unfolding greatestTo
-most-less zero b f = refl
-most-less (suc n) b f = ⊎-elim (λ e. omega (arith, most-less n b f, when-yes (f n + 1) e, when-yes (f n) e)) (λ e. omega (arith, most-less n b f, when-no (f n + 1) e, when-no (f n) e)) (two (b n))
-
 -- the steps of the longest trail are one less than its cells; an empty map has 0
 longest-cells : (rows cols : ℕ) (dir : List ℕ) → greatestTo (rows * cols) (cellsOf rows cols dir) - 1 ≡ longestOf rows cols dir
 unfolding cellsOf longestOf
-longest-cells rows cols dir = most-less (rows * cols) (mappedAt rows cols dir) (stepsIn rows cols dir (rows * cols))
+longest-cells rows cols dir = greatest-less (rows * cols) (mappedAt rows cols dir) (stepsIn rows cols dir (rows * cols))
 
 -- the cells of the trails from the places on, from p, and the most of them
 pub record Backing (rows cols : ℕ) (dir order : List ℕ) (m : ℕ) (known : List ℕ) (p most : ℕ) : Type 0 where

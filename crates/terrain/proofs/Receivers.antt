@@ -83,5 +83,8 @@ module _ {rows cols : ℕ} {dir : List ℕ} (d : Directed rows cols dir) where
         let c = flows-code rows cols dir x bit-flows in
         ap (neighbour rows cols x) (bit-of x h bit-flows) ∙ sym (code-next rows cols dir x (sideOf (getD dir x 255)) (c .0) (c .1)) ∙ sym (receiver-flows rows cols dir x bit-flows)
 
+    pub receiver-side : trailingZeros 8 (getD dir x 0) ≡ sideOf (getD dir x 255)
+    receiver-side = bit-of x h bit-flows
+
     pub receiver-near : neighbour rows cols x (trailingZeros 8 (getD dir x 0)) < rows * cols
     receiver-near = omega (arith, receiver-beside, receiver-in x bit-flows)
