@@ -73,7 +73,7 @@ factor-of-requires c κs =
     let t = c .before .before in
     let s = start t in
     record {
-      sloping = record { side-some = s .pre .0 .side-some; side-small = s .pre .0 .side-small; steepness-small = omega (arith, c .steepness-of .ensures, steepness-small (getD (s .args .factors .now) (s .args .x) 0) (s .pre .0 .fall-small)) };
+      sloping = record { side-some = s .pre .0 .side-some; side-small = s .pre .0 .side-small; steepness-small = omega (arith, c .steepness-of .ensures, steepness-small {fall = getD (s .args .factors .now) (s .args .x) 0} (s .pre .0 .fall-small)) };
       length-small = omega (arith, length-small t);
       listed = s .pre .1;
     }
@@ -126,8 +126,8 @@ brought-requires c κs =
     let s = start t in
     let other = getD-set-other (s .args .factors .now) (s .args .x) (b .beside .result) (f .factor-of .result) 0 (next-other b) in
     (
-      omega (arith, f .before .steepness-of .ensures, steepness-small (getD (s .args .factors .now) (s .args .x) 0) (s .pre .0 .fall-small)),
-      omega (arith, c .steepness-of2 .ensures, steepness-small (getD (set (s .args .factors .now) (s .args .x) (f .factor-of .result)) (b .beside .result) 0) (omega (arith, other, next-small b))),
+      omega (arith, f .before .steepness-of .ensures, steepness-small {fall = getD (s .args .factors .now) (s .args .x) 0} (s .pre .0 .fall-small)),
+      omega (arith, c .steepness-of2 .ensures, steepness-small {fall = getD (set (s .args .factors .now) (s .args .x) (f .factor-of .result)) (b .beside .result) 0} (omega (arith, other, next-small b))),
       length-small t,
     )
 
