@@ -3,3 +3,5 @@ pub mod Tables
 pub mod Power
 pub mod Sines
 pub mod Factors
+pub mod Channels
+pub mod Slopes
