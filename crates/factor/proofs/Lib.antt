@@ -5,3 +5,4 @@ pub mod Sines
 pub mod Factors
 pub mod Channels
 pub mod Slopes
+pub mod Judging
