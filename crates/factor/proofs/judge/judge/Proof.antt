@@ -1,6 +1,6 @@
 -- `factor::judge::judge` meets its contract. Assumes nothing.
 use mathlib.Core.Path.{_≡_, sym, _∙_}
-use mathlib.Core.Bool.{true}
+use mathlib.Core.Bool.{true, false}
 use Prim.Native.Nat.{_*_}
 use native.Mathlib.Omega.{arith}
 use borrow.Author.Tests.{not-true, not-false}
@@ -20,7 +20,7 @@ start c = c .before .before .before .before .before .before
 abbrev grids : tie.Start → Grids
 grids s = lent (s .args .filled .now) (s .args .direction .now) (s .args .count .now) (s .args .lengths .now) (s .args .factors .now) (s .args .workspace .now)
 
--- what each test that was passed tells
+-- what the tests tell
 rows-are : (c : tie.Else1) → sizeAccepted (start (c .before) .args .rows) ≡ true
 rows-are c = sym (c .before .is-size .ensures) ∙ not-false (c .before .is-size .result) (c .if1 .left)
 
@@ -29,6 +29,9 @@ columns-are c = sym (c .before .is-size2 .ensures) ∙ not-false (c .before .is-
 
 long-are : (c : tie.Else3) → let s = start (c .before .before .before .before .before) in allLong (s .args .rows * s .args .columns) (placesOf (s .args .ground .now) (grids s)) ≡ true
 long-are c = sym (c .before .are-long .ensures) ∙ not-false (c .before .are-long .result) (c .if3 .left)
+
+not-long : (c : tie.Then3) → let s = start (c .before .before .before .before .before) in allLong (s .args .rows * s .args .columns) (placesOf (s .args .ground .now) (grids s)) ≡ false
+not-long c = sym (c .before .are-long .ensures) ∙ not-true (c .before .are-long .result) (c .if3 .taken)
 
 side-accepted : (c : tie.Else4) → sideAccepted (start (c .before .before .before .before .before .before .before) .args .side) ≡ true
 side-accepted c = sym (c .before .is-side .ensures) ∙ not-false (c .before .is-side .result) (c .if4 .left)
@@ -68,7 +71,7 @@ returns-3 : tie.Need-returns-3
 returns-3 c =
     let w = c .before .before .before in
     let s = start (w .before .before .before) in
-    judges-long (s .args .rows) (s .args .columns) (s .args .side) (s .args .settings) (s .args .ground .now) (grids s) (rows-are (w .before .before)) (columns-are w) (c .unsound3 .ensures) (sym (c .before .before .are-long .ensures) ∙ not-true (c .before .before .are-long .result) (c .before .if3 .taken))
+    judges-long (s .args .rows) (s .args .columns) (s .args .side) (s .args .settings) (s .args .ground .now) (grids s) (rows-are (w .before .before)) (columns-are w) (c .unsound3 .ensures) (not-long (c .before))
 
 is-side-requires : tie.Need-is-side-requires
 is-side-requires c κs = search needs
