@@ -3,7 +3,9 @@ pub mod Tables
 pub mod Power
 pub mod Sines
 pub mod Factors
+pub mod Channels
 pub mod Slopes
 pub mod Lengths
 pub mod Turns
 pub mod Walking
+pub mod Judging

@@ -11,6 +11,7 @@ use Rattle.text.specs.Ranges.{sizeTest, lengthTest, sideTest}
 use Rattle.settings.specs.declared.Settings.{Settings}
 use Rattle.settings.specs.declared.Rules.{Rules}
 use Rattle.settings.specs.Settings.{rulesOf, settingsTest}
+use Rattle.terrain.specs.Answers.{Grids as TerrainGrids, lent as lentTerrain}
 use Rattle.factor.specs.Inflow.{cutoffFor, startLength, stepOver, amountOf}
 use Rattle.factor.specs.LengthFactor.{longest, reached}
 use Rattle.factor.specs.Answers.{Grids, placesOf}
@@ -103,3 +104,7 @@ firstTests rows cols side settings ground g = sizeTest rows cols ∷ lengthTest 
 pub record Judges (rows cols side : ℕ) (settings : Settings) (ground : List ℤ) (g : Grids) (r : Judgement) : Type 0 where
   pub verdict-is : found r ≡ verdict (firstTests rows cols side settings ground g)
   pub rules-are : (rules : Rules) → r ≡ Sound rules → rules ≡ rulesOf settings
+
+-- the grids that are lent on to the terrain layer: the grid of LS for its falls, and all but that of the lengths
+abbrev pub lentOn : Grids → TerrainGrids
+lentOn g = lentTerrain (g .filled) (g .direction) (g .count) (g .factors) (g .workspace)
