@@ -9,3 +9,4 @@ pub mod Lengths
 pub mod Turns
 pub mod Walking
 pub mod Judging
+pub mod Answers

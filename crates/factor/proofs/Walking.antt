@@ -28,10 +28,10 @@ use Rattle.terrain.specs.Inside.{besideOf}
 use Rattle.terrain.specs.Falls.{noFall, fallOf, dropAt, fallAt, fallsOf}
 use Rattle.terrain.specs.Directed.{Directed, receiverOf}
 use Rattle.terrain.specs.Downhill.{Downhill}
-use Rattle.terrain.proofs.Interior.{beside-is, beside-room}
-use Rattle.terrain.proofs.Trails.{mapped-is}
-use Rattle.terrain.proofs.Receivers.{pointing, code-read, receiver-leaves, receiver-beside, receiver-side, receiver-near}
-use Rattle.terrain.proofs.Inflows.{inflow-greatest}
+use Rattle.terrain.proofs.Public.{beside-is, beside-room}
+use Rattle.terrain.proofs.Public.{mapped-is}
+use Rattle.terrain.proofs.Public.{pointing, code-read, receiver-leaves, receiver-beside, receiver-side, receiver-near}
+use Rattle.terrain.proofs.Public.{inflow-greatest}
 use Rattle.factor.specs.Quantities.{noDataFactor}
 use Rattle.factor.specs.Slope.{steepnessAt}
 use Rattle.factor.specs.Channel.{channelAt}

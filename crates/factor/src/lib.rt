@@ -66,20 +66,45 @@ pub fn map(
     ensures surface { λ r. ⌜ (accepts r ≡ true → Surface rows columns (now (ground .entry)) (now (filled .exit))) ⌝ }
 {
     let judgement = judge::judge(
-        rows, columns, side, settings, ground, filled, direction, count, lengths, factors, workspace,
+        rows,
+        columns,
+        side,
+        settings,
+        ground,
+        filled,
+        direction,
+        count,
+        lengths,
+        factors,
+        workspace,
     );
     let rules = match judgement {
         Judgement::Sound(rules) => rules,
         Judgement::Unsound(refusal) => return Answer::Refused(refusal),
     };
     let drained = terrain::map(
-        rows, columns, ground, filled, direction, count, factors, workspace,
+        rows,
+        columns,
+        ground,
+        filled,
+        direction,
+        count,
+        factors,
+        workspace,
     );
     match drained {
         terrain::Answer::Refused(refusal) => Answer::Refused(refusal),
         terrain::Answer::Accepted { valid, longest } => {
             pass::measure(
-                columns, side, rules, direction, count, workspace, valid as usize, lengths, factors,
+                columns,
+                side,
+                rules,
+                direction,
+                count,
+                workspace,
+                valid as usize,
+                lengths,
+                factors,
             );
             clear(workspace);
             Answer::Accepted {

@@ -172,7 +172,7 @@ module _ (rows cols : ℕ) (ground : List ℤ) (ready : Ready rows cols ground) 
   leaving x h = ⊎-elim mapped none (two (mappedAt rows cols dir x))
     where
       at : getD (countsOf rows cols dir) x 0 ≡ when (mappedAt rows cols dir x) (countAt rows cols dir x)
-      at = counts-at rows cols dir rank (rank-falls rows cols dir potential falls) rank-le x h
+      at = counts-at rows cols dir x h
 
       zero-is : mappedAt rows cols dir x ≡ true → eqb (getD dir x 255) 0 ≡ not (flowsAt rows cols dir x)
       zero-is v =

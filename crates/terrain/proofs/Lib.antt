@@ -1,20 +1,21 @@
-pub mod Neighbours
-pub mod Filling
-pub mod Surfaces
-pub mod Flats
-pub mod Directions
-pub mod Trails
-pub mod Receivers
-pub mod Inflows
-pub mod Descending
-pub mod Passing
-pub mod Following
-pub mod Drainage
-pub mod Answers
-pub mod Interior
-pub mod Flooding
-pub mod Stepping
-pub mod Falls
-pub mod Dropping
-pub mod Surveying
-pub mod Words
+mod Neighbours
+mod Filling
+mod Surfaces
+mod Flats
+mod Directions
+mod Trails
+mod Receivers
+mod Inflows
+mod Descending
+mod Passing
+mod Following
+mod Drainage
+mod Answers
+mod Interior
+mod Flooding
+mod Stepping
+mod Falls
+mod Dropping
+mod Surveying
+mod Words
+pub mod Public

@@ -45,10 +45,10 @@ module _ {rows cols : ℕ} {dir : List ℕ} (d : Directed rows cols dir) where
   F = countsOf rows cols dir
 
   counted : (z : ℕ) → z < n → getD F z 0 ≡ when (valid z) (countAt rows cols dir z)
-  counted z h = counts-at rows cols dir rank (directed-falls d) (steps-le rows cols dir n) z h
+  counted z h = counts-at rows cols dir z h
 
   long-counts : length F ≡ n
-  long-counts = counts-long rows cols dir rank (directed-falls d) (steps-le rows cols dir n)
+  long-counts = counts-long rows cols dir
 
   -- the count of a cell that points at another
   source : (z x : ℕ) → z < n → when (eqb (recv x) z) (countAt rows cols dir x) ≡ when (eqb (recv x) z) (getD F x 0)

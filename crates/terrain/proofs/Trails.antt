@@ -372,12 +372,13 @@ module _ (rows cols : ℕ) (dir : List ℕ) (pot : ℕ → ℕ) (falls : Falls r
             ∙ sum-swap size size (λ x y. when (eqb (recv y) z) (when (cell x) (hits size x y)))
             ∙ sum-ext size (λ y. sumTo size (λ x. when (eqb (recv y) z) (when (cell x) (hits size x y)))) (λ y. when (eqb (recv y) z) (countAt rows cols dir y)) (λ y q. sym (sum-when size (eqb (recv y) z) (λ x. when (cell x) (hits size x y))))
 
-    -- ---- the grid of counts
+-- ---- the grid of counts
 
-    pub counts-long : length (countsOf rows cols dir) ≡ rows * cols
-    unfolding countsOf
-    counts-long = length-tab (rows * cols) _
+module _ (rows cols : ℕ) (dir : List ℕ) where
+  pub counts-long : length (countsOf rows cols dir) ≡ rows * cols
+  unfolding countsOf
+  counts-long = length-tab (rows * cols) _
 
-    pub counts-at : (z : ℕ) → z < rows * cols → getD (countsOf rows cols dir) z 0 ≡ when (mappedAt rows cols dir z) (countAt rows cols dir z)
-    unfolding countsOf
-    counts-at z h = getD-tab (rows * cols) (λ y. when (cell y) (countAt rows cols dir y)) 0 z h
+  pub counts-at : (z : ℕ) → z < rows * cols → getD (countsOf rows cols dir) z 0 ≡ when (mappedAt rows cols dir z) (countAt rows cols dir z)
+  unfolding countsOf
+  counts-at z h = getD-tab (rows * cols) (λ y. when (mappedAt rows cols dir y) (countAt rows cols dir y)) 0 z h

@@ -1,7 +1,7 @@
 -- `factor::pass::beside` meets its contract. Assumes nothing.
 use native.Mathlib.Omega.{arith}
 use Rattle.terrain.specs.Inside.{besideOf}
-use Rattle.terrain.proofs.Interior.{placed}
+use Rattle.terrain.proofs.Public.{placed}
 use borrow.Author.Needs.{needs}
 use Rattle.factor.proofs.pass.beside.Statement.{statement}
 use Rattle.factor.proofs.pass.beside.Tie as tie

@@ -1,22 +1,11 @@
 -- `factor::pass::brought` meets its contract. Assumes nothing.
 use mathlib.Core.Path.{_∙_}
-use mathlib.Core.Bool.{Bool, true, false, cond}
-use Prim.Native.Nat.{ℕ, _≤_}
 use native.Mathlib.Omega.{arith}
 use borrow.Author.Needs.{needs}
-use Rattle.terrain.specs.Cells.{cardinal}
-use Rattle.factor.specs.Inflow.{stepOver}
 use Rattle.factor.specs.Inner.{broughtBy}
+use Rattle.factor.proofs.Lengths.{step-le}
 use Rattle.factor.proofs.pass.brought.Statement.{statement}
 use Rattle.factor.proofs.pass.brought.Tie as tie
-
-step-small : (k : ℕ) → stepOver k ≤ 14142
-unfolding stepOver
-step-small k = go (cardinal k)
-  where
-    go : (b : Bool) → cond b 10000 14142 ≤ 14142
-    go true = omega arith
-    go false = omega arith
 
 cutoff-for-requires : tie.Need-cutoff-for-requires
 cutoff-for-requires c κs = search needs
@@ -27,7 +16,7 @@ step-over-requires c κs = search needs
 amount-of-requires : tie.Need-amount-of-requires
 amount-of-requires c κs =
     let s = c .before .before in
-    (s .pre .1, s .pre .0, omega (arith, c .step-over .ensures, step-small (s .args .k)), s .pre .2)
+    (s .pre .1, s .pre .0, omega (arith, c .step-over .ensures, step-le (s .args .k)), s .pre .2)
 
 returns : tie.Need-returns
 unfolding broughtBy

@@ -5,7 +5,7 @@ use Prim.Native.Nat.{ℕ, _+_, _-_, _≤_}
 use native.Mathlib.Omega.{arith}
 use lib.ListN.{length}
 use borrow.Author.Needs.{needs}
-use Rattle.terrain.proofs.Descending.{place-cell, downhill-few}
+use Rattle.terrain.proofs.Public.{place-cell, downhill-few}
 use Rattle.factor.specs.Pass.{Walking, Charted}
 use Rattle.factor.proofs.Walking.{walk-turning, walk-turn}
 use Rattle.factor.proofs.pass.walk.Statement.{statement}
@@ -52,8 +52,7 @@ loop-again : tie.Need-loop-again Inv-loop μ-loop
 loop-again c =
     let t = c .before .before .before .before in
     let l = t .before .before .before .before .before in
-    let s = start l in
-    (
+    let s = start l in (
       c .before .before .before .lengths .given ∙ l .loop .inv .0,
       c .before .factors .given ∙ l .loop .inv .1,
       omega arith,
