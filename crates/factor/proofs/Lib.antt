@@ -6,6 +6,7 @@ pub mod Factors
 pub mod Channels
 pub mod Slopes
 pub mod Lengths
+pub mod Gathering
 pub mod Turns
 pub mod Walking
 pub mod Judging

@@ -1,22 +1,16 @@
 -- What the functions of `pass` assume of a map, and what they leave: no promise of a public call cites this file. Assumes nothing.
 use mathlib.Core.Path.{_≡_}
 use mathlib.Core.List.{List}
-use mathlib.Core.Bool.{Bool}
 use Prim.Native.Nat.{ℕ, _+_, _*_, _≤_, _<_, max}
 use lib.Count.{trailingZeros}
-use lib.Dec.{ltb, eqb}
+use lib.Dec.{ltb}
 use lib.ListN.{length, getD, set}
-use Rattle.laws.specs.Sums.{greatestTo, when}
-use Rattle.laws.specs.Orders.{standsIn}
-use Rattle.laws.specs.Handing.{Handing}
 use Rattle.settings.specs.declared.Rules.{Rules}
 use Rattle.terrain.specs.Inside.{Beside, besideOf}
-use Rattle.terrain.specs.Falls.{fallAt, fallsOf}
-use Rattle.terrain.specs.Directed.{Directed, receiverOf}
+use Rattle.terrain.specs.Falls.{fallsOf}
+use Rattle.terrain.specs.Directed.{Directed}
 use Rattle.terrain.specs.Downhill.{Downhill}
-use Rattle.factor.specs.Slope.{steepnessAt}
-use Rattle.factor.specs.Channel.{channelAt}
-use Rattle.factor.specs.Length.{broughtTo, lengthIn, lengthsOf}
+use Rattle.factor.specs.Length.{lengthsOf}
 use Rattle.factor.specs.Cell.{factorOf}
 use Rattle.factor.specs.Grid.{factorsOf}
 use Rattle.factor.specs.Inner.{greatestFall, greatestLength, steepnessOf, settledOf, broughtBy}
@@ -63,44 +57,7 @@ module _ (terms : Terms) (dir count lengths factors : List ℕ) (x : ℕ) where
 
 -- ---- the pass
 
-module _ (rows cols side : ℕ) (rules : Rules) (lv dir count : List ℕ) where
-  -- the length of the cell z
-  abbrev pub lengthAt : ℕ → ℕ
-  lengthAt z = lengthIn rows cols side rules lv dir count (rows * cols) z
-
-  -- one more than the greatest amount that is brought to z; 0 for none
-  unfoldable pub gatheredAt : ℕ → ℕ
-  unfolding receiverOf broughtTo lengthIn
-  gatheredAt z = greatestTo (rows * cols) (λ x. when (eqb (receiverOf rows cols dir x) z) (broughtTo rows cols side rules lv dir z x (lengthAt x) + 1))
-
-  -- what becomes of what is gathered at z when its turn comes
-  unfoldable pub settledAt : ℕ → ℕ → ℕ
-  unfolding settledOf channelAt
-  settledAt z m = settledOf (channelAt rows cols rules count z) m
-
-  -- one more than what x gives, when so much is gathered at x
-  unfoldable pub givenBy : ℕ → ℕ → ℕ
-  unfolding broughtTo settledAt receiverOf
-  givenBy x m = broughtTo rows cols side rules lv dir (receiverOf rows cols dir x) x (settledAt x m) + 1
-
-  -- the cells at the first p places have their length and LS, and have handed on
-  pub record Walking (order lengths factors : List ℕ) (p : ℕ) : Type 0 where
-    pub handing : Handing max greatestTo (rows * cols) (receiverOf rows cols dir) givenBy (λ z. 0) gatheredAt settledAt order lengths p
-    pub factors-long : length factors ≡ rows * cols
-    pub falls : (z : ℕ) → z < rows * cols → standsIn order p z ≡ 0 → getD factors z 0 ≡ fallAt rows cols lv dir z
-    pub done : (z : ℕ) → 0 < standsIn order p z → getD factors z 0 ≡ factorOf side (steepnessAt rows cols lv dir z) (lengthAt z)
-
--- what the pass assumes of a map: its levels lv, directions, counts, and an order of its cells
-pub record Charted (rows : ℕ) (lv : List ℕ) (terms : Terms) (dir count order : List ℕ) (places : ℕ) : Type 0 where
-  pub directed : Directed rows (terms .columns) dir
-  pub capped : (x : ℕ) → getD lv x 0 ≤ 1900000
-  pub side-some : 1 ≤ terms .side
-  pub side-small : terms .side ≤ 100000
-  pub count-long : length count ≡ rows * terms .columns
-  pub channel : (x : ℕ) → x < rows * terms .columns → ltb (terms .most) (getD count x 0) ≡ channelAt rows (terms .columns) (terms .rules) count x
-  pub order-is : Downhill rows (terms .columns) dir order places
-
--- the same before the channel rule is turned into a bound, with the grids that lengths and LS go to
+-- what the pass assumes of a map: its levels lv, directions and counts, an order of its cells at the first places, and the grids that lengths and LS go to
 pub record Measuring (rows cols side : ℕ) (lv dir count order : List ℕ) (places : ℕ) (lengths factors : List ℕ) : Type 0 where
   pub directed : Directed rows cols dir
   pub capped : (x : ℕ) → getD lv x 0 ≤ 1900000

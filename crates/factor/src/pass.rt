@@ -10,7 +10,7 @@ ghost use lib.Dec.{ltb};
 ghost use Prim.Native.Nat.{ℕ, _*_, _≤_, _<_, max};
 ghost use Rattle.terrain.specs.Inside.{Beside, besideOf};
 ghost use Rattle.factor.specs.Inner.{steepest, greatestLength, settledOf, broughtBy, Listed};
-ghost use Rattle.factor.specs.Pass.{Turning, Turned, Walking, Charted, Measuring, Measured};
+ghost use Rattle.factor.specs.Pass.{Turning, Turned, Measuring, Measured};
 use crate::cell::factor_of;
 use crate::channel::channel_bound;
 use crate::channel::largest;
@@ -96,41 +96,6 @@ fn turn<'a>(
     lengths[y] = longer(lengths[y], amount + 1);
 }
 
-// The turn of every cell, along the order of the valid cells at the first places.
-fn walk<'a>(
-    terms: Terms,
-    direction: &[u8],
-    count: &[u32],
-    order: &[u32],
-    places: usize,
-    lengths: &mut [u64],
-    factors: &mut [u32],
-    five: &'a [u32],
-    four: &'a [u32],
-    three: &'a [u32],
-    two: &'a [u32],
-)
-    requires { ⌜ ((rows : ℕ) × (lv : List ℕ) × Charted rows lv terms (now direction) (now count) (now order) places × Walking rows (terms .columns) (terms .side) (terms .rules) lv (now direction) (now count) (now order) (now lengths) (now factors) 0 × Listed (now five) (now four) (now three) (now two)) ⌝ }
-    ensures { λ _. ⌜ ((rows : ℕ) (lv : List ℕ) → Charted rows lv terms (now (direction .entry)) (now (count .entry)) (now (order .entry)) places → Walking rows (terms .columns) (terms .side) (terms .rules) lv (now (direction .entry)) (now (count .entry)) (now (order .entry)) (now (lengths .entry)) (now (factors .entry)) 0 → Walking rows (terms .columns) (terms .side) (terms .rules) lv (now (direction .entry)) (now (count .entry)) (now (order .entry)) (now (lengths .exit)) (now (factors .exit)) places) ⌝ }
-{
-    let mut place: usize = 0;
-    while place < places {
-        turn(
-            terms,
-            direction,
-            count,
-            lengths,
-            factors,
-            order[place] as usize,
-            five,
-            four,
-            three,
-            two,
-        );
-        place += 1;
-    }
-}
-
 // Sets every length to 0.
 fn clear(lengths: &mut [u64])
     ensures { λ _. ⌜ now (lengths .exit) ≡ replicate (length (now (lengths .entry))) 0 ⌝ }
@@ -166,17 +131,20 @@ pub(crate) fn measure(
     };
     let lists = thresholds::all();
     clear(lengths);
-    walk(
-        terms,
-        direction,
-        count,
-        order,
-        places,
-        lengths,
-        factors,
-        &lists.five,
-        &lists.four,
-        &lists.three,
-        &lists.two,
-    );
+    let mut place: usize = 0;
+    while place < places {
+        turn(
+            terms,
+            direction,
+            count,
+            lengths,
+            factors,
+            order[place] as usize,
+            &lists.five,
+            &lists.four,
+            &lists.three,
+            &lists.two,
+        );
+        place += 1;
+    }
 }
