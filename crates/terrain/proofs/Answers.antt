@@ -16,12 +16,19 @@ use Rattle.terrain.specs.Cells.{Ready}
 use Rattle.terrain.specs.Trail.{countsOf}
 use Rattle.terrain.specs.Drainage.{Drainage}
 use Rattle.terrain.specs.Answers.{Grids, placesOf, tests, judged, validOf, directionOf, Mapped, After, answerOf, answer, accepts}
-use Rattle.terrain.specs.Relief.{Room}
 use Rattle.text.specs.declared.Refusal.{Refusal}
 use Rattle.terrain.specs.declared.Answer.{Answer}
 use Rattle.terrain.specs.declared.Answer.the-variants.{Refused}
 use Rattle.terrain.proofs.Neighbours.{accepted-fine}
 use Rattle.terrain.proofs.Drainage.{drainage}
+
+-- each lent grid has n places
+pub record Room (n : ℕ) (g : Grids) : Type 0 where
+  pub filled-long : length (g .filled) ≡ n
+  pub direction-long : length (g .direction) ≡ n
+  pub count-long : length (g .count) ≡ n
+  pub falls-long : length (g .falls) ≡ n
+  pub workspace-long : length (g .workspace) ≡ n
 
 module _ (rows cols : ℕ) (ground : List ℤ) (g : Grids) where
   abbrev size : Test

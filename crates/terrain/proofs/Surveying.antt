@@ -1,5 +1,5 @@
 -- The parts of a map: what each assumes of the grids that those before it leave, and that together they give what is promised. Assumes nothing.
-use mathlib.Core.Path.{_≡_, sym, ap, subst, _∙_}
+use mathlib.Core.Path.{_≡_, sym, ap, ap₂, subst, _∙_}
 use mathlib.Core.List.{List, map}
 use mathlib.Core.Bool.{Bool}
 use Prim.Native.Nat.{ℕ, _*_, _<_}
@@ -12,14 +12,13 @@ use Rattle.laws.proofs.Sums.{sum-ext}
 use Rattle.laws.proofs.Orders.{order-places}
 use Rattle.terrain.specs.Cells.{heightOf, levelsOf, validAt, Ready}
 use Rattle.terrain.specs.Levels.{Levels}
-use Rattle.terrain.specs.Filled.{top, filledLevels}
+use Rattle.terrain.specs.Filled.{top, filledLevels, filledOf}
 use Rattle.terrain.specs.Direction.{directionsOf}
 use Rattle.terrain.specs.Trail.{mappedAt, validsOf, countsOf, longestOf}
 use Rattle.terrain.specs.Falls.{fallsOf}
 use Rattle.terrain.specs.Directed.{Directed}
 use Rattle.terrain.specs.Downhill.{Downhill}
-use Rattle.terrain.specs.Answers.{Grids, lent, validOf, directionOf, Mapped, answerOf}
-use Rattle.terrain.specs.Relief.{Relief, Routed}
+use Rattle.terrain.specs.Answers.{lent, validOf, directionOf, Mapped, answerOf}
 use Rattle.terrain.specs.declared.Answer.{Answer}
 use Rattle.terrain.specs.declared.Answer.the-variants.{Accepted}
 use Rattle.terrain.proofs.Interior.{ready-sized}
@@ -61,34 +60,36 @@ module _ {rows cols : ℕ} {ground : List ℤ} (ready : Ready rows cols ground) 
       order-places (o .cells) (mapped-in rows cols (directionOf rows cols ground) (directions-directed .long))
       ∙ sum-ext (rows * cols) (λ x. when (mappedAt rows cols (directionOf rows cols ground) x) 1) (λ x. when (validAt (levelsOf ground) x) 1) (λ x h. ap (λ (b : Bool). when b 1) (directions-mapped x))
 
-  pub relief-directed : {g : Grids} → Relief rows cols ground g → Directed rows cols (g .direction)
-  relief-directed r = subst (Directed rows cols) (sym (r .direction-is)) directions-directed
-
   -- ---- the grids and the answer
 
-  pub relief : {level direction count falls workspace : List ℕ} {filled : List ℤ} → level ≡ filledLevels rows cols ground → filled ≡ map heightOf level → (direction ≡ directionsOf rows cols level) × (falls ≡ fallsOf rows cols level (directionsOf rows cols level)) → Relief rows cols ground (lent filled direction count falls workspace)
-  unfolding directionOf
-  relief l f d =
-      record {
-        filled-is = f ∙ ap (map heightOf) l ∙ filled-heights ready;
-        direction-is = d .0 ∙ ap (directionsOf rows cols) l;
-        falls-are = d .1 ∙ ap (λ (v : List ℕ). fallsOf rows cols v (directionsOf rows cols v)) l;
-      }
+  -- filled heights, directions and falls
+  abbrev pub Shaped : List ℤ → List ℕ → List ℕ → Type 0
+  Shaped filled direction falls = (filled ≡ filledOf rows cols ground) × (direction ≡ directionOf rows cols ground) × (falls ≡ fallsOf rows cols (filledLevels rows cols ground) (directionOf rows cols ground))
 
-  module _ {g : Grids} {count order : List ℕ} {r : Answer} (e : Relief rows cols ground g) (t : Routed rows cols (g .direction) count order r) where
-    own : Routed rows cols (directionOf rows cols ground) count order r
-    own = subst (λ (d : List ℕ). Routed rows cols d count order r) (e .direction-is) t
+  pub relief : {level direction falls : List ℕ} {filled : List ℤ} → level ≡ filledLevels rows cols ground → filled ≡ map heightOf level → (direction ≡ directionsOf rows cols level) × (falls ≡ fallsOf rows cols level (directionsOf rows cols level)) → Shaped filled direction falls
+  unfolding directionOf
+  relief l f d = (f ∙ ap (map heightOf) l ∙ filled-heights ready, d .0 ∙ ap (directionsOf rows cols) l, d .1 ∙ ap (λ (v : List ℕ). fallsOf rows cols v (directionsOf rows cols v)) l)
+
+  pub relief-directed : {direction : List ℕ} → direction ≡ directionOf rows cols ground → Directed rows cols direction
+  relief-directed e = subst (Directed rows cols) (sym e) directions-directed
+
+  module _ {filled : List ℤ} {direction count falls order : List ℕ} {r : Answer} (e : Shaped filled direction falls) (t : (count ≡ countsOf rows cols direction) × ((places : ℕ) × Downhill rows cols direction order places × (r ≡ Accepted places (longestOf rows cols direction)))) where
+    abbrev dir : List ℕ
+    dir = directionOf rows cols ground
+
+    places : Downhill rows cols dir order (t .1 .0)
+    places = subst (λ (d : List ℕ). Downhill rows cols d order (t .1 .0)) (e .1) (t .1 .1)
 
     pub routed-answer : r ≡ answerOf rows cols ground passed
     unfolding answerOf
-    routed-answer = own .answer-is ∙ ap (λ (m : ℕ). Accepted m (longestOf rows cols (directionOf rows cols ground))) (downhill-valids (own .downhill))
+    routed-answer = t .1 .2 ∙ ap₂ (λ (m : ℕ) (d : List ℕ). Accepted m (longestOf rows cols d)) (downhill-valids places) (e .1)
 
-    pub routed-mapped : Mapped rows cols ground (directionOf rows cols ground) (lent (g .filled) (g .direction) count (g .falls) order)
+    pub routed-mapped : Mapped rows cols ground (directionOf rows cols ground) (lent filled direction count falls order)
     routed-mapped =
         record {
-          filled-is = e .filled-is;
-          direction-is = e .direction-is;
-          count-is = own .count-is;
-          falls-are = e .falls-are;
-          order = subst (Downhill rows cols (directionOf rows cols ground) order) (downhill-valids (own .downhill)) (own .downhill);
+          filled-is = e .0;
+          direction-is = e .1;
+          count-is = t .0 ∙ ap (countsOf rows cols) (e .1);
+          falls-are = e .2;
+          order = subst (Downhill rows cols dir order) (downhill-valids places) places;
         }

@@ -12,6 +12,5 @@ pub mod Downhill
 pub mod Answers
 pub mod Inside
 pub mod Flood
-pub mod Relief
 pub mod Levels
 pub mod Words

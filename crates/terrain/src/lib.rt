@@ -14,15 +14,18 @@ mod trail;
 pub use cells::place_of;
 ghost use mathlib.Core.Path.{_≡_};
 ghost use mathlib.Core.Bool.{true};
-ghost use Prim.Native.Nat.{_*_};
+ghost use Prim.Native.Nat.{ℕ, _*_};
 ghost use lib.ListN.{length};
-ghost use Rattle.laws.specs.Tests.{failed};
+ghost use Rattle.laws.specs.Tests.{passed, failed};
 ghost use Rattle.text.specs.Ranges.{allLong};
-ghost use Rattle.terrain.specs.Cells.{Ready};
+ghost use Rattle.terrain.specs.Filled.{filledLevels, filledOf};
+ghost use Rattle.terrain.specs.Trail.{countsOf, longestOf};
+ghost use Rattle.terrain.specs.Falls.{fallsOf};
 ghost use Rattle.terrain.specs.Directed.{Directed};
+ghost use Rattle.terrain.specs.Downhill.{Downhill};
 ghost use Rattle.terrain.specs.Drainage.{Drainage};
-ghost use Rattle.terrain.specs.Relief.{Relief, Room, Routed};
-ghost use Rattle.terrain.specs.Answers.{lent, placesOf, found, judged, validOf, After, answer, accepts};
+ghost use Rattle.terrain.specs.Answers.{lent, placesOf, found, judged, validOf, directionOf, After, answer, accepts};
+ghost use Rattle.terrain.specs.declared.Answer.the-variants.{Accepted};
 use text::Refusal;
 
 // The answer of the call: the number of valid cells and the steps of the longest trail, or why there is no map.
@@ -107,8 +110,8 @@ fn shape(
     falls: &mut [u32],
     workspace: &mut [u32],
 )
-    requires { ⌜ Ready rows columns (now ground) × Room (rows * columns) (lent (now filled) (now direction) (now count) (now falls) (now workspace)) ⌝ }
-    ensures { λ _. ⌜ Relief rows columns (now (ground .entry)) (lent (now (filled .exit)) (now (direction .exit)) (now (count .exit)) (now (falls .exit)) (now (workspace .exit))) ⌝ }
+    requires { ⌜ judged rows columns (now ground) (lent (now filled) (now direction) (now count) (now falls) (now workspace)) ≡ passed ⌝ }
+    ensures { λ _. ⌜ (now (filled .exit) ≡ filledOf rows columns (now (ground .entry))) × (now (direction .exit) ≡ directionOf rows columns (now (ground .entry))) × (now (falls .exit) ≡ fallsOf rows columns (filledLevels rows columns (now (ground .entry))) (directionOf rows columns (now (ground .entry)))) ⌝ }
 {
     filled::fill(rows, columns, ground, workspace);
     flat::measure(rows, columns, workspace, count, filled);
@@ -125,7 +128,7 @@ fn route(
     workspace: &mut [u32],
 ) -> Answer
     requires { ⌜ Directed rows columns (now direction) × (length (now count) ≡ rows * columns) × (length (now workspace) ≡ rows * columns) ⌝ }
-    ensures { λ r. ⌜ Routed rows columns (now (direction .entry)) (now (count .exit)) (now (workspace .exit)) r ⌝ }
+    ensures { λ r. ⌜ (now (count .exit) ≡ countsOf rows columns (now (direction .entry))) × ((places : ℕ) × Downhill rows columns (now (direction .entry)) (now (workspace .exit)) places × (r ≡ Accepted places (longestOf rows columns (now (direction .entry))))) ⌝ }
 {
     let places = downhill::descend(rows, columns, direction, count, workspace);
     let longest = trail::longest_trail(rows, columns, direction, workspace, places, count);

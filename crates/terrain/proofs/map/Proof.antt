@@ -62,10 +62,7 @@ enum-told c = search needs
 
 shape-requires : tie.Need-shape-requires
 shape-requires c κs =
-    let t = c .before .before .before .before .before in
-    let e = passing t in
-    let s = start (t .before .before) in
-    (passed-ready (s .args .rows) (s .args .columns) (s .args .ground .now) (grids s) e, passed-room (s .args .rows) (s .args .columns) (s .args .ground .now) (grids s) e)
+    passing (c .before .before .before .before .before)
 
 route-requires : tie.Need-route-requires
 route-requires c κs =
@@ -73,7 +70,7 @@ route-requires c κs =
     let s = start (found-at h) in
     let e = passing (told-at h) in
     let r = passed-room (s .args .rows) (s .args .columns) (s .args .ground .now) (grids s) e in (
-      relief-directed (passed-ready (s .args .rows) (s .args .columns) (s .args .ground .now) (grids s) e) (h .shape .ensures),
+      relief-directed (passed-ready (s .args .rows) (s .args .columns) (s .args .ground .now) (grids s) e) (h .shape .ensures .1),
       h .shape .kept .1 .1 .1 .1 .1 .0 ∙ r .count-long,
       h .shape .kept .1 .1 .1 .1 .1 .1 .1 .0 ∙ r .workspace-long,
     )

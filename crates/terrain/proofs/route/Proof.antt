@@ -43,7 +43,7 @@ returns : tie.Need-returns
 returns c =
     let l = c .before .before .before .before .before .before .before in
     let d = ordered l in
-    record { count-is = c .before .before .count-flow .ensures; places = d .descend .result; downhill = d .descend .ensures; answer-is = ap (Accepted (d .descend .result)) (l .longest-trail .ensures) }
+    (c .before .before .count-flow .ensures, (d .descend .result, d .descend .ensures, ap (Accepted (d .descend .result)) (l .longest-trail .ensures)))
 
 pub route-spec : {M : Type 1} → statement M
 route-spec =

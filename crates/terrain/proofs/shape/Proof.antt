@@ -1,7 +1,11 @@
 -- `terrain::shape` meets its contract. Assumes nothing.
 use mathlib.Core.Path.{sym, _∙_}
 use borrow.Author.Needs.{needs}
+use Prim.Native.Nat.{_*_}
+use Rattle.terrain.specs.Cells.{Ready}
 use Rattle.terrain.specs.Levels.{Levels}
+use Rattle.terrain.specs.Answers.{lent}
+use Rattle.terrain.proofs.Answers.{Room, passed-ready, passed-room}
 use Rattle.terrain.proofs.Surveying.{relief-levels, relief-small, relief}
 use Rattle.terrain.proofs.shape.Statement.{statement}
 use Rattle.terrain.proofs.shape.Tie as tie
@@ -16,27 +20,34 @@ flooded c = c .before .before .before .before .before .before
 abbrev measured : tie.After-point → tie.After-measure
 measured c = let a = c .before .before .before .before in a .before .before .before .before
 
+-- the ground is accepted, and the grids have their places
+ready : (s : tie.Start) → Ready (s .args .rows) (s .args .columns) (s .args .ground .now)
+ready s = passed-ready (s .args .rows) (s .args .columns) (s .args .ground .now) (lent (s .args .filled .now) (s .args .direction .now) (s .args .count .now) (s .args .falls .now) (s .args .workspace .now)) (s .pre)
+
+room : (s : tie.Start) → Room (s .args .rows * s .args .columns) (lent (s .args .filled .now) (s .args .direction .now) (s .args .count .now) (s .args .falls .now) (s .args .workspace .now))
+room s = passed-room (s .args .rows) (s .args .columns) (s .args .ground .now) (lent (s .args .filled .now) (s .args .direction .now) (s .args .count .now) (s .args .falls .now) (s .args .workspace .now)) (s .pre)
+
 -- the levels after the filling
 levels : (c : tie.After-fill) → Levels (start c .args .rows) (start c .args .columns) (c .fill .last .1 .1 .1 .0)
-levels c = relief-levels (start c .pre .0) (c .fill .ensures)
+levels c = relief-levels (ready (start c)) (c .fill .ensures)
 
 fill-requires : tie.Need-fill-requires
-fill-requires c κs = search needs
+fill-requires c κs = let s = c .before .before .before .before .before in (ready s, room s .workspace-long)
 
 measure-requires : tie.Need-measure-requires
-measure-requires c κs = let f = c .before .before .before .before .before in (levels f, start f .pre .1 .count-long)
+measure-requires c κs = let f = c .before .before .before .before .before in (levels f, room (start f) .count-long)
 
 point-requires : tie.Need-point-requires
 point-requires c κs =
     let m = c .before .before .before .before .before .before .before in
     let f = flooded m in
-    (levels f, m .measure .ensures, start f .pre .1 .direction-long, start f .pre .1 .falls-long)
+    (levels f, m .measure .ensures, room (start f) .direction-long, room (start f) .falls-long)
 
 write-heights-requires : tie.Need-write-heights-requires
 write-heights-requires c κs =
     let m = measured (c .before .before .before .before .before .before) in
     let f = flooded m in
-    (levels f .long ∙ sym (m .measure .kept .1 .1 .1 .1 .0 ∙ start f .pre .1 .filled-long), relief-small (start f .pre .0) (f .fill .ensures))
+    (levels f .long ∙ sym (m .measure .kept .1 .1 .1 .1 .0 ∙ room (start f) .filled-long), relief-small (ready (start f)) (f .fill .ensures))
 
 same-length : tie.Need-same-length
 same-length c = search needs
@@ -58,7 +69,7 @@ returns c =
     let p = c .before .before .before .before in
     let q = p .before .before .before .before in
     let f = flooded (measured q) in
-    relief (start f .pre .0) (f .fill .ensures) (c .before .write-heights .ensures) (q .point .ensures)
+    relief (ready (start f)) (f .fill .ensures) (c .before .write-heights .ensures) (q .point .ensures)
 
 pub shape-spec : {M : Type 1} → statement M
 shape-spec =
