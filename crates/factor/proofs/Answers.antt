@@ -27,7 +27,7 @@ use Rattle.factor.specs.Length.{lengthsOf}
 use Rattle.factor.specs.Grid.{factorsOf}
 use Rattle.factor.specs.Answers.{Grids, lent, judged, mapOf, answerOf, gridsOf, answer, after, accepts}
 use Rattle.factor.specs.Inner.{firstTests, lentOn}
-use Rattle.factor.specs.Pass.{Measuring, Measured}
+use Rattle.factor.specs.Pass.{Measuring}
 use Rattle.factor.specs.declared.Answer.{Answer}
 use Rattle.factor.specs.declared.Answer.the-variants.{Accepted, Refused}
 use Rattle.factor.proofs.Judging.{first-fails, first-passes, first-side, first-lengths}
@@ -127,7 +127,7 @@ module _ (rows cols side : ℕ) (settings : Settings) (ground : List ℤ) (g : G
           }
 
       -- and the whole promise
-      pub accepted-promised : {rules : Rules} {lengths factors workspace : List ℕ} → rules ≡ rulesOf settings → Measured rows cols side rules (filledLevels rows cols ground) (t .direction) (t .count) lengths factors → workspace ≡ replicate (rows * cols) 0 → Drainage rows cols ground (t .filled) (t .direction) (t .count) (validOf rows cols ground) → Promised (Accepted valid longest) (lent (t .filled) (t .direction) (t .count) lengths factors workspace)
+      pub accepted-promised : {rules : Rules} {lengths factors workspace : List ℕ} → rules ≡ rulesOf settings → (lengths ≡ lengthsOf rows cols side rules (filledLevels rows cols ground) (t .direction) (t .count)) × (factors ≡ factorsOf rows cols side (filledLevels rows cols ground) (t .direction) lengths) → workspace ≡ replicate (rows * cols) 0 → Drainage rows cols ground (t .filled) (t .direction) (t .count) (validOf rows cols ground) → Promised (Accepted valid longest) (lent (t .filled) (t .direction) (t .count) lengths factors workspace)
       unfolding answer after answerOf gridsOf mapOf
       accepted-promised {rules} {lengths} {factors} {workspace} r d w n =
           let j = first-passes rows cols side settings ground g e ∙ found .passes in
@@ -143,10 +143,10 @@ module _ (rows cols side : ℕ) (settings : Settings) (ground : List ℤ) (g : G
           direction-is = found .mapped .direction-is
 
           lengths-are : lengths ≡ lengthsOf rows cols side (rulesOf settings) lv (directionOf rows cols ground) (countsOf rows cols (directionOf rows cols ground))
-          lengths-are = d .lengths-are ∙ rw (r, direction-is, count-is)
+          lengths-are = d .0 ∙ rw (r, direction-is, count-is)
 
           factors-are : factors ≡ factorsOf rows cols side lv (directionOf rows cols ground) (lengthsOf rows cols side (rulesOf settings) lv (directionOf rows cols ground) (countsOf rows cols (directionOf rows cols ground)))
-          factors-are = d .factors-are ∙ ap₂ (factorsOf rows cols side lv) direction-is lengths-are
+          factors-are = d .1 ∙ ap₂ (factorsOf rows cols side lv) direction-is lengths-are
 
           leaves : lent (t .filled) (t .direction) (t .count) lengths factors workspace ≡ mapOf rows cols side (rulesOf settings) ground (directionOf rows cols ground)
           leaves = lent-same (found .mapped .filled-is) direction-is count-is lengths-are factors-are w

@@ -32,7 +32,7 @@ use Rattle.factor.specs.Length.{cutoffAt, broughtTo, lengthsOf}
 use Rattle.factor.specs.Cell.{factorOf}
 use Rattle.factor.specs.Grid.{factorAt, factorsOf}
 use Rattle.factor.specs.Inner.{greatestFall, steepnessOf, settledOf, broughtBy}
-use Rattle.factor.specs.Pass.{sideAt, Turning, lengthNow, amountNow, Turned, Measuring, Measured}
+use Rattle.factor.specs.Pass.{sideAt, Turning, lengthNow, amountNow, Turned, Measuring}
 use Rattle.factor.specs.declared.pass.Terms.{Terms}
 use Rattle.factor.proofs.Slopes.{fall-steepness, fall-small}
 use Rattle.factor.proofs.Lengths.{lengths-long, lengths-at}
@@ -155,7 +155,6 @@ module _ {rows : ℕ} {lv dir count order : List ℕ} {places : ℕ} {terms : Te
         record {
           side-some = c .side-some;
           side-small = c .side-small;
-          cell-small = omega (arith, here-in, c .directed .sized .small);
           dir-in = omega (arith, here-in, c .directed .long);
           count-in = omega (arith, here-in, c .count-long);
           lengths-in = omega (arith, here-in, w .handing .long);
@@ -256,10 +255,9 @@ module _ {rows cols side : ℕ} {lv dir count order lengths factors : List ℕ} 
         ⊎-elim (λ v. w .done z (omega (arith, m .order-is .cells .once z, when-yes 1 v)) ∙ ap (factorOf side (steepnessAt rows cols lv dir z)) (sym (length-there z h)) ∙ sym (rw v))
         (λ v. w .falls z h (omega (arith, m .order-is .cells .once z, when-no 1 v)) ∙ fall-none rows cols lv dir (m .capped) z v ∙ sym (rw v)) (two (valid-at z))
 
-    pub walk-all : Measured rows cols side rules lv dir count lengths′ factors′
+    pub walk-all : (lengths′ ≡ lengthsOf rows cols side rules lv dir count) × (factors′ ≡ factorsOf rows cols side lv dir lengths′)
     unfolding factorsOf
-    walk-all =
-        record {
-          lengths-are = ext-getD 0 lengths′ (lengthsOf rows cols side rules lv dir count) (w .handing .long ∙ sym (lengths-long (m .directed) side rules lv count)) (λ z h. let l : z < cells = omega (arith, w .handing .long) in length-there z l ∙ sym (lengths-at (m .directed) side rules lv count z l));
-          factors-are = ext-getD 0 factors′ (factorsOf rows cols side lv dir lengths′) (w .factors-long ∙ sym (length-tab cells (factorAt rows cols side lv dir lengths′))) (λ z h. let l : z < cells = omega (arith, w .factors-long) in factor-there z l ∙ sym (getD-tab cells (factorAt rows cols side lv dir lengths′) 0 z l));
-        }
+    walk-all = (
+      ext-getD 0 lengths′ (lengthsOf rows cols side rules lv dir count) (w .handing .long ∙ sym (lengths-long (m .directed) side rules lv count)) (λ z h. let l : z < cells = omega (arith, w .handing .long) in length-there z l ∙ sym (lengths-at (m .directed) side rules lv count z l)),
+      ext-getD 0 factors′ (factorsOf rows cols side lv dir lengths′) (w .factors-long ∙ sym (length-tab cells (factorAt rows cols side lv dir lengths′))) (λ z h. let l : z < cells = omega (arith, w .factors-long) in factor-there z l ∙ sym (getD-tab cells (factorAt rows cols side lv dir lengths′) 0 z l)),
+    )

@@ -5,14 +5,11 @@ use Prim.Native.Nat.{ℕ, _+_, _*_, _≤_, _<_, max}
 use lib.Count.{trailingZeros}
 use lib.Dec.{ltb}
 use lib.ListN.{length, getD, set}
-use Rattle.settings.specs.declared.Rules.{Rules}
 use Rattle.terrain.specs.Inside.{Beside, besideOf}
 use Rattle.terrain.specs.Falls.{fallsOf}
 use Rattle.terrain.specs.Directed.{Directed}
 use Rattle.terrain.specs.Downhill.{Downhill}
-use Rattle.factor.specs.Length.{lengthsOf}
 use Rattle.factor.specs.Cell.{factorOf}
-use Rattle.factor.specs.Grid.{factorsOf}
 use Rattle.factor.specs.Inner.{greatestFall, greatestLength, steepnessOf, settledOf, broughtBy}
 use Rattle.factor.specs.declared.pass.Terms.{Terms}
 
@@ -26,7 +23,6 @@ sideAt dir x = trailingZeros 8 (getD dir x 0)
 pub record Turning (terms : Terms) (dir count lengths factors : List ℕ) (x : ℕ) : Type 0 where
   pub side-some : 1 ≤ terms .side
   pub side-small : terms .side ≤ 100000
-  pub cell-small : x < 1048576
   pub dir-in : x < length dir
   pub count-in : x < length count
   pub lengths-in : x < length lengths
@@ -67,8 +63,3 @@ pub record Measuring (rows cols side : ℕ) (lv dir count order : List ℕ) (pla
   pub order-is : Downhill rows cols dir order places
   pub lengths-long : length lengths ≡ rows * cols
   pub falls-are : factors ≡ fallsOf rows cols lv dir
-
--- the lengths and the LS of the map
-pub record Measured (rows cols side : ℕ) (rules : Rules) (lv dir count lengths factors : List ℕ) : Type 0 where
-  pub lengths-are : lengths ≡ lengthsOf rows cols side rules lv dir count
-  pub factors-are : factors ≡ factorsOf rows cols side lv dir lengths

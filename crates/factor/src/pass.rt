@@ -9,8 +9,10 @@ ghost use lib.ListN.{length, replicate};
 ghost use lib.Dec.{ltb};
 ghost use Prim.Native.Nat.{ℕ, _*_, _≤_, _<_, max};
 ghost use Rattle.terrain.specs.Inside.{Beside, besideOf};
+ghost use Rattle.factor.specs.Length.{lengthsOf};
+ghost use Rattle.factor.specs.Grid.{factorsOf};
 ghost use Rattle.factor.specs.Inner.{steepest, greatestLength, settledOf, broughtBy, Listed};
-ghost use Rattle.factor.specs.Pass.{Turning, Turned, Measuring, Measured};
+ghost use Rattle.factor.specs.Pass.{Turning, Turned, Measuring};
 use crate::cell::factor_of;
 use crate::channel::channel_bound;
 use crate::channel::largest;
@@ -120,7 +122,7 @@ pub(crate) fn measure(
     factors: &mut [u32],
 )
     requires { ⌜ ((rows : ℕ) × (lv : List ℕ) × Measuring rows columns side lv (now direction) (now count) (now order) places (now lengths) (now factors)) ⌝ }
-    ensures { λ _. ⌜ ((rows : ℕ) (lv : List ℕ) → Measuring rows columns side lv (now (direction .entry)) (now (count .entry)) (now (order .entry)) places (now (lengths .entry)) (now (factors .entry)) → Measured rows columns side rules lv (now (direction .entry)) (now (count .entry)) (now (lengths .exit)) (now (factors .exit))) ⌝ }
+    ensures { λ _. ⌜ ((rows : ℕ) (lv : List ℕ) → Measuring rows columns side lv (now (direction .entry)) (now (count .entry)) (now (order .entry)) places (now (lengths .entry)) (now (factors .entry)) → (now (lengths .exit) ≡ lengthsOf rows columns side rules lv (now (direction .entry)) (now (count .entry))) × (now (factors .exit) ≡ factorsOf rows columns side lv (now (direction .entry)) (now (lengths .exit)))) ⌝ }
 {
     let threshold = rules.threshold;
     let terms = Terms {
