@@ -14,8 +14,7 @@ ghost use Rattle.terrain.specs.Cells.{levelsOf, heightOf, Ready};
 ghost use Rattle.terrain.specs.Inside.{Sized, Inside, RunsTo};
 ghost use Rattle.terrain.specs.Filled.{top, lowestOf, filling, filledLevels};
 ghost use Rattle.terrain.specs.Trail.{validsOf};
-ghost use Rattle.terrain.specs.Flood.{LooseCell, FillKept, FillStill, FillSweeping, FillLoose, Lowered};
-ghost use Rattle.terrain.specs.Words.{doneOf, Above, Flooded};
+ghost use Rattle.terrain.specs.Flood.{LooseCell, FillKept, FillStill, FillSweeping, FillLoose, Lowered, doneOf, Above, Flooded};
 use crate::cells::beside;
 use crate::cells::is_inside;
 use crate::cells::larger;
@@ -100,18 +99,21 @@ fn start(ground: &[i32], words: &mut [u32])
     }
 }
 
-// Gives the cell x, which waits, this level, if it is not below the cell's lowest neighbour.
-fn finish(rows: usize, columns: usize, words: &mut [u32], level: u32, x: usize)
-    requires { ⌜ Sized rows columns × (length (now words) ≡ rows * columns) × (x < rows * columns) × (top ≤ getD (now words) x 0) ⌝ }
+// Gives the cell x, which waits, this level, if that is not below its lowest neighbour, which is not above `low`.
+// Only a cell of the edge, around which lie cells that are no neighbours, can be below `low`.
+fn finish(rows: usize, columns: usize, words: &mut [u32], level: u32, low: u32, x: usize)
+    requires { ⌜ Sized rows columns × (length (now words) ≡ rows * columns) × (x < rows * columns) × (top ≤ getD (now words) x 0) × (lowestOf rows columns (now words) x 8 ≤ low) ⌝ }
     ensures { λ r. ⌜ Flooded rows columns (now (words .entry)) (now (words .exit)) ⌝ }
 {
-    if level < lowest(rows, columns, words, x) {
-        return;
+    if level < low {
+        if level < lowest_near(rows, columns, words, x) {
+            return;
+        }
     }
     words[x] = level;
 }
 
-// Takes the cells of the list of a level, until it is empty: each is done at this level, and its neighbours are reached.
+// Takes the cells of the list of a level, until it is empty: each reaches its neighbours, and is done at this level.
 fn drain(
     rows: usize,
     columns: usize,
@@ -130,8 +132,8 @@ fn drain(
         if words.len() <= x {
             return;
         }
-        finish(rows, columns, words, level, x);
-        spread(columns, heads, words, band, level, x);
+        let low = spread(columns, heads, words, band, level, x);
+        finish(rows, columns, words, level, low, x);
         turns += 1;
     }
 }
