@@ -5,19 +5,19 @@ use Prim.Native.Nat.{ℕ, zero, suc, _+_, _*_, _≤_, _<_, min}
 use native.Mathlib.Omega.{arith}
 use native.Mathlib.Decide.{decLt, ℕ-discrete}
 use lib.ListN.{length, getD, set, length-map, length-set, List·getD-map, List·getD-eq-default}
-use lib.Seq.{map-set-same, getD-set-same, getD-set-other}
+use lib.Seq.{ext-getD, map-set-same, getD-set-same, getD-set-other}
 use lib.IntN.{ℤ}
 use borrow.Author.Tests.{ltb-true}
 use Rattle.laws.specs.Settle.{startOf}
 use Rattle.laws.proofs.Lists.{in-list}
 use Rattle.laws.proofs.Settle.{kept-active, store-kept, start-kept}
 use Rattle.terrain.specs.Cells.{neighbour, levelsOf, Ready}
-use Rattle.terrain.specs.Filled.{top, lowestOf, filling, Stands}
+use Rattle.terrain.specs.Filled.{top, lowestOf, filling, filledLevels, Stands}
 use Rattle.terrain.specs.Inside.{Sized, besideOf, Beside}
-use Rattle.terrain.specs.Flood.{FillKept, doneOf, Reached, Spread, Above, Flooded}
-use Rattle.terrain.proofs.Neighbours.{levels-long}
+use Rattle.terrain.specs.Flood.{FillKept, Steady, doneOf, Reached, Spread, Above, Flooded}
+use Rattle.terrain.proofs.Neighbours.{level-top, levels-long}
 use Rattle.terrain.proofs.Interior.{beside-is, beside-room}
-use Rattle.terrain.proofs.Filling.{lowest-none, lowest-more, lowest-is, lowest-top, stands-beside, filling-rule}
+use Rattle.terrain.proofs.Filling.{lowest-none, lowest-more, lowest-is, lowest-top, stands-beside, filling-rule, filled-is}
 
 pub done-at : (l : List ℕ) (x : ℕ) → getD (doneOf l) x 0 ≡ min (getD l x 0) top
 unfolding doneOf
@@ -133,10 +133,21 @@ module _ {rows cols : ℕ} where
 pub start-done : {rows cols : ℕ} {ground : List ℤ} → Ready rows cols ground → (l : List ℕ) → doneOf l ≡ startOf (filling rows cols (levelsOf ground)) → FillKept rows cols ground (doneOf l)
 start-done {rows} {cols} {ground} ready l e = subst (FillKept rows cols ground) (sym e) (start-kept (filling rows cols (levelsOf ground)) (Stands rows cols ground) (filling-rule rows cols ground ready))
 
--- what a search through the words shows
-pub above-all : {rows cols : ℕ} {ground : List ℤ} → Ready rows cols ground → (l : List ℕ) → length l ≡ rows * cols → ((y : ℕ) → y < length l → getD (levelsOf ground) y 0 ≤ getD l y 0) → Above ground (doneOf l)
-above-all {ground = ground} ready l e h y lt =
-    elim (decLt 0 (getD (levelsOf ground) y 0)) [
-      | yes v ↦ omega (arith, done-at l y, h y (omega (arith, in-list (levelsOf ground) y v, levels-long ready)))
-      | no f ↦ omega arith
-    ]
+-- words of a flood in which no cell is at fault are the filled levels
+pub flood-filled : {rows cols : ℕ} {ground : List ℤ} → Ready rows cols ground → (l₀ l : List ℕ) → doneOf l₀ ≡ startOf (filling rows cols (levelsOf ground)) → Flooded rows cols l₀ l → ((x : ℕ) → x < rows * cols → Steady rows cols ground l x) → l ≡ filledLevels rows cols ground
+flood-filled {rows} {cols} {ground} ready l₀ l e f s =
+    filled-is rows cols ground ready l (subst (FillKept rows cols ground) levels kept)
+    (λ x a. s x (filling-rule rows cols ground ready .within x a) .still)
+  where
+    above : Above ground (doneOf l)
+    above y lt =
+        elim (decLt 0 (getD (levelsOf ground) y 0)) [
+          | yes v ↦ omega (arith, done-at l y, s y (omega (arith, in-list (levelsOf ground) y v, levels-long ready)) .above)
+          | no h ↦ omega arith
+        ]
+
+    kept : FillKept rows cols ground (doneOf l)
+    kept = f .kept ground ready above (start-done ready l₀ e)
+
+    levels : doneOf l ≡ l
+    levels = ext-getD 0 (doneOf l) l (done-long l) (λ x h. omega (arith, done-at l x, s x (omega (arith, kept .long)) .still, lowest-top rows cols l x 8, level-top ready x))

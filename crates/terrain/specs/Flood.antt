@@ -7,14 +7,16 @@ use Prim.Native.Nat.{ℕ, _*_, _≤_, _<_, min, max}
 use lib.ListN.{length, getD}
 use lib.IntN.{ℤ}
 use lib.Dec.{ltb}
-use Rattle.laws.specs.Settle.{Kept, Still, Sweeping, Loose, relaxedOf}
+use Rattle.laws.specs.Search.{Failing}
+use Rattle.laws.specs.Settle.{Kept, Still, Sweeping, relaxedOf}
 use Rattle.terrain.specs.Cells.{levelsOf, Ready}
 use Rattle.terrain.specs.Inside.{Sized}
 use Rattle.terrain.specs.Filled.{top, lowestOf, filling, Stands}
 
--- a count m of a cell of level v: if it is 0, the cell is no higher than its ground u and the lowest level `low` beside it allow
-pub record LooseCell (v u low m : ℕ) : Type 0 where
+-- a count m of a cell of level v: if it is 0, the cell is not below its ground u, and no higher than that and the lowest level `low` beside it allow
+pub record FaultyCell (v u low m : ℕ) : Type 0 where
   pub few : m ≤ 1
+  pub above : m ≡ 0 → u ≤ v
   pub still : m ≡ 0 → v ≤ max u low
 
 module _ (rows cols : ℕ) (ground : List ℤ) where
@@ -30,12 +32,17 @@ module _ (rows cols : ℕ) (ground : List ℤ) where
   abbrev pub FillStill : List ℕ → Type 0
   FillStill = Still (filling rows cols (levelsOf ground))
 
-  -- a sweep, and a search for cells that can be lowered
+  -- a sweep
   abbrev pub FillSweeping : List ℕ → List ℕ → ℕ → Bool → Type 0
   FillSweeping = Sweeping (filling rows cols (levelsOf ground)) (Stands rows cols ground)
 
-  abbrev pub FillLoose : List ℕ → ℕ → ℕ → ℕ → Type 0
-  FillLoose = Loose (filling rows cols (levelsOf ground))
+  -- the cell x is not below its ground, and cannot be lowered; and a search for cells of which this fails
+  pub record Steady (l : List ℕ) (x : ℕ) : Type 0 where
+    pub above : getD (levelsOf ground) x 0 ≤ getD l x 0
+    pub still : getD l x 0 ≤ offerAt l x
+
+  abbrev pub Faulty : List ℕ → ℕ → ℕ → ℕ → Type 0
+  Faulty l = Failing (Steady l)
 
   -- the cell x of l₀ was lowered, if it could be
   pub record Lowered (l₀ l : List ℕ) (x : ℕ) (lowered : Bool) : Type 0 where
