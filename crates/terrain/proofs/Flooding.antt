@@ -1,4 +1,4 @@
--- Laws of heights in words, of the search for cells that can be lowered, and of what is read off the filled levels. Assumes nothing.
+-- Laws of heights in words, of the search for cells at fault, and of what is read off the filled levels. Assumes nothing.
 use mathlib.Core.Path.{_≡_, refl, sym, ap, subst, _∙_}
 use mathlib.Core.List.{List, map}
 use mathlib.Core.Bool.{Bool}
@@ -18,7 +18,7 @@ use Rattle.laws.proofs.Search.{failing-one}
 use Rattle.terrain.specs.Quantities.{Fine}
 use Rattle.terrain.specs.Cells.{levelOf, heightOf, levelsOf, validAt, Ready}
 use Rattle.terrain.specs.Filled.{top, lowestOf, filledLevels, filledOf}
-use Rattle.terrain.specs.Flood.{LooseCell, FillLoose}
+use Rattle.terrain.specs.Flood.{FaultyCell, Faulty}
 use Rattle.terrain.specs.Trail.{validsOf}
 use Rattle.terrain.specs.Answers.{validOf}
 use Rattle.terrain.proofs.Neighbours.{sum-level, level-fine, fine-fits, difference-height, height-mag}
@@ -48,11 +48,11 @@ height-word v h = toZ-ofZ (difference-fits v h) ∙ difference-word v h
 pub ground-read : {rows cols : ℕ} {ground : List ℤ} → Ready rows cols ground → (x : ℕ) → x < rows * cols → (x < length ground) × Fine (getD ground x (pos 0))
 ground-read r x h = (omega (arith, r .long), r .fine x (omega (arith, r .long)))
 
--- ---- the search for cells that can be lowered
+-- ---- the search for cells at fault
 
 -- one cell, as the code tells
-pub cell-loose : (rows cols : ℕ) (ground : List ℤ) (l : List ℕ) (b m v u low : ℕ) → v ≡ getD l b 0 → u ≡ getD (levelsOf ground) b 0 → low ≡ lowestOf rows cols l b 8 → LooseCell v u low m → FillLoose rows cols ground l b (b + 1) m
-cell-loose rows cols ground l b m v u low p q r o = failing-one _ b m (o .few) (λ e. omega (arith, o .still e))
+pub cell-faulty : (rows cols : ℕ) (ground : List ℤ) (l : List ℕ) (b m v u low : ℕ) → v ≡ getD l b 0 → u ≡ getD (levelsOf ground) b 0 → low ≡ lowestOf rows cols l b 8 → FaultyCell v u low m → Faulty rows cols ground l b (b + 1) m
+cell-faulty rows cols ground l b m v u low p q r o = failing-one _ b m (o .few) (λ e. record { above = omega (arith, o .above e); still = omega (arith, o .still e) })
 
 -- ---- valid cells and filled heights
 

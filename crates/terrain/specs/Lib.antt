@@ -13,4 +13,3 @@ pub mod Answers
 pub mod Inside
 pub mod Flood
 pub mod Levels
-pub mod Words

@@ -103,6 +103,7 @@ pub(crate) fn beside(columns: usize, x: usize, k: usize) -> usize
 // Where the neighbour at side k of a cell x lies, if it has one there; else any place.
 pub(crate) fn around(columns: usize, x: usize, k: usize) -> usize
     requires { ⌜ (columns ≤ 1024) × (x < 1048576) × (k < 8) ⌝ }
+    ensures { λ r. ⌜ (Beside columns x k → r ≡ besideOf columns x k) ⌝ }
 {
     let place = place_of(k);
     std::num::wrapping_sub_usize(x + place / 4 * columns + place % 4, columns + 1)

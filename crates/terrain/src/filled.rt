@@ -1,9 +1,8 @@
 // Filled heights: depression filling by priority flood with buckets (Barnes, Lehman and Mulla 2014), in one word for each cell.
 // The flood gives a cell a level that is not below its lowest neighbour's; if in the end no cell is below its ground, every level
-// can stand, and a cell that nothing can lower any more has its filled level. Sweeps do what the flood should have left over.
+// can stand, and a cell that nothing can lower any more has its filled level. Sweeps start anew if that fails, which does not happen.
 // A level is a height plus 999,900, so NoData is 0, and a place off the grid reads as 0 too: a rim cell is one that sees a 0.
 ghost use mathlib.Core.Path.{_≡_};
-ghost use mathlib.Core.Bool.{true};
 ghost use mathlib.Core.List.{map};
 ghost use Prim.Native.Nat.{ℕ, _*_, _≤_, _<_};
 ghost use lib.ListN.{length, getD};
@@ -14,10 +13,8 @@ ghost use Rattle.terrain.specs.Cells.{levelsOf, heightOf, Ready};
 ghost use Rattle.terrain.specs.Inside.{Sized, Inside, RunsTo};
 ghost use Rattle.terrain.specs.Filled.{top, lowestOf, filling, filledLevels};
 ghost use Rattle.terrain.specs.Trail.{validsOf};
-ghost use Rattle.terrain.specs.Flood.{LooseCell, FillKept, FillStill, FillSweeping, FillLoose, Lowered};
-ghost use Rattle.terrain.specs.Words.{doneOf, Above, Flooded};
+ghost use Rattle.terrain.specs.Flood.{FaultyCell, Faulty, FillSweeping, Lowered, doneOf, Flooded};
 use crate::cells::beside;
-use crate::cells::is_inside;
 use crate::cells::larger;
 use crate::cells::near;
 use crate::cells::run_end;
@@ -77,17 +74,6 @@ pub(crate) fn lowest_near(rows: usize, columns: usize, level: &[u32], x: usize) 
     low
 }
 
-// The lowest level beside the cell x.
-fn lowest(rows: usize, columns: usize, level: &[u32], x: usize) -> u32
-    requires { ⌜ Sized rows columns × (length (now level) ≡ rows * columns) × (x < rows * columns) ⌝ }
-    ensures { λ r. ⌜ r ≡ lowestOf rows columns (now (level .entry)) x 8 ⌝ }
-{
-    if is_inside(rows, columns, x) {
-        return lowest_inside(columns, level, x);
-    }
-    lowest_near(rows, columns, level, x)
-}
-
 // Sets every word to where it starts from.
 fn start(ground: &[i32], words: &mut [u32])
     requires { ⌜ ((rows : ℕ) × (columns : ℕ) × Ready rows columns (now ground) × (length (now words) ≡ rows * columns)) ⌝ }
@@ -100,18 +86,21 @@ fn start(ground: &[i32], words: &mut [u32])
     }
 }
 
-// Gives the cell x, which waits, this level, if it is not below the cell's lowest neighbour.
-fn finish(rows: usize, columns: usize, words: &mut [u32], level: u32, x: usize)
-    requires { ⌜ Sized rows columns × (length (now words) ≡ rows * columns) × (x < rows * columns) × (top ≤ getD (now words) x 0) ⌝ }
+// Gives the cell x, which waits, this level, if that is not below its lowest neighbour, which is not above `low`.
+// Only a cell of the edge, around which lie cells that are no neighbours, can be below `low`.
+fn finish(rows: usize, columns: usize, words: &mut [u32], level: u32, low: u32, x: usize)
+    requires { ⌜ Sized rows columns × (length (now words) ≡ rows * columns) × (x < rows * columns) × (top ≤ getD (now words) x 0) × (lowestOf rows columns (now words) x 8 ≤ low) ⌝ }
     ensures { λ r. ⌜ Flooded rows columns (now (words .entry)) (now (words .exit)) ⌝ }
 {
-    if level < lowest(rows, columns, words, x) {
-        return;
+    if level < low {
+        if level < lowest_near(rows, columns, words, x) {
+            return;
+        }
     }
     words[x] = level;
 }
 
-// Takes the cells of the list of a level, until it is empty: each is done at this level, and its neighbours are reached.
+// Takes the cells of the list of a level, until it is empty: each reaches its neighbours, and is done at this level.
 fn drain(
     rows: usize,
     columns: usize,
@@ -130,8 +119,8 @@ fn drain(
         if words.len() <= x {
             return;
         }
-        finish(rows, columns, words, level, x);
-        spread(columns, heads, words, band, level, x);
+        let low = spread(columns, heads, words, band, level, x);
+        finish(rows, columns, words, level, low, x);
         turns += 1;
     }
 }
@@ -166,32 +155,6 @@ fn flood(rows: usize, columns: usize, words: &mut [u32])
     }
 }
 
-// Whether no cell that is done is below its ground.
-fn is_above(ground: &[i32], words: &[u32]) -> bool
-    requires { ⌜ ((rows : ℕ) × (columns : ℕ) × Ready rows columns (now ground) × (length (now words) ≡ rows * columns)) ⌝ }
-    ensures { λ r. ⌜ (r ≡ true → Above (now (ground .entry)) (doneOf (now (words .entry)))) ⌝ }
-{
-    let mut x: usize = 0;
-    while x < words.len() {
-        if words[x] < ground_level(ground, x) {
-            return false;
-        }
-        x += 1;
-    }
-    true
-}
-
-// Starts anew, if some cell that is done is below its ground, which does not happen.
-fn hold(rows: usize, columns: usize, ground: &[i32], words: &mut [u32])
-    requires { ⌜ Ready rows columns (now ground) × (length (now words) ≡ rows * columns) × (Above (now ground) (doneOf (now words)) → FillKept rows columns (now ground) (doneOf (now words))) ⌝ }
-    ensures { λ r. ⌜ FillKept rows columns (now (ground .entry)) (doneOf (now (words .exit))) ⌝ }
-{
-    if is_above(ground, words) {
-        return;
-    }
-    start(ground, words);
-}
-
 // Writes the level of each word: a cell that is not done is at the top.
 fn write_levels(words: &mut [u32])
     ensures { λ r. ⌜ now (words .exit) ≡ doneOf (now (words .entry)) ⌝ }
@@ -203,22 +166,26 @@ fn write_levels(words: &mut [u32])
     }
 }
 
-// 1 if a level can be lowered to what the ground and the lowest level beside it allow; else 0.
-fn loose(v: u32, ground: u32, low: u32) -> u32
-    ensures { λ r. ⌜ LooseCell v ground low r ⌝ }
+// 1 if a level is below its ground, or above what the ground and the lowest level beside it allow; else 0.
+fn faulty(v: u32, ground: u32, low: u32) -> u32
+    ensures { λ r. ⌜ FaultyCell v ground low r ⌝ }
 {
-    if larger(ground, low) < v { 1 } else { 0 }
+    if larger(ground, smaller(v, low)) == v {
+        0
+    } else {
+        1
+    }
 }
 
-// How many cells can be lowered in a run of cells that are inside.
-fn loose_run(columns: usize, ground: &[i32], level: &[u32], from: usize, to: usize) -> u32
+// How many cells are at fault in a run of cells that are inside.
+fn faulty_run(columns: usize, ground: &[i32], level: &[u32], from: usize, to: usize) -> u32
     requires { ⌜ ((rows : ℕ) × Ready rows columns (now ground) × (length (now level) ≡ rows * columns) × RunsTo rows columns from to) ⌝ }
-    ensures { λ r. ⌜ ((rows : ℕ) → RunsTo rows columns from to → FillLoose rows columns (now (ground .entry)) (now (level .entry)) from to r) ⌝ }
+    ensures { λ r. ⌜ ((rows : ℕ) → RunsTo rows columns from to → Faulty rows columns (now (ground .entry)) (now (level .entry)) from to r) ⌝ }
 {
     let mut sum: u32 = 0;
     let mut x = from;
     while x < to {
-        sum += loose(
+        sum += faulty(
             level[x],
             ground_level(ground, x),
             lowest_inside(columns, level, x),
@@ -228,17 +195,17 @@ fn loose_run(columns: usize, ground: &[i32], level: &[u32], from: usize, to: usi
     sum
 }
 
-// How many cells can be lowered.
-fn loose_cells(rows: usize, columns: usize, ground: &[i32], level: &[u32]) -> u32
+// How many cells are at fault.
+fn faulty_cells(rows: usize, columns: usize, ground: &[i32], level: &[u32]) -> u32
     requires { ⌜ Ready rows columns (now ground) × (length (now level) ≡ rows * columns) ⌝ }
-    ensures { λ r. ⌜ (r ≡ 0 → FillStill rows columns (now (ground .entry)) (now (level .entry))) ⌝ }
+    ensures { λ r. ⌜ Faulty rows columns (now (ground .entry)) (now (level .entry)) 0 (rows * columns) r ⌝ }
 {
     let mut sum: u32 = 0;
     let mut x: usize = 0;
     while x < level.len() {
         let end = run_end(rows, columns, x);
-        sum += loose_run(columns, ground, level, x, end);
-        sum += loose(
+        sum += faulty_run(columns, ground, level, x, end);
+        sum += faulty(
             level[end],
             ground_level(ground, end),
             lowest_near(rows, columns, level, end),
@@ -253,7 +220,10 @@ fn lower(rows: usize, columns: usize, ground: &[i32], level: &mut [u32], x: usiz
     requires { ⌜ Ready rows columns (now ground) × (length (now level) ≡ rows * columns) × (x < rows * columns) ⌝ }
     ensures { λ r. ⌜ Lowered rows columns (now (ground .entry)) (now (level .entry)) (now (level .exit)) x r ⌝ }
 {
-    let v = larger(ground_level(ground, x), lowest(rows, columns, level, x));
+    let v = larger(
+        ground_level(ground, x),
+        lowest_near(rows, columns, level, x),
+    );
     if level[x] <= v {
         return false;
     }
@@ -277,12 +247,14 @@ fn sweep(rows: usize, columns: usize, ground: &[i32], level: &mut [u32]) -> bool
     lowered
 }
 
-// Lowers until no cell can be lowered.
+// The levels of the filled heights, by sweeps alone until no cell can be lowered.
 fn settle(rows: usize, columns: usize, ground: &[i32], level: &mut [u32])
-    requires { ⌜ Ready rows columns (now ground) × FillKept rows columns (now ground) (now level) ⌝ }
+    requires { ⌜ Ready rows columns (now ground) × (length (now level) ≡ rows * columns) ⌝ }
     ensures { λ r. ⌜ now (level .exit) ≡ filledLevels rows columns (now (ground .entry)) ⌝ }
 {
-    let mut again = 0 < loose_cells(rows, columns, ground, level);
+    start(ground, level);
+    write_levels(level);
+    let mut again = true;
     while again {
         again = sweep(rows, columns, ground, level);
     }
@@ -295,9 +267,9 @@ pub(crate) fn fill(rows: usize, columns: usize, ground: &[i32], level: &mut [u32
 {
     start(ground, level);
     flood(rows, columns, level);
-    hold(rows, columns, ground, level);
-    write_levels(level);
-    settle(rows, columns, ground, level);
+    if 0 < faulty_cells(rows, columns, ground, level) {
+        settle(rows, columns, ground, level);
+    }
 }
 
 // Writes the height of each level.

@@ -13,9 +13,10 @@ ghost use Prim.Native.Nat.{_≤_, _<_, min};
 ghost use lib.ListN.{length, getD};
 ghost use lib.Dec.{ltb};
 ghost use Rattle.terrain.specs.Filled.{top};
-ghost use Rattle.terrain.specs.Words.{doneOf, Popped};
+ghost use Rattle.terrain.specs.Flood.{doneOf, Reached, Spread, Popped};
 use crate::cells::around;
 use crate::cells::larger;
+use crate::cells::smaller;
 use crate::cells::value_at;
 
 const FRESH: u32 = 1073741824;
@@ -117,23 +118,25 @@ pub(crate) fn open_band(heads: &mut [u32; 2048], words: &mut [u32], band: usize)
     }
 }
 
-// Queues the cell y, if it is fresh, at the level that its ground and a neighbour of level h allow.
-fn reach(heads: &mut [u32; 2048], words: &mut [u32], band: usize, h: u32, y: usize)
+// Queues the cell y, if it is fresh, at the level that its ground and a neighbour of level h allow. The word that it had.
+fn reach(heads: &mut [u32; 2048], words: &mut [u32], band: usize, h: u32, y: usize) -> u32
     requires { ⌜ length (now words) ≤ 1048576 ⌝ }
-    ensures { λ r. ⌜ doneOf (now (words .exit)) ≡ doneOf (now (words .entry)) ⌝ }
+    ensures { λ r. ⌜ Reached (now (words .entry)) (now (words .exit)) y r ⌝ }
 {
     let word = value_at(words, y);
     if word < FRESH {
-        return;
+        return word;
     }
     if QUEUED <= word {
-        return;
+        return word;
     }
     let level = larger(word - FRESH, h);
     push(heads, words, list_of(level, band), level, y);
+    word
 }
 
-// Reaches the neighbours of the cell x of level h. Past a side of the grid these are cells of the edge, which have been reached before.
+// Reaches the neighbours of the cell x of level h. The least word that they had: the lowest neighbour's level, if one is done.
+// Past a side of the grid these are cells of the edge, which have been reached before.
 pub(crate) fn spread(
     columns: usize,
     heads: &mut [u32; 2048],
@@ -141,15 +144,17 @@ pub(crate) fn spread(
     band: usize,
     h: u32,
     x: usize,
-)
+) -> u32
     requires { ⌜ (length (now words) ≤ 1048576) × (columns ≤ 1024) × (x < 1048576) ⌝ }
-    ensures { λ r. ⌜ doneOf (now (words .exit)) ≡ doneOf (now (words .entry)) ⌝ }
+    ensures { λ r. ⌜ Spread columns (now (words .entry)) (now (words .exit)) x 8 r ⌝ }
 {
+    let mut low = FRESH;
     let mut k: usize = 0;
     while k < 8 {
-        reach(heads, words, band, h, around(columns, x, k));
+        low = smaller(low, reach(heads, words, band, h, around(columns, x, k)));
         k += 1;
     }
+    low
 }
 
 // Reaches every step-th cell of those from `from` up to `to`.

@@ -3,8 +3,9 @@ use Prim.Native.Nat.{ℕ, _*_, _/_, _≤_}
 use mathlib.Core.Path.{subst, sym}
 use native.Mathlib.Omega.{arith}
 use native.Mathlib.Nat.{mul-le-mul-right}
-use Rattle.terrain.proofs.Interior.{place-row}
+use Rattle.terrain.proofs.Interior.{place-row, placed}
 use Rattle.terrain.proofs.Neighbours.{row-step-le}
+use Rattle.terrain.specs.Inside.{besideOf}
 use borrow.Author.Needs.{needs}
 use Rattle.terrain.proofs.cells.around.Statement.{statement}
 use Rattle.terrain.proofs.cells.around.Tie as tie
@@ -35,7 +36,8 @@ wrapping-sub-usize-requires : tie.Need-wrapping-sub-usize-requires
 wrapping-sub-usize-requires c κs = search needs
 
 returns : tie.Need-returns
-returns c = search needs
+unfolding besideOf
+returns c = λ b. let p = placed b (c .before .place-of .result) (c .before .place-of .ensures) in let d = down (c .before) in omega (arith, b .room, c .wrapping-sub-usize .ensures)
 
 pub around-spec : {M : Type 1} → statement M
 around-spec =

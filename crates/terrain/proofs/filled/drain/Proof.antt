@@ -1,6 +1,6 @@
 -- `terrain::filled::drain` meets its contract. Assumes nothing.
-use Rattle.terrain.proofs.Words.{flooded-none, flooded-then, flooded-same}
-use Rattle.terrain.specs.Words.{Flooded}
+use Rattle.terrain.proofs.Words.{flooded-none, flooded-then, flooded-same, spread-waits, spread-least}
+use Rattle.terrain.specs.Flood.{Flooded}
 use lib.ListN.{length}
 use native.Mathlib.Omega.{arith}
 use Prim.Native.Nat.{_-_}
@@ -30,17 +30,19 @@ same-length c = search needs
 returns : tie.Need-returns Inv-loop μ-loop
 returns c = c .before .before .before .before .before .loop .inv
 
-finish-requires : tie.Need-finish-requires Inv-loop μ-loop
-finish-requires c κs =
-    let s = c .before .before .before .before .before .before .before .before .before in
-    let p = c .before .before .before .before .before .before .loop in
-    (s .pre .0, p .inv .long ∙ s .pre .1, omega (arith, s .pre .1, p .inv .long), c .before .before .pop .ensures .waits (omega arith))
-
 spread-requires : tie.Need-spread-requires Inv-loop μ-loop
 spread-requires c κs =
+    let s = c .before .before .before .before .before .before .before .before .before .before in
+    let p = c .before .before .before .before .before .before .before .loop in
+    (omega (arith, s .pre .0 .small, s .pre .1, p .inv .long), s .pre .0 .cols-small, omega (arith, s .pre .0 .small, s .pre .1, p .inv .long))
+
+finish-requires : tie.Need-finish-requires Inv-loop μ-loop
+finish-requires c κs =
     let s = c .before .before .before .before .before .before .before .before .before .before .before .before .before .before in
     let p = c .before .before .before .before .before .before .before .before .before .before .before .loop in
-    (omega (arith, s .pre .0 .small, s .pre .1, p .inv .long), s .pre .0 .cols-small, omega (arith, s .pre .0 .small, s .pre .1, p .inv .long))
+    let r = c .before .before .before .spread in
+    let long = p .inv .long ∙ s .pre .1 in
+    (s .pre .0, omega (arith, long), omega (arith, long), spread-waits (r .ensures) (c .before .before .before .before .before .before .before .pop .ensures .waits (omega arith)), spread-least (r .ensures) (s .pre .0) long)
 
 add-turns : tie.Need-add-turns Inv-loop μ-loop
 add-turns c = search needs
@@ -49,7 +51,7 @@ loop-less : tie.Need-loop-less Inv-loop μ-loop
 loop-less c = search needs
 
 loop-again : tie.Need-loop-again Inv-loop μ-loop
-loop-again c = flooded-then (flooded-then (c .before .before .before .before .before .before .before .before .before .before .before .before .before .before .loop .inv) (c .before .before .before .before .before .before .before .finish .ensures)) (flooded-same (c .before .before .spread .ensures))
+loop-again c = flooded-then (flooded-then (c .before .before .before .before .before .before .before .before .before .before .before .before .before .before .loop .inv) (flooded-same (c .before .before .before .before .before .before .spread .ensures .same))) (c .before .before .finish .ensures)
 
 same-length-2 : tie.Need-same-length-2 Inv-loop μ-loop
 same-length-2 c = search needs
@@ -68,8 +70,8 @@ drain-spec =
     pop-requires
     same-length
     returns
-    finish-requires
     spread-requires
+    finish-requires
     add-turns
     loop-less
     loop-again

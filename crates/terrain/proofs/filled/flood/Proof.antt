@@ -1,6 +1,6 @@
 -- `terrain::filled::flood` meets its contract. Assumes nothing.
 use Rattle.terrain.proofs.Words.{flooded-none, flooded-then, flooded-same}
-use Rattle.terrain.specs.Words.{Flooded}
+use Rattle.terrain.specs.Flood.{Flooded}
 use native.Mathlib.Omega.{arith}
 use Prim.Native.Nat.{_-_, _≤_}
 use borrow.Author.Needs.{needs}

@@ -12,8 +12,8 @@ use Rattle.terrain.proofs.filled.lower.Tie as tie
 ground-level-requires : tie.Need-ground-level-requires
 ground-level-requires c κs = let s = c .before in ground-read (s .pre .0) (s .args .x) (s .pre .2)
 
-lowest-requires : tie.Need-lowest-requires
-lowest-requires c κs = search needs
+lowest-near-requires : tie.Need-lowest-near-requires
+lowest-near-requires c κs = search needs
 
 larger-requires : tie.Need-larger-requires
 larger-requires c κs = search needs
@@ -56,7 +56,7 @@ lower-spec =
     tie.close
     (tie.spec
     ground-level-requires
-    lowest-requires
+    lowest-near-requires
     larger-requires
     mul-if1
     slice-read-if1

@@ -2,7 +2,7 @@
 use Rattle.terrain.proofs.Words.{done-long, done-set}
 use Rattle.terrain.proofs.Flooding.{ground-read}
 use Rattle.terrain.proofs.Neighbours.{level-top}
-use Rattle.terrain.specs.Words.{doneOf}
+use Rattle.terrain.specs.Flood.{doneOf}
 use Rattle.terrain.specs.Filled.{top}
 use Rattle.terrain.specs.Cells.{levelsOf, validAt}
 use Rattle.laws.proofs.Lists.{agrees-none, agrees-more, agrees-tab}

@@ -1,6 +1,6 @@
 -- `terrain::filled::write_levels` meets its contract. Assumes nothing.
 use Rattle.terrain.proofs.Words.{done-at, done-long, done-same}
-use Rattle.terrain.specs.Words.{doneOf}
+use Rattle.terrain.specs.Flood.{doneOf}
 use Rattle.laws.proofs.Lists.{agrees-none, agrees-more}
 use Rattle.laws.specs.Lists.{Agrees}
 use lib.Seq.{ext-getD}

@@ -1,6 +1,6 @@
 -- `terrain::queue::open_band` meets its contract. Assumes nothing.
 use native.Mathlib.Omega.{arith}
-use Rattle.terrain.specs.Words.{doneOf}
+use Rattle.terrain.specs.Flood.{doneOf}
 use lib.ListN.{length}
 use Prim.Native.Nat.{_-_}
 use mathlib.Core.Path.{_≡_, _∙_}

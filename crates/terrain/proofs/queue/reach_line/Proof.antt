@@ -1,5 +1,5 @@
 -- `terrain::queue::reach_line` meets its contract. Assumes nothing.
-use Rattle.terrain.specs.Words.{doneOf}
+use Rattle.terrain.specs.Flood.{doneOf}
 use lib.ListN.{length}
 use Prim.Native.Nat.{_-_}
 use mathlib.Core.Path.{_≡_, _∙_}
@@ -26,7 +26,7 @@ loop-less : tie.Need-loop-less Inv-loop μ-loop
 loop-less c = search needs
 
 loop-again : tie.Need-loop-again Inv-loop μ-loop
-loop-again c = (c .before .before .reach .ensures ∙ c .before .before .before .before .before .before .loop .inv .0, (cc))
+loop-again c = (c .before .before .reach .ensures .same ∙ c .before .before .before .before .before .before .loop .inv .0, (cc))
 
 same-length : tie.Need-same-length Inv-loop μ-loop
 same-length c = search needs

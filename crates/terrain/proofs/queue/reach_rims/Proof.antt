@@ -1,5 +1,5 @@
 -- `terrain::queue::reach_rims` meets its contract. Assumes nothing.
-use Rattle.terrain.specs.Words.{doneOf}
+use Rattle.terrain.specs.Flood.{doneOf}
 use lib.ListN.{length}
 use Prim.Native.Nat.{_-_}
 use mathlib.Core.Path.{_≡_, _∙_}

@@ -1,20 +1,18 @@
--- `terrain::filled::loose_cells` meets its contract. Assumes nothing.
+-- `terrain::filled::faulty_cells` meets its contract. Assumes nothing.
 use Prim.Native.Nat.{_-_, _*_, _≤_}
 use mathlib.Core.Path.{_≡_, refl}
 use native.Mathlib.Omega.{arith}
 use lib.ListN.{length}
 use Rattle.laws.proofs.Search.{failing-none, failing-join}
-use Rattle.laws.proofs.Settle.{loose-still}
-use Rattle.terrain.specs.Flood.{FillLoose}
+use Rattle.terrain.specs.Flood.{Faulty}
 use Rattle.terrain.proofs.Interior.{ready-sized}
-use Rattle.terrain.proofs.Filling.{filling-rule}
-use Rattle.terrain.proofs.Flooding.{ground-read, cell-loose}
+use Rattle.terrain.proofs.Flooding.{ground-read, cell-faulty}
 use borrow.Author.Needs.{needs}
-use Rattle.terrain.proofs.filled.loose_cells.Statement.{statement}
-use Rattle.terrain.proofs.filled.loose_cells.Tie as tie
+use Rattle.terrain.proofs.filled.faulty_cells.Statement.{statement}
+use Rattle.terrain.proofs.filled.faulty_cells.Tie as tie
 
 abbrev Inv-loop : tie.InvT-loop
-Inv-loop rows columns ground level sum₀ x₀ sum x = (x ≤ length level) × FillLoose rows columns ground level 0 x sum
+Inv-loop rows columns ground level sum₀ x₀ sum x = (x ≤ length level) × Faulty rows columns ground level 0 x sum
 
 abbrev μ-loop : tie.MeasureT-loop
 μ-loop rows columns ground level sum₀ x₀ sum x = length level - x
@@ -25,20 +23,20 @@ loop-holds c = (omega arith, failing-none _ 0)
 run-end-requires : tie.Need-run-end-requires Inv-loop μ-loop
 run-end-requires c κs = let s = c .before .before .before in (ready-sized (s .pre .0), omega (arith, s .pre .1))
 
-loose-run-requires : tie.Need-loose-run-requires Inv-loop μ-loop
-loose-run-requires c κs = let s = c .before .before .before .before in (s .args .rows, s .pre .0, s .pre .1, c .run-end .ensures)
+faulty-run-requires : tie.Need-faulty-run-requires Inv-loop μ-loop
+faulty-run-requires c κs = let s = c .before .before .before .before in (s .args .rows, s .pre .0, s .pre .1, c .run-end .ensures)
 
 add-sum : tie.Need-add-sum Inv-loop μ-loop
 add-sum c =
     let s = c .before .before .before .before .before in
     let e = c .before .run-end in
-    omega (arith, c .before .before .before .loop .inv .1 .few, c .loose-run .ensures (s .args .rows) (e .ensures) .few, e .ensures .within, s .pre .0 .small)
+    omega (arith, c .before .before .before .loop .inv .1 .few, c .faulty-run .ensures (s .args .rows) (e .ensures) .few, e .ensures .within, s .pre .0 .small)
 
-mul-loose : tie.Need-mul-loose Inv-loop μ-loop
-mul-loose c = search needs
+mul-faulty : tie.Need-mul-faulty Inv-loop μ-loop
+mul-faulty c = search needs
 
-shared-slice-read-loose : tie.Need-shared-slice-read-loose Inv-loop μ-loop
-shared-slice-read-loose c = search needs
+shared-slice-read-faulty : tie.Need-shared-slice-read-faulty Inv-loop μ-loop
+shared-slice-read-faulty c = search needs
 
 ground-level-requires : tie.Need-ground-level-requires Inv-loop μ-loop
 ground-level-requires c κs = let e = c .before .before .run-end in ground-read (c .before .before .before .before .before .before .pre .0) (e .result) (e .ensures .within)
@@ -48,14 +46,14 @@ lowest-near-requires c κs =
     let s = c .before .before .before .before .before .before .before in
     (ready-sized (s .pre .0), omega (arith, c .before .before .before .run-end .ensures .within, s .pre .0 .small))
 
-loose-requires : tie.Need-loose-requires Inv-loop μ-loop
-loose-requires c κs = search needs
+faulty-requires : tie.Need-faulty-requires Inv-loop μ-loop
+faulty-requires c κs = search needs
 
 add-sum-2 : tie.Need-add-sum-2 Inv-loop μ-loop
 add-sum-2 c =
     let s = c .before .before .before .before .before .before .before .before .before in
     let e = c .before .before .before .before .before .run-end in
-    omega (arith, c .before .before .before .before .before .before .before .loop .inv .1 .few, c .before .before .before .before .loose-run .ensures (s .args .rows) (e .ensures) .few, c .loose .ensures .few, e .ensures .within, s .pre .0 .small)
+    omega (arith, c .before .before .before .before .before .before .before .loop .inv .1 .few, c .before .before .before .before .faulty-run .ensures (s .args .rows) (e .ensures) .few, c .faulty .ensures .few, e .ensures .within, s .pre .0 .small)
 
 add-x : tie.Need-add-x Inv-loop μ-loop
 add-x c = search needs
@@ -69,7 +67,7 @@ loop-again c =
     let p = c .before .before .before .before .before .before .before .loop in
     let e = c .before .before .before .before .before .run-end in (
       omega (arith, e .ensures .within, s .pre .1),
-      failing-join (failing-join (p .inv .1) (c .before .before .before .before .loose-run .ensures (s .args .rows) (e .ensures))) (cell-loose (s .args .rows) (s .args .columns) (s .args .ground .now) (s .args .level .now) (e .result) _ _ _ _ refl (c .before .before .ground-level .ensures) (c .before .lowest-near .ensures) (c .loose .ensures)),
+      failing-join (failing-join (p .inv .1) (c .before .before .before .before .faulty-run .ensures (s .args .rows) (e .ensures))) (cell-faulty (s .args .rows) (s .args .columns) (s .args .ground .now) (s .args .level .now) (e .result) _ _ _ _ refl (c .before .before .ground-level .ensures) (c .before .lowest-near .ensures) (c .faulty .ensures)),
     )
 
 returns : tie.Need-returns Inv-loop μ-loop
@@ -77,23 +75,23 @@ returns c =
     let s = c .before .before .before in
     let p = c .before .loop in
     let e : p .x ≡ s .args .rows * s .args .columns = omega (arith, s .pre .1) in
-    loose-still _ _ (filling-rule _ _ _ (s .pre .0)) _ (p .sum) (rw e at (p .inv .1))
+    rw e at (p .inv .1)
 
-pub loose-cells-spec : {M : Type 1} → statement M
-loose-cells-spec =
+pub faulty-cells-spec : {M : Type 1} → statement M
+faulty-cells-spec =
     tie.close
     (tie.spec
     Inv-loop
     μ-loop
     loop-holds
     run-end-requires
-    loose-run-requires
+    faulty-run-requires
     add-sum
-    mul-loose
-    shared-slice-read-loose
+    mul-faulty
+    shared-slice-read-faulty
     ground-level-requires
     lowest-near-requires
-    loose-requires
+    faulty-requires
     add-sum-2
     add-x
     loop-less

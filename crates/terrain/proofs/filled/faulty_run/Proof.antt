@@ -1,18 +1,18 @@
--- `terrain::filled::loose_run` meets its contract. Assumes nothing.
+-- `terrain::filled::faulty_run` meets its contract. Assumes nothing.
 use mathlib.Core.Path.{_≡_, refl, subst}
 use Prim.Native.Nat.{ℕ, _-_, _≤_}
 use native.Mathlib.Omega.{arith}
 use Rattle.laws.proofs.Search.{failing-none, failing-join}
 use Rattle.terrain.specs.Inside.{RunsTo}
-use Rattle.terrain.specs.Flood.{FillLoose}
+use Rattle.terrain.specs.Flood.{Faulty}
 use Rattle.terrain.proofs.Interior.{ready-sized}
-use Rattle.terrain.proofs.Flooding.{ground-read, cell-loose}
+use Rattle.terrain.proofs.Flooding.{ground-read, cell-faulty}
 use borrow.Author.Needs.{needs}
-use Rattle.terrain.proofs.filled.loose_run.Statement.{statement}
-use Rattle.terrain.proofs.filled.loose_run.Tie as tie
+use Rattle.terrain.proofs.filled.faulty_run.Statement.{statement}
+use Rattle.terrain.proofs.filled.faulty_run.Tie as tie
 
 abbrev Inv-loop : tie.InvT-loop
-Inv-loop columns ground level from to sum₀ x₀ sum x = (from ≤ x) × (x ≤ to) × ((rows : ℕ) → RunsTo rows columns from to → FillLoose rows columns ground level from x sum)
+Inv-loop columns ground level from to sum₀ x₀ sum x = (from ≤ x) × (x ≤ to) × ((rows : ℕ) → RunsTo rows columns from to → Faulty rows columns ground level from x sum)
 
 abbrev μ-loop : tie.MeasureT-loop
 μ-loop columns ground level from to sum₀ x₀ sum x = to - x
@@ -20,11 +20,11 @@ abbrev μ-loop : tie.MeasureT-loop
 loop-holds : tie.Need-loop-holds Inv-loop μ-loop
 loop-holds c = let s = c .before in (omega arith, s .pre .3 .from, λ rows t. failing-none _ _)
 
-mul-loose : tie.Need-mul-loose Inv-loop μ-loop
-mul-loose c = search needs
+mul-faulty : tie.Need-mul-faulty Inv-loop μ-loop
+mul-faulty c = search needs
 
-shared-slice-read-loose : tie.Need-shared-slice-read-loose Inv-loop μ-loop
-shared-slice-read-loose c = search needs
+shared-slice-read-faulty : tie.Need-shared-slice-read-faulty Inv-loop μ-loop
+shared-slice-read-faulty c = search needs
 
 ground-level-requires : tie.Need-ground-level-requires Inv-loop μ-loop
 ground-level-requires c κs = let s = c .before .before .before .before in ground-read (s .pre .1) (c .before .before .loop .x) (omega (arith, s .pre .3 .within))
@@ -35,14 +35,14 @@ lowest-inside-requires c κs =
     let p = c .before .before .before .loop in
     (s .pre .0, ready-sized (s .pre .1), s .pre .2, s .pre .3 .inside (p .x) (omega arith) (omega arith))
 
-loose-requires : tie.Need-loose-requires Inv-loop μ-loop
-loose-requires c κs = search needs
+faulty-requires : tie.Need-faulty-requires Inv-loop μ-loop
+faulty-requires c κs = search needs
 
 add-sum : tie.Need-add-sum Inv-loop μ-loop
 add-sum c =
     let s = c .before .before .before .before .before .before .before in
     let p = c .before .before .before .before .before .loop in
-    omega (arith, p .inv .2 (s .pre .0) (s .pre .3) .few, s .pre .3 .within, s .pre .1 .small, c .loose .ensures .few)
+    omega (arith, p .inv .2 (s .pre .0) (s .pre .3) .few, s .pre .3 .within, s .pre .1 .small, c .faulty .ensures .few)
 
 add-x : tie.Need-add-x Inv-loop μ-loop
 add-x c = search needs
@@ -56,7 +56,7 @@ loop-again c =
     let p = c .before .before .before .before .before .loop in (
       omega arith,
       omega arith,
-      λ rows t. failing-join (p .inv .2 rows t) (cell-loose rows (s .args .columns) (s .args .ground .now) (s .args .level .now) (p .x) _ _ _ _ refl (c .before .before .ground-level .ensures) (c .before .lowest-inside .ensures rows (t .inside (p .x) (omega arith) (omega arith))) (c .loose .ensures)),
+      λ rows t. failing-join (p .inv .2 rows t) (cell-faulty rows (s .args .columns) (s .args .ground .now) (s .args .level .now) (p .x) _ _ _ _ refl (c .before .before .ground-level .ensures) (c .before .lowest-inside .ensures rows (t .inside (p .x) (omega arith) (omega arith))) (c .faulty .ensures)),
     )
 
 returns : tie.Need-returns Inv-loop μ-loop
@@ -64,20 +64,20 @@ returns c =
     let f = c .before .before .before .args in
     let p = c .before .loop in
     let e : p .x ≡ f .to = omega arith in
-    λ rows t. subst (λ (y : ℕ). FillLoose rows (f .columns) (f .ground .now) (f .level .now) (f .from) y (p .sum)) e (p .inv .2 rows t)
+    λ rows t. subst (λ (y : ℕ). Faulty rows (f .columns) (f .ground .now) (f .level .now) (f .from) y (p .sum)) e (p .inv .2 rows t)
 
-pub loose-run-spec : {M : Type 1} → statement M
-loose-run-spec =
+pub faulty-run-spec : {M : Type 1} → statement M
+faulty-run-spec =
     tie.close
     (tie.spec
     Inv-loop
     μ-loop
     loop-holds
-    mul-loose
-    shared-slice-read-loose
+    mul-faulty
+    shared-slice-read-faulty
     ground-level-requires
     lowest-inside-requires
-    loose-requires
+    faulty-requires
     add-sum
     add-x
     loop-less
