@@ -26,11 +26,11 @@ use Rattle.terrain.proofs.Public.{passed-ready, filled-small, directions-direct
 use Rattle.factor.specs.Length.{lengthsOf}
 use Rattle.factor.specs.Grid.{factorsOf}
 use Rattle.factor.specs.Answers.{Grids, lent, judged, mapOf, answerOf, gridsOf, answer, after, accepts}
-use Rattle.factor.specs.Inner.{firstTests, lentOn}
+use Rattle.factor.specs.Inner.{firstTests}
 use Rattle.factor.specs.Pass.{Measuring}
 use Rattle.factor.specs.declared.Answer.{Answer}
 use Rattle.factor.specs.declared.Answer.the-variants.{Accepted, Refused}
-use Rattle.factor.proofs.Judging.{first-fails, first-passes, first-side, first-lengths}
+use Rattle.factor.proofs.Judging.{lentOn, first-fails, first-passes, first-side, first-lengths}
 
 -- grids that are the same one by one
 lent-same : {f f′ : List ℤ} {d d′ c c′ l l′ x x′ w w′ : List ℕ} → f ≡ f′ → d ≡ d′ → c ≡ c′ → l ≡ l′ → x ≡ x′ → w ≡ w′ → lent f d c l x w ≡ lent f′ d′ c′ l′ x′ w′

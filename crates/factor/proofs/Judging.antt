@@ -19,11 +19,15 @@ use Rattle.settings.specs.declared.Judged.{Judged}
 use Rattle.settings.specs.declared.Judged.the-variants.{Accepted, Refused}
 use Rattle.settings.specs.Settings.{rulesOf, judgedOf, settingsTest, told as testOf}
 use Rattle.settings.proofs.Verdicts.{judged-passed, judged-failed}
-use Rattle.terrain.specs.Answers.{placesOf as terrainPlaces, tests as terrainTests, judged as terrainJudged}
+use Rattle.terrain.specs.Answers.{Grids as TerrainGrids, lent as lentTerrain, placesOf as terrainPlaces, tests as terrainTests, judged as terrainJudged}
 use Rattle.factor.specs.Answers.{Grids, placesOf, tests, judged, answerOf, answer, told, accepts}
-use Rattle.factor.specs.Inner.{found, firstTests, Judges, lentOn}
+use Rattle.factor.specs.Inner.{found, firstTests, Judges}
 use Rattle.factor.specs.declared.judge.Judgement.{Judgement}
 use Rattle.factor.specs.declared.judge.Judgement.the-variants.{Sound}
+
+-- the grids that are lent on to the terrain layer: the grid of LS for its falls, and all but that of the lengths
+abbrev pub lentOn : Grids → TerrainGrids
+lentOn g = lentTerrain (g .filled) (g .direction) (g .count) (g .factors) (g .workspace)
 
 -- lengths that are all n, one by one
 all-long : (n : ℕ) (l : List ℕ) → AllLong n l → allLong n l ≡ true

@@ -1,4 +1,3 @@
-pub mod Greatest
 pub mod Tables
 pub mod Power
 pub mod Sines

@@ -5,12 +5,15 @@ use Prim.Native.Nat.{ℕ, _*_}
 use lib.ListN.{getD}
 use Rattle.laws.specs.Lists.{tab}
 use Rattle.terrain.specs.Trail.{mappedAt}
-use Rattle.factor.specs.Quantities.{noDataFactor}
 use Rattle.factor.specs.Slope.{steepnessAt}
 use Rattle.factor.specs.Cell.{factorOf}
 
+-- "LS: 4,294,967,295 NoData"
+abbrev pub noDataFactor : ℕ
+noDataFactor = 4294967295
+
 module _ (rows cols side : ℕ) (lv dir lengths : List ℕ) where
-  -- LS of the cell x: that of its steepness q and its length; "4,294,967,295 NoData"
+  -- LS of the cell x: that of its steepness q and its length
   unfoldable pub factorAt : ℕ → ℕ
   unfolding mappedAt steepnessAt factorOf
   factorAt x = cond (mappedAt rows cols dir x) (factorOf side (steepnessAt rows cols lv dir x) (getD lengths x 0)) noDataFactor

@@ -11,7 +11,6 @@ use Rattle.text.specs.Ranges.{sizeTest, lengthTest, sideTest}
 use Rattle.settings.specs.declared.Settings.{Settings}
 use Rattle.settings.specs.declared.Rules.{Rules}
 use Rattle.settings.specs.Settings.{rulesOf, settingsTest}
-use Rattle.terrain.specs.Answers.{Grids as TerrainGrids, lent as lentTerrain}
 use Rattle.factor.specs.Inflow.{cutoffFor, startLength, stepOver, amountOf}
 use Rattle.factor.specs.LengthFactor.{longest, reached}
 use Rattle.factor.specs.Answers.{Grids, placesOf}
@@ -50,13 +49,6 @@ pub record Listed (five four three two : List ℕ) : Type 0 where
   pub twos : Firsts 2 two
 
 -- ---- what a factor is worked out from
-
--- an exponent in tenths, and a length in mm that is not too long
-pub record Lookup (k mm : ℕ) (five four three two : List ℕ) : Type 0 where
-  pub least : 2 ≤ k
-  pub most : k ≤ 5
-  pub length-in : mm ≤ longest
-  pub listed : Listed five four three two
 
 -- a cell, whose length is as small as those of a map: at most 14,142 for each of 1,048,576 cells, and 5,000
 pub record Measured (side q len : ℕ) (five four three two : List ℕ) : Type 0 where
@@ -104,7 +96,3 @@ firstTests rows cols side settings ground g = sizeTest rows cols ∷ lengthTest 
 pub record Judges (rows cols side : ℕ) (settings : Settings) (ground : List ℤ) (g : Grids) (r : Judgement) : Type 0 where
   pub verdict-is : found r ≡ verdict (firstTests rows cols side settings ground g)
   pub rules-are : (rules : Rules) → r ≡ Sound rules → rules ≡ rulesOf settings
-
--- the grids that are lent on to the terrain layer: the grid of LS for its falls, and all but that of the lengths
-abbrev pub lentOn : Grids → TerrainGrids
-lentOn g = lentTerrain (g .filled) (g .direction) (g .count) (g .factors) (g .workspace)

@@ -1,9 +1,7 @@
-pub mod Quantities
 pub mod Slope
 pub mod Channel
 pub mod Inflow
 pub mod Length
-pub mod Greatest
 pub mod Exponent
 pub mod LengthFactor
 pub mod Steepness

@@ -8,7 +8,7 @@ use Rattle.settings.specs.declared.Channel.{Channel}
 use Rattle.settings.specs.declared.Channel.the-variants.{Percentage, NoChannel}
 use Rattle.settings.specs.declared.Settings.{Settings}
 use Rattle.settings.specs.Settings.{quotient, settingsTest}
-use Rattle.terrain.specs.Quantities.{noData}
+use Rattle.terrain.specs.Cells.{noData}
 use Rattle.factor.specs.Answers.{answer, after}
 use Rattle.fields.specs.Claims.{Claim, mapped, refusedAt, half, All}
 

@@ -6,11 +6,10 @@ use Prim.Native.Nat.{ℕ}
 use Rattle.settings.specs.declared.Threshold.{Threshold}
 use Rattle.settings.specs.declared.Threshold.the-variants.{Share, Over, Never}
 use Rattle.settings.specs.declared.Rules.{Rules}
-use Rattle.terrain.specs.Quantities.{noData}
+use Rattle.terrain.specs.Cells.{noData}
 use Rattle.terrain.specs.Answers.{directionOf}
-use Rattle.factor.specs.Quantities.{tooLong}
 use Rattle.factor.specs.LengthFactor.{lengthFactor}
-use Rattle.factor.specs.Cell.{factorOf}
+use Rattle.factor.specs.Cell.{tooLong, factorOf}
 use Rattle.factor.specs.Answers.{mapOf}
 use Rattle.fields.specs.Claims.{Claim, measured, reaches, factored, All}
 

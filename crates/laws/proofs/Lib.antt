@@ -12,3 +12,4 @@ pub mod Orders
 pub mod Peel
 pub mod Rings
 pub mod Handing
+pub mod Greatest

@@ -9,3 +9,4 @@ pub mod Peel
 pub mod Rings
 pub mod Handing
 pub mod Tests
+pub mod Greatest

@@ -15,8 +15,7 @@ use borrow.Author.Tests.{lt-ltb, le-ltb}
 use Rattle.laws.specs.Sums.{sumTo, when}
 use Rattle.laws.proofs.Sums.{sum-ext}
 use Rattle.laws.proofs.Search.{failing-one}
-use Rattle.terrain.specs.Quantities.{Fine}
-use Rattle.terrain.specs.Cells.{levelOf, heightOf, levelsOf, validAt, Ready}
+use Rattle.terrain.specs.Cells.{Fine, levelOf, heightOf, levelsOf, validAt, Ready}
 use Rattle.terrain.specs.Filled.{top, lowestOf, filledLevels, filledOf}
 use Rattle.terrain.specs.Flood.{FaultyCell, Faulty}
 use Rattle.terrain.specs.Trail.{validsOf}

@@ -13,12 +13,16 @@ use Rattle.laws.proofs.Tests.{two}
 use Rattle.laws.proofs.Sums.{greatest-ge, greatest-le, greatest-less, when-yes, when-no}
 use Rattle.laws.proofs.Orders.{order-cell, order-every, order-before}
 use Rattle.terrain.specs.Trail.{mappedAt, flowsAt, nextAt, stepsIn, longestOf}
-use Rattle.terrain.specs.Directed.{Directed, receiverOf, cellsOf}
+use Rattle.terrain.specs.Directed.{Directed, receiverOf}
 use Rattle.terrain.specs.Downhill.{Downhill}
 use Rattle.terrain.proofs.Trails.{mapped-none, steps-end, steps-below, rank-next, receiver-flows, receiver-stops}
 use Rattle.terrain.proofs.Receivers.{directed-falls, pointing}
 
 -- ---- the longest
+
+-- the cells of the trail from x; 0 for NoData
+unfoldable pub cellsOf : ℕ → ℕ → List ℕ → ℕ → ℕ
+cellsOf rows cols dir x = when (mappedAt rows cols dir x) (stepsIn rows cols dir (rows * cols) x + 1)
 
 -- the steps of the longest trail are one less than its cells; an empty map has 0
 longest-cells : (rows cols : ℕ) (dir : List ℕ) → greatestTo (rows * cols) (cellsOf rows cols dir) - 1 ≡ longestOf rows cols dir

@@ -20,8 +20,7 @@ use Rattle.laws.proofs.Lists.{getD-any}
 use Rattle.laws.proofs.Tests.{and-both}
 use Rattle.text.specs.Ranges.{heightAccepted}
 use Rattle.text.proofs.Accepted.{area-small}
-use Rattle.terrain.specs.Quantities.{noData, Fine}
-use Rattle.terrain.specs.Cells.{rowSteps, colSteps, cellAt, neighbour, codeOf, sideOf, Valid, levelOf, heightOf, levelsOf, validAt, rimAt, Ready}
+use Rattle.terrain.specs.Cells.{noData, Fine, rowSteps, colSteps, cellAt, neighbour, codeOf, sideOf, Valid, levelOf, heightOf, levelsOf, validAt, rimAt, Ready}
 use Rattle.terrain.specs.Surfaces.{maxZ}
 
 -- ---- the sides

@@ -2,9 +2,8 @@
 use mathlib.Core.Path.{_≡_}
 use mathlib.Core.List.{List}
 use mathlib.Core.Bool.{true, false, cond}
-use Prim.Native.Nat.{ℕ, _+_, _*_, _<_}
+use Prim.Native.Nat.{ℕ, _*_, _<_}
 use lib.ListN.{length, getD}
-use Rattle.laws.specs.Sums.{when}
 use Rattle.terrain.specs.Trail.{mappedAt, flowsAt, nextAt, stepsIn}
 use Rattle.terrain.specs.Inside.{Sized}
 
@@ -22,9 +21,3 @@ pub record Directed (rows cols : ℕ) (dir : List ℕ) : Type 0 where
 -- the cell that x points at; rows * cols, which is no cell, where it points at none
 unfoldable pub receiverOf : ℕ → ℕ → List ℕ → ℕ → ℕ
 receiverOf rows cols dir x = cond (flowsAt rows cols dir x) (nextAt rows cols dir x) (rows * cols)
-
--- ---- the cells of trails
-
--- the cells of the trail from x; 0 for NoData
-unfoldable pub cellsOf : ℕ → ℕ → List ℕ → ℕ → ℕ
-cellsOf rows cols dir x = when (mappedAt rows cols dir x) (stepsIn rows cols dir (rows * cols) x + 1)

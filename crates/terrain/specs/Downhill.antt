@@ -2,7 +2,7 @@
 use mathlib.Core.Path.{_≡_}
 use mathlib.Core.List.{List}
 use mathlib.Core.Bool.{true}
-use Prim.Native.Nat.{ℕ, _+_, _*_, _≤_, _<_}
+use Prim.Native.Nat.{ℕ, _*_, _≤_, _<_}
 use lib.ListN.{length, getD}
 use lib.Dec.{eqb}
 use Rattle.laws.specs.Sums.{sumTo, when}
@@ -28,7 +28,3 @@ pub record Awaiting (rows cols : ℕ) (dir waiting : List ℕ) (x : ℕ) : Type 
 -- the first m places are taken, the cells below the bound have been tried, and the cell in hand waits for none; rows * cols: none is in hand
 abbrev pub Peeled : ℕ → ℕ → List ℕ → List ℕ → List ℕ → ℕ → ℕ → ℕ → Type 0
 Peeled rows cols dir order waiting m bound hand = Peeling (rows * cols) (mappedAt rows cols dir) (receiverOf rows cols dir) order waiting m bound hand
-
--- the cell x is taken at the place m, whatever the bound, and another is in hand
-abbrev pub Taken : ℕ → ℕ → List ℕ → List ℕ → List ℕ → List ℕ → List ℕ → ℕ → ℕ → ℕ → Type 0
-Taken rows cols dir order waiting order′ waiting′ m x hand = (b : ℕ) → Peeled rows cols dir order waiting m b x → Peeled rows cols dir order′ waiting′ (m + 1) b hand

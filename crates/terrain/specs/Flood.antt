@@ -8,7 +8,7 @@ use lib.ListN.{length, getD}
 use lib.IntN.{ℤ}
 use lib.Dec.{ltb}
 use Rattle.laws.specs.Search.{Failing}
-use Rattle.laws.specs.Settle.{Kept, Still, Sweeping, relaxedOf}
+use Rattle.laws.specs.Settle.{Kept, Sweeping, relaxedOf}
 use Rattle.terrain.specs.Cells.{levelsOf, Ready}
 use Rattle.terrain.specs.Inside.{Sized}
 use Rattle.terrain.specs.Filled.{top, lowestOf, filling, Stands}
@@ -27,10 +27,6 @@ module _ (rows cols : ℕ) (ground : List ℤ) where
   -- every list on the way down
   abbrev pub FillKept : List ℕ → Type 0
   FillKept = Kept (filling rows cols (levelsOf ground)) (Stands rows cols ground)
-
-  -- one in which no cell can be lowered
-  abbrev pub FillStill : List ℕ → Type 0
-  FillStill = Still (filling rows cols (levelsOf ground))
 
   -- a sweep
   abbrev pub FillSweeping : List ℕ → List ℕ → ℕ → Bool → Type 0

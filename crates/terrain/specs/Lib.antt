@@ -1,4 +1,3 @@
-pub mod Quantities
 pub mod Cells
 pub mod Surfaces
 pub mod Filled

@@ -1,12 +1,12 @@
 // The valid cells in an order from the ridges down, by peeling (topological sorting, Kahn 1962): a cell is taken once every
 // cell that points at it is. No trail is a ring, so every cell's turn comes.
 ghost use mathlib.Core.Path.{_≡_};
-ghost use Prim.Native.Nat.{_+_, _*_, _<_};
+ghost use Prim.Native.Nat.{ℕ, _+_, _*_, _<_};
 ghost use lib.ListN.{length};
 ghost use lib.Dec.{eqb};
 ghost use Rattle.laws.specs.Sums.{when};
 ghost use Rattle.terrain.specs.Directed.{Directed};
-ghost use Rattle.terrain.specs.Downhill.{Downhill, Awaiting, Peeled, Taken};
+ghost use Rattle.terrain.specs.Downhill.{Downhill, Awaiting, Peeled};
 use crate::direction::NO_CODE;
 use crate::trail::receiver;
 
@@ -68,7 +68,7 @@ fn take(
     x: usize,
 ) -> usize
     requires { ⌜ Directed rows columns (now direction) × Peeled rows columns (now direction) (now order) (now waiting) place 0 x × (x < rows * columns) ⌝ }
-    ensures { λ r. ⌜ Taken rows columns (now (direction .entry)) (now (order .entry)) (now (waiting .entry)) (now (order .exit)) (now (waiting .exit)) place x r ⌝ }
+    ensures { λ r. ⌜ ((b : ℕ) → Peeled rows columns (now (direction .entry)) (now (order .entry)) (now (waiting .entry)) place b x → Peeled rows columns (now (direction .entry)) (now (order .exit)) (now (waiting .exit)) (place + 1) b r) ⌝ }
 {
     order[place] = x as u32;
     waiting[x] = SHUT;

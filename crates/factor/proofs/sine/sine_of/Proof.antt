@@ -4,7 +4,7 @@ use Prim.Native.Nat.{_+_, _*_, _/_, _≤_}
 use native.Mathlib.Nat.{mul-le-mul}
 use native.Mathlib.Omega.{arith}
 use Rattle.factor.specs.Steepness.{sineReaches}
-use Rattle.factor.proofs.Greatest.{Among, among-all, among-half, among-one}
+use Rattle.laws.proofs.Greatest.{Among, among-all, among-half, among-one}
 use Rattle.factor.proofs.Sines.{sine-falling, sine-wide}
 use Rattle.factor.proofs.sine.sine_of.Statement.{statement}
 use Rattle.factor.proofs.sine.sine_of.Tie as tie

@@ -4,7 +4,7 @@ use mathlib.Core.Bool.{Bool, true, false, cond, true≢false}
 use Prim.Native.Nat.{ℕ, zero, suc, _+_, _-_, _/_, _≤_, _<_}
 use native.Mathlib.Omega.{arith}
 use native.Mathlib.Decide.{ℕ-discrete}
-use Rattle.factor.specs.Greatest.{greatest}
+use Rattle.laws.specs.Greatest.{greatest}
 
 -- a number that passes, with none above it that does
 pub greatest-is : (p : ℕ → Bool) (n t : ℕ) → t ≤ n → (0 < t → p t ≡ true) → ((u : ℕ) → t < u → u ≤ n → p u ≡ false) → greatest p n ≡ t
