@@ -4,6 +4,7 @@ pub mod Signed
 pub mod Filling
 pub mod Lists
 pub mod Sums
+pub mod Squares
 pub mod First
 pub mod Search
 pub mod Pigeon

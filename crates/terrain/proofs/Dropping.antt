@@ -2,28 +2,25 @@
 use mathlib.Core.Path.{_≡_, refl, sym, ap, _∙_}
 use mathlib.Core.List.{List}
 use mathlib.Core.Logic.{⊎-elim}
-use mathlib.Core.Bool.{Bool, true, false, cond, _&&_}
+use mathlib.Core.Bool.{Bool, true, false, cond}
 use Prim.Native.Nat.{ℕ, _+_, _-_, _*_, _%_, _≤_, _<_}
 use native.Mathlib.Omega.{arith}
 use native.Mathlib.Decide.{decLt}
 use lib.ListN.{getD}
-use lib.Dec.{ltb}
-use borrow.Author.Tests.{lt-ltb, le-ltb, ltb-true, ltb-false}
+use borrow.Author.Tests.{lt-ltb, le-ltb}
 use Rattle.laws.specs.Lists.{tab}
 use Rattle.laws.proofs.Tests.{two}
-use Rattle.laws.proofs.Lists.{tab-ext, length-tab, getD-tab}
+use Rattle.laws.proofs.Lists.{tab-ext}
 use Rattle.laws.proofs.First.{first-top, first-holds}
 use Rattle.terrain.specs.Cells.{neighbour, codeOf, sideOf, validAt, rimAt}
 use Rattle.terrain.specs.Flat.{hasLower, flatSteps}
 use Rattle.terrain.specs.Direction.{steepSide, nearerAt, nearerSide, directionAt, directionsOf}
-use Rattle.terrain.specs.Trail.{mappedAt, flowsAt, nextAt}
-use Rattle.terrain.specs.Falls.{noFall, fallOf, dropAt, fallAt, fallsOf}
+use Rattle.terrain.specs.Falls.{fallOf, dropAt, fallAt, fallsOf}
 use Rattle.terrain.specs.Levels.{dropOf, steepestIn, sideFall, fallDownAt}
 use Rattle.terrain.proofs.Neighbours.{side-code, code-small}
 use Rattle.terrain.proofs.Flats.{lower-is}
 use Rattle.terrain.proofs.Directions.{steep-side, nearer-is, direction-at, direction-none}
 use Rattle.terrain.proofs.Trails.{is-mapped, mapped-none, code-flows, code-next, zero-stops}
-use Rattle.terrain.proofs.Falls.{steepest-is}
 
 -- no drop, no fall
 fall-flat : (k : ℕ) → fallOf k 0 ≡ 0
@@ -33,6 +30,11 @@ fall-flat k = refl
 fall-some : (k d : ℕ) → 0 < d → fallOf k d ≡ 2 * d + k % 2
 unfolding fallOf
 fall-some k d h = ap (λ (b : Bool). cond b (2 * d + k % 2) 0) (lt-ltb 0 d h)
+
+-- the drop to a lower level
+dropped : {v w : ℕ} → 0 < w → w < v → dropOf v w ≡ v - w
+unfolding dropOf
+dropped {v} {w} p q = rw (lt-ltb 0 w p, lt-ltb w v q)
 
 -- the code of a valid cell
 code-by : (valid lower rim : Bool) (down along : ℕ) {b c : Bool} → valid ≡ true → lower ≡ b → rim ≡ c → cond valid (cond lower down (cond rim 0 along)) 255 ≡ cond b down (cond c 0 along)
@@ -90,9 +92,6 @@ module _ (rows cols : ℕ) (lv : List ℕ) where
         ∙ fall-some k d (omega arith)
         ∙ ap (λ (m : ℕ). 2 * m + k % 2) (sym (dropped (l .0) (l .1)))
         )
-      where
-        dropped : {a b : ℕ} → 0 < a → a < b → dropOf b a ≡ b - a
-        dropped {a} {b} p q = rw (lt-ltb 0 a p, lt-ltb a b q)
 
     still-fall : getD dir x 255 ≤ 128 → dropAt rows cols lv dir x ≡ 0 → 0 ≡ fallAt rows cols lv dir x
     still-fall s d = sym (fall-valid x (λ q. omega arith) ∙ ap (fallOf (sideOf (getD dir x 255))) d ∙ fall-flat (sideOf (getD dir x 255)))
@@ -112,10 +111,10 @@ module _ (rows cols : ℕ) (lv : List ℕ) where
   -- ---- the grid
 
   fall-down : (x : ℕ) → x < rows * cols → fallDownAt rows cols lv x ≡ fallAt rows cols lv dir x
-  unfolding fallDownAt fallAt
+  unfolding fallDownAt steepestIn fallAt
   fall-down x h =
       elim (decLt 0 (getD lv x 0)) [
-        | yes v ↦ rw (lt-ltb 0 (getD lv x 0) v) (steepest-is rows cols lv x (sideFall rows cols lv x) ∙ ⊎-elim (λ e. rw e (lower-fall x h v e)) (λ e. rw e (flat-fall x h v e)) (two (hasLower rows cols lv x)))
+        | yes v ↦ rw (lt-ltb 0 (getD lv x 0) v) (⊎-elim (λ e. rw e (lower-fall x h v e)) (λ e. rw e (flat-fall x h v e)) (two (hasLower rows cols lv x)))
         | no f ↦ rw (le-ltb 0 (getD lv x 0) (omega arith), mapped-none rows cols dir x (direction-none rows cols lv x (omega arith)))
       ]
 

@@ -2,18 +2,20 @@
 // one step nearer. Document 01, "Filling and directions".
 ghost use mathlib.Core.Path.{_≡_};
 ghost use mathlib.Core.Bool.{true, cond, _&&_};
-ghost use Prim.Native.Nat.{ℕ, _+_, _*_, _%_, _≤_, _<_};
-ghost use lib.ListN.{length, getD, set};
+ghost use Prim.Native.Nat.{ℕ, _+_, _*_, _≤_, _<_};
+ghost use lib.ListN.{length, getD};
 ghost use lib.Dec.{eqb};
 ghost use Rattle.laws.specs.Lists.{tab};
-ghost use Rattle.terrain.specs.Cells.{neighbour, codeOf, cardinal};
+ghost use Rattle.terrain.specs.Cells.{neighbour, codeOf};
 ghost use Rattle.terrain.specs.Inside.{Sized, Inside, RunsTo};
 ghost use Rattle.terrain.specs.Flat.{flatSteps, farSteps};
 ghost use Rattle.terrain.specs.Direction.{directionsOf};
 ghost use Rattle.terrain.specs.Falls.{fallsOf};
-ghost use Rattle.terrain.specs.Levels.{Levels, dropOf, Steeper, FallTo, codeOn, fallOn, downAt, Down};
+ghost use Rattle.terrain.specs.Filled.{top};
+ghost use Rattle.terrain.specs.Levels.{Levels, dropOf, keyOf, sideKey, Chosen, codeOn, fallOn, downAt, FallTo, Down};
 use crate::cells::beside;
 use crate::cells::is_inside;
+use crate::cells::larger;
 use crate::cells::near;
 use crate::cells::run_end;
 use crate::cells::value_at;
@@ -40,22 +42,8 @@ pub(crate) fn code_of(k: usize) -> u8
     }
 }
 
-// What the square of a drop counts at side k: 2 in a cardinal direction, 1 in a diagonal one.
-fn weight(k: usize) -> u64
-    requires { ⌜ k < 8 ⌝ }
-    ensures { λ r. ⌜ r ≡ cond (cardinal k) 2 1 ⌝ }
-{
-    match k {
-        0 => 2,
-        2 => 2,
-        4 => 2,
-        6 => 2,
-        _ => 1,
-    }
-}
-
 // The drop from level v to level w; 0 where w is not lower, or is no neighbour's.
-fn drop_of(v: u32, w: u32) -> u64
+fn drop_of(v: u32, w: u32) -> u32
     ensures { λ r. ⌜ r ≡ dropOf v w ⌝ }
 {
     if w < 1 {
@@ -64,92 +52,106 @@ fn drop_of(v: u32, w: u32) -> u64
     if v <= w {
         return 0;
     }
-    (v - w) as u64
+    v - w
 }
 
-// The fall of a drop over side k.
-fn fall_over(k: usize, drop: u64) -> u32
-    requires { ⌜ drop < 2000000 ⌝ }
-    ensures { λ r. ⌜ r ≡ 2 * drop + k % 2 ⌝ }
+// The key of the drop from level v to level w at side k: greater for a greater drop, and of equal drops for an earlier side.
+fn key_of(v: u32, w: u32, k: usize) -> u32
+    requires { ⌜ (v ≤ top) × (k < 8) ⌝ }
+    ensures { λ r. ⌜ r ≡ keyOf v w k ⌝ }
 {
-    (2 * drop) as u32 + (k % 2) as u32
+    drop_of(v, w) * 256 + (255 - code_of(k) as u32)
 }
 
-// The code of a side with the steepness and the fall there; zeros for none.
+// The first number or the second, without a branch.
+fn pick(first: bool, a: u32, b: u32) -> u32
+    ensures { λ r. ⌜ r ≡ cond first a b ⌝ }
+{
+    if first { a } else { b }
+}
+
+// The code of a cell, but for flats, and its fall.
 struct Fall {
     code: u8,
-    steepness: u64,
     fall: u32,
 }
 
 impl Fall {
-    // The steeper of this and the side k with this drop; this one on a tie.
-    fn or(self, k: usize, drop: u64) -> Fall
-        requires { ⌜ (k < 8) × (drop < 2000000) ⌝ }
-        ensures { λ r. ⌜ Steeper k drop self r ⌝ }
+    // The steeper of the sides of the greatest cardinal and the greatest diagonal key.
+    fn chosen(cardinal: u32, diagonal: u32) -> Fall
+        requires { ⌜ (cardinal < 536870912) × (diagonal < 536870912) ⌝ }
+        ensures { λ r. ⌜ Chosen cardinal diagonal r ⌝ }
     {
-        let steepness = weight(k) * drop * drop;
-        if steepness <= self.steepness {
-            return self;
-        }
+        let c = (cardinal / 256) as u64;
+        let d = (diagonal / 256) as u64;
+        let straight = d * d <= 2 * (c * c);
+        let key = pick(straight, cardinal, diagonal);
         Fall {
-            code: code_of(k),
-            steepness: steepness,
-            fall: fall_over(k, drop),
+            code: (255 - key % 256) as u8,
+            fall: key / 256 * 2 + pick(straight, 0, 1),
         }
+    }
+
+    // This, or what stands for a NoData cell where the level v is that of one.
+    fn at(self, v: u32) -> Fall
+        ensures { λ r. ⌜ (r .code ≡ codeOn v self) × (r .fall ≡ fallOn v self) ⌝ }
+    {
+        if v < 1 {
+            return Fall {
+                code: NO_CODE,
+                fall: NO_FALL,
+            };
+        }
+        self
     }
 }
 
-// The steepest lower neighbour of a cell x that is inside.
-fn steepest_inside(columns: usize, level: &[u32], x: usize) -> Fall
-    requires { ⌜ ((rows : ℕ) × Levels rows columns (now level) × Inside rows columns x) ⌝ }
-    ensures { λ r. ⌜ ((rows : ℕ) → Inside rows columns x → FallTo rows columns (now (level .entry)) x 8 r) ⌝ }
+// The key of side k of a cell x that is inside.
+fn key_inside(columns: usize, level: &[u32], x: usize, k: usize) -> u32
+    requires { ⌜ ((rows : ℕ) × Levels rows columns (now level) × Inside rows columns x × (k < 8)) ⌝ }
+    ensures { λ r. ⌜ ((rows : ℕ) → Inside rows columns x → r ≡ sideKey rows columns (now (level .entry)) x k) ⌝ }
 {
-    let v = level[x];
-    let mut fall = Fall {
-        code: 0,
-        steepness: 0,
-        fall: 0,
-    };
-    let mut k: usize = 0;
-    while k < 8 {
-        fall = fall.or(k, drop_of(v, level[beside(columns, x, k)]));
-        k += 1;
-    }
-    fall
+    key_of(level[x], level[beside(columns, x, k)], k)
 }
 
 // The same of any cell x.
-fn steepest_near(rows: usize, columns: usize, level: &[u32], x: usize) -> Fall
-    requires { ⌜ Levels rows columns (now level) × (x < rows * columns) ⌝ }
-    ensures { λ r. ⌜ FallTo rows columns (now (level .entry)) x 8 r ⌝ }
+fn key_near(rows: usize, columns: usize, level: &[u32], x: usize, k: usize) -> u32
+    requires { ⌜ Levels rows columns (now level) × (x < rows * columns) × (k < 8) ⌝ }
+    ensures { λ r. ⌜ r ≡ sideKey rows columns (now (level .entry)) x k ⌝ }
 {
-    let v = level[x];
-    let mut fall = Fall {
-        code: 0,
-        steepness: 0,
-        fall: 0,
-    };
-    let mut k: usize = 0;
-    while k < 8 {
-        fall = fall.or(k, drop_of(v, value_at(level, near(rows, columns, x, k))));
-        k += 1;
-    }
-    fall
+    key_of(level[x], value_at(level, near(rows, columns, x, k)), k)
 }
 
-// Writes the code, but for flats, and the fall of a cell x with this steepest lower neighbour.
-fn write_cell(level: &[u32], direction: &mut [u8], falls: &mut [u32], x: usize, steepest: Fall)
-    requires { ⌜ (x < length (now level)) × (length (now direction) ≡ length (now level)) × (length (now falls) ≡ length (now level)) ⌝ }
-    ensures { λ _. ⌜ (now (direction .exit) ≡ set (now (direction .entry)) x (codeOn (getD (now (level .entry)) x 0) steepest)) × (now (falls .exit) ≡ set (now (falls .entry)) x (fallOn (getD (now (level .entry)) x 0) steepest)) ⌝ }
+// The code, but for flats, and the fall of a cell x that is inside.
+fn fall_inside(columns: usize, level: &[u32], x: usize) -> Fall
+    requires { ⌜ ((rows : ℕ) × Levels rows columns (now level) × Inside rows columns x) ⌝ }
+    ensures { λ r. ⌜ ((rows : ℕ) → Inside rows columns x → FallTo rows columns (now (level .entry)) x r) ⌝ }
 {
-    if level[x] < 1 {
-        direction[x] = NO_CODE;
-        falls[x] = NO_FALL;
-        return;
+    let mut cardinal: u32 = 255;
+    let mut diagonal: u32 = 255;
+    let mut i: usize = 0;
+    while i < 4 {
+        cardinal = larger(cardinal, key_inside(columns, level, x, 2 * i));
+        diagonal = larger(diagonal, key_inside(columns, level, x, 2 * i + 1));
+        i += 1;
     }
-    direction[x] = steepest.code;
-    falls[x] = steepest.fall;
+    Fall::chosen(cardinal, diagonal).at(level[x])
+}
+
+// The same of any cell x.
+fn fall_near(rows: usize, columns: usize, level: &[u32], x: usize) -> Fall
+    requires { ⌜ Levels rows columns (now level) × (x < rows * columns) ⌝ }
+    ensures { λ r. ⌜ FallTo rows columns (now (level .entry)) x r ⌝ }
+{
+    let mut cardinal: u32 = 255;
+    let mut diagonal: u32 = 255;
+    let mut i: usize = 0;
+    while i < 4 {
+        cardinal = larger(cardinal, key_near(rows, columns, level, x, 2 * i));
+        diagonal = larger(diagonal, key_near(rows, columns, level, x, 2 * i + 1));
+        i += 1;
+    }
+    Fall::chosen(cardinal, diagonal).at(level[x])
 }
 
 // Writes the codes, but for flats, and the falls of a run of cells that are inside.
@@ -166,8 +168,9 @@ fn point_run(
 {
     let mut x = from;
     while x < to {
-        let steepest = steepest_inside(columns, level, x);
-        write_cell(level, direction, falls, x, steepest);
+        let fall = fall_inside(columns, level, x);
+        direction[x] = fall.code;
+        falls[x] = fall.fall;
         x += 1;
     }
 }
@@ -181,8 +184,9 @@ fn point_down(rows: usize, columns: usize, level: &[u32], direction: &mut [u8], 
     while x < direction.len() {
         let end = run_end(rows, columns, x);
         point_run(columns, level, direction, falls, x, end);
-        let steepest = steepest_near(rows, columns, level, end);
-        write_cell(level, direction, falls, end, steepest);
+        let fall = fall_near(rows, columns, level, end);
+        direction[end] = fall.code;
+        falls[end] = fall.fall;
         x = end + 1;
     }
 }

@@ -1,8 +1,8 @@
 -- `terrain::direction::point_down` meets its contract: the cells passed have their codes but for flats, and their falls. Assumes nothing.
-use mathlib.Core.Path.{_≡_, refl, sym, _∙_}
+use mathlib.Core.Path.{_≡_, refl, _∙_}
 use Prim.Native.Nat.{_≤_, _*_, _-_}
 use native.Mathlib.Omega.{arith}
-use lib.ListN.{length}
+use lib.ListN.{length, length-set}
 use Rattle.terrain.specs.Levels.{Down}
 use Rattle.terrain.proofs.Falls.{down-none, down-more}
 use borrow.Author.Needs.{needs}
@@ -20,6 +20,10 @@ abbrev μ-loop : tie.MeasureT-loop
 abbrev start : tie.At-loop Inv-loop μ-loop → tie.Start Inv-loop μ-loop
 start c = c .before .before .before .before
 
+-- the run before a cell
+abbrev run : tie.After-fall-near Inv-loop μ-loop → tie.After-point-run Inv-loop μ-loop
+run c = c .before .before .before .before .before
+
 loop-holds : tie.Need-loop-holds Inv-loop μ-loop
 loop-holds c = let a = c .before .before .before .args in (refl, refl, omega arith, down-none (a .direction .now) (a .falls .now))
 
@@ -32,22 +36,27 @@ point-run-requires c κs =
     let s = start l in
     (s .args .rows, s .pre .0, c .before .before .run-end .ensures, l .loop .inv .0 ∙ s .pre .1, l .loop .inv .1 ∙ s .pre .2)
 
-steepest-near-requires : tie.Need-steepest-near-requires Inv-loop μ-loop
-steepest-near-requires c κs =
+fall-near-requires : tie.Need-fall-near-requires Inv-loop μ-loop
+fall-near-requires c κs =
     let e = c .before .before .before .before .before .before .before in
     (start (e .before .before) .pre .0, e .run-end .ensures .within)
 
-write-cell-requires : tie.Need-write-cell-requires Inv-loop μ-loop
-write-cell-requires c κs =
-    let r = c .before .before .before .before .before .before .before in
+slice-write-direction : tie.Need-slice-write-direction Inv-loop μ-loop
+slice-write-direction c =
+    let r = run c in
     let e = r .before .before .before in
     let l = e .before .before in
-    let s = start l in
-    let n = s .pre .0 .long in (
-      omega (arith, n, e .run-end .ensures .within),
-      r .point-run .kept .1 .1 .0 ∙ l .loop .inv .0 ∙ s .pre .1 ∙ sym n,
-      r .point-run .kept .1 .1 .1 .0 ∙ l .loop .inv .1 ∙ s .pre .2 ∙ sym n,
-    )
+    omega (arith, e .run-end .ensures .within, r .point-run .kept .1 .1 .0 ∙ l .loop .inv .0, start l .pre .1)
+
+mul-falls : tie.Need-mul-falls Inv-loop μ-loop
+mul-falls c = search needs
+
+slice-write-falls : tie.Need-slice-write-falls Inv-loop μ-loop
+slice-write-falls c =
+    let r = run c in
+    let e = r .before .before .before in
+    let l = e .before .before in
+    omega (arith, e .run-end .ensures .within, r .point-run .kept .1 .1 .1 .0 ∙ l .loop .inv .1, start l .pre .2)
 
 add-x : tie.Need-add-x Inv-loop μ-loop
 add-x c = search needs
@@ -57,18 +66,17 @@ loop-less c = search needs
 
 loop-again : tie.Need-loop-again Inv-loop μ-loop
 loop-again c =
-    let w = c .before .before .before .before in
-    let r = w .before .before .before .before .before .before .before .before in
+    let r = run c in
     let e = r .before .before .before in
     let l = e .before .before in
     let s = start l in
     let within = e .run-end .ensures .within in
     let long = r .point-run .kept .1 .1 .0 ∙ l .loop .inv .0 in
     let falls-long = r .point-run .kept .1 .1 .1 .0 ∙ l .loop .inv .1 in (
-      c .before .before .before .direction2 .given ∙ long,
-      c .before .falls2 .given ∙ falls-long,
+      rw length-set long,
+      rw length-set falls-long,
       omega (arith, within),
-      down-more (omega (arith, within, long, s .pre .1)) (omega (arith, within, falls-long, s .pre .2)) (r .point-run .ensures (s .args .rows) (e .run-end .ensures) (l .loop .inv .3)) (w .before .before .before .steepest-near .ensures) (w .write-cell .ensures),
+      down-more (omega (arith, within, long, s .pre .1)) (omega (arith, within, falls-long, s .pre .2)) (r .point-run .ensures (s .args .rows) (e .run-end .ensures) (l .loop .inv .3)) (c .fall-near .ensures) refl refl,
     )
 
 same-length : tie.Need-same-length Inv-loop μ-loop
@@ -93,8 +101,10 @@ point-down-spec =
     loop-holds
     run-end-requires
     point-run-requires
-    steepest-near-requires
-    write-cell-requires
+    fall-near-requires
+    slice-write-direction
+    mul-falls
+    slice-write-falls
     add-x
     loop-less
     loop-again

@@ -1,8 +1,8 @@
 -- `terrain::direction::point_run` meets its contract: the cells passed have their codes but for flats, and their falls. Assumes nothing.
-use mathlib.Core.Path.{_≡_, refl, sym, _∙_}
+use mathlib.Core.Path.{_≡_, refl, _∙_}
 use Prim.Native.Nat.{ℕ, _≤_, _-_}
 use native.Mathlib.Omega.{arith}
-use lib.ListN.{length}
+use lib.ListN.{length, length-set}
 use Rattle.terrain.specs.Inside.{RunsTo}
 use Rattle.terrain.specs.Levels.{Down}
 use Rattle.terrain.proofs.Falls.{down-more}
@@ -21,15 +21,17 @@ abbrev μ-loop : tie.MeasureT-loop
 loop-holds : tie.Need-loop-holds Inv-loop μ-loop
 loop-holds c = (refl, refl, omega arith, omega (arith, c .before .before .before .pre .2 .from), λ rows r g. g)
 
-steepest-inside-requires : tie.Need-steepest-inside-requires Inv-loop μ-loop
-steepest-inside-requires c κs = let s = c .before .before .before .before .before in let p = c .before .loop in (s .pre .0, s .pre .1, s .pre .2 .inside (p .x) (omega arith) (omega arith))
+fall-inside-requires : tie.Need-fall-inside-requires Inv-loop μ-loop
+fall-inside-requires c κs = let s = c .before .before .before .before .before in let p = c .before .loop in (s .pre .0, s .pre .1, s .pre .2 .inside (p .x) (omega arith) (omega arith))
 
-write-cell-requires : tie.Need-write-cell-requires Inv-loop μ-loop
-write-cell-requires c κs =
-    let s = c .before .before .before .before in
-    let p = s .loop in
-    let t = s .before .before .before .before .pre in
-    (omega (arith, t .1 .long, t .2 .within), p .inv .0 ∙ t .3 ∙ sym (t .1 .long), p .inv .1 ∙ t .4 ∙ sym (t .1 .long))
+slice-write-direction : tie.Need-slice-write-direction Inv-loop μ-loop
+slice-write-direction c = let t = c .before .before .before .before .before .before .pre in omega (arith, t .3, t .2 .within)
+
+mul-falls : tie.Need-mul-falls Inv-loop μ-loop
+mul-falls c = search needs
+
+slice-write-falls : tie.Need-slice-write-falls Inv-loop μ-loop
+slice-write-falls c = let t = c .before .before .before .before .before .before .pre in omega (arith, t .4, t .2 .within)
 
 add-x : tie.Need-add-x Inv-loop μ-loop
 add-x c = search needs
@@ -39,14 +41,13 @@ loop-less c = search needs
 
 loop-again : tie.Need-loop-again Inv-loop μ-loop
 loop-again c =
-    let w = c .before .before .before .before in
-    let p = w .before .before .before .before .before .loop in
-    let t = w .before .before .before .before .before .before .before .before .before .pre in (
-      c .before .before .before .direction .given ∙ p .inv .0,
-      c .before .falls .given ∙ p .inv .1,
+    let p = c .before .before .loop in
+    let t = c .before .before .before .before .before .before .pre in (
+      length-set (p .direction) (p .x) (c .fall-inside .result .code) ∙ p .inv .0,
+      length-set (p .falls) (p .x) (c .fall-inside .result .fall) ∙ p .inv .1,
       omega arith,
       omega arith,
-      λ rows r g. down-more (omega (arith, p .inv .0, t .3, t .2 .within)) (omega (arith, p .inv .1, t .4, t .2 .within)) (p .inv .4 rows r g) (w .before .before .before .steepest-inside .ensures rows (r .inside (p .x) (omega arith) (omega arith))) (w .write-cell .ensures),
+      λ rows r g. down-more (omega (arith, p .inv .0, t .3, t .2 .within)) (omega (arith, p .inv .1, t .4, t .2 .within)) (p .inv .4 rows r g) (c .fall-inside .ensures rows (r .inside (p .x) (omega arith) (omega arith))) refl refl,
     )
 
 same-length : tie.Need-same-length Inv-loop μ-loop
@@ -68,8 +69,10 @@ point-run-spec =
     Inv-loop
     μ-loop
     loop-holds
-    steepest-inside-requires
-    write-cell-requires
+    fall-inside-requires
+    slice-write-direction
+    mul-falls
+    slice-write-falls
     add-x
     loop-less
     loop-again
