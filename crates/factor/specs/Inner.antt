@@ -23,8 +23,6 @@ pub record Sloping (side q : ℕ) : Type 0 where
   pub side-small : side ≤ 100000
   pub steepness-small : q < 2 ^ 43
 
--- ---- lists
-
 -- a list of at most 1,000 entries that do not fall
 pub record Rising (list : List ℕ) : Type 0 where
   pub short : length list ≤ 1000
@@ -48,15 +46,11 @@ pub record Listed (five four three two : List ℕ) : Type 0 where
   pub threes : Firsts 3 three
   pub twos : Firsts 2 two
 
--- ---- what a factor is worked out from
-
 -- a cell, whose length is as small as those of a map: at most 14,142 for each of 1,048,576 cells, and 5,000
 pub record Measured (side q len : ℕ) (five four three two : List ℕ) : Type 0 where
   pub sloping : Sloping side q
   pub length-small : len < 2 ^ 36
   pub listed : Listed five four three two
-
--- ---- what lengths are worked out from
 
 -- no less than any fall, any steepness and any length: heights go from -999,900 to 900,000, and a step is at most a diagonal
 abbrev pub greatestFall : ℕ

@@ -20,7 +20,7 @@ use Rattle.terrain.specs.Cells.{neighbour, codeOf, cardinal}
 use Rattle.terrain.specs.Flat.{hasLower}
 use Rattle.terrain.specs.Falls.{noFall}
 use Rattle.terrain.specs.Direction.{steepOf, steepAt, steepestAt, steepSide}
-use Rattle.terrain.specs.Levels.{dropOf, sideKey, straight, Chosen, codeOn, fallOn, sideDrop, sideFall, steepestIn, downAt, fallDownAt, FallTo}
+use Rattle.terrain.specs.Levels.{dropOf, sideKey, straight, Chosen, sideDrop, sideFall, steepestIn, downAt, fallDownAt, FallTo}
 use Rattle.terrain.specs.declared.direction.Fall.{Fall}
 use Rattle.terrain.proofs.Neighbours.{each-side, code-small}
 use Rattle.terrain.proofs.Directions.{steepest-some, some-steepest}
@@ -208,7 +208,7 @@ module _ (rows cols : ℕ) (lv : List ℕ) (x : ℕ) where
         ]
 
     -- so of the code and the fall that are chosen, and of those that are written
-    pub fall-chosen : {a r : Fall} → Chosen c d a → (r .code ≡ codeOn (getD lv x 0) a) × (r .fall ≡ fallOn (getD lv x 0) a) → FallTo rows cols lv x r
+    pub fall-chosen : {a r : Fall} → Chosen c d a → (r .code ≡ cond (ltb 0 (getD lv x 0)) (a .code) 255) × (r .fall ≡ cond (ltb 0 (getD lv x 0)) (a .fall) noFall) → FallTo rows cols lv x r
     unfolding downAt fallDownAt
     fall-chosen {a} o e =
         record {
@@ -241,5 +241,5 @@ module _ {rows cols : ℕ} {lv : List ℕ} {x : ℕ} where
     omega (arith, key-small rows cols lv x (λ i. 2 * i + 1) n d (p .diagonal) (getD lv x 0) (λ i. drop-small (getD lv x 0) (getD lv (neighbour rows cols x (2 * i + 1)) 0))),
   )
 
-  pub keys-fall : {n c d : ℕ} {a r : Fall} → n ≡ 4 → KeysTo rows cols lv x n c d → Chosen c d a → (r .code ≡ codeOn (getD lv x 0) a) × (r .fall ≡ fallOn (getD lv x 0) a) → FallTo rows cols lv x r
+  pub keys-fall : {n c d : ℕ} {a r : Fall} → n ≡ 4 → KeysTo rows cols lv x n c d → Chosen c d a → (r .code ≡ cond (ltb 0 (getD lv x 0)) (a .code) 255) × (r .fall ≡ cond (ltb 0 (getD lv x 0)) (a .fall) noFall) → FallTo rows cols lv x r
   keys-fall {n} {c} {d} e p = let k = subst (λ (m : ℕ). KeysTo rows cols lv x m c d) e p in fall-chosen rows cols lv x (k .cardinal) (k .diagonal)

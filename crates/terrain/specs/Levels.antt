@@ -46,11 +46,6 @@ pub record Spread (rows cols : ℕ) (lv d : List ℕ) (room e : ℕ) : Type 0 wh
 abbrev pub StepsLoose : ℕ → ℕ → List ℕ → List ℕ → ℕ → ℕ → ℕ → Type 0
 StepsLoose rows cols lv = Loose (flatStepping rows cols lv)
 
--- a count m of a cell: if it is 0, its steps are no more than one more than the fewest beside it
-pub record LooseSteps (steps fewest m : ℕ) : Type 0 where
-  pub few : m ≤ 1
-  pub still : m ≡ 0 → steps ≤ fewest + 1
-
 -- the steps of the cell x were lowered, if they could be
 pub record LoweredSteps (rows cols : ℕ) (lv d₀ d : List ℕ) (x : ℕ) (lowered : Bool) : Type 0 where
   pub told : lowered ≡ ltb (nearestOf rows cols lv d₀ x 8 + 1) (getD d₀ x 0)
@@ -74,13 +69,6 @@ straight c d = leb (d / 256 * (d / 256)) (2 * (c / 256 * (c / 256)))
 pub record Chosen (c d : ℕ) (r : Fall) : Type 0 where
   pub code : r .code ≡ 255 - cond (straight c d) c d % 256
   pub fall : r .fall ≡ cond (straight c d) c d / 256 * 2 + cond (straight c d) 0 1
-
--- what is written of a cell of level v: code and fall
-abbrev pub codeOn : ℕ → Fall → ℕ
-codeOn v a = cond (ltb 0 v) (a .code) 255
-
-abbrev pub fallOn : ℕ → Fall → ℕ
-fallOn v a = cond (ltb 0 v) (a .fall) noFall
 
 module _ (rows cols : ℕ) (lv : List ℕ) where
   -- the drop over the side k of x, its key and its fall

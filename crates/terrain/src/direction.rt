@@ -4,15 +4,15 @@ ghost use mathlib.Core.Path.{_≡_};
 ghost use mathlib.Core.Bool.{true, cond, _&&_};
 ghost use Prim.Native.Nat.{ℕ, _+_, _*_, _≤_, _<_};
 ghost use lib.ListN.{length, getD};
-ghost use lib.Dec.{eqb};
+ghost use lib.Dec.{ltb, eqb};
 ghost use Rattle.laws.specs.Lists.{tab};
 ghost use Rattle.terrain.specs.Cells.{neighbour, codeOf};
 ghost use Rattle.terrain.specs.Inside.{Sized, Inside, RunsTo};
 ghost use Rattle.terrain.specs.Flat.{flatSteps, farSteps};
 ghost use Rattle.terrain.specs.Direction.{directionsOf};
-ghost use Rattle.terrain.specs.Falls.{fallsOf};
+ghost use Rattle.terrain.specs.Falls.{noFall, fallsOf};
 ghost use Rattle.terrain.specs.Filled.{top};
-ghost use Rattle.terrain.specs.Levels.{Levels, dropOf, keyOf, sideKey, Chosen, codeOn, fallOn, downAt, FallTo, Down};
+ghost use Rattle.terrain.specs.Levels.{Levels, dropOf, keyOf, sideKey, Chosen, downAt, FallTo, Down};
 use crate::cells::beside;
 use crate::cells::is_inside;
 use crate::cells::larger;
@@ -94,7 +94,7 @@ impl Fall {
 
     // This, or what stands for a NoData cell where the level v is that of one.
     fn at(self, v: u32) -> Fall
-        ensures { λ r. ⌜ (r .code ≡ codeOn v self) × (r .fall ≡ fallOn v self) ⌝ }
+        ensures { λ r. ⌜ (r .code ≡ cond (ltb 0 v) (self .code) 255) × (r .fall ≡ cond (ltb 0 v) (self .fall) noFall) ⌝ }
     {
         if v < 1 {
             return Fall {
