@@ -154,17 +154,6 @@ fn flood(rows: usize, columns: usize, words: &mut [u32])
     }
 }
 
-// Writes the level of each word: a cell that is not done is at the top.
-fn write_levels(words: &mut [u32])
-    ensures { λ r. ⌜ now (words .exit) ≡ doneOf (now (words .entry)) ⌝ }
-{
-    let mut x: usize = 0;
-    while x < words.len() {
-        words[x] = smaller(words[x], UNREACHED);
-        x += 1;
-    }
-}
-
 // 1 if a level is below its ground, or above what the ground and the lowest level beside it allow; else 0.
 fn faulty(v: u32, ground: u32, low: u32) -> u32
     ensures { λ r. ⌜ FaultyCell v ground low r ⌝ }
@@ -246,13 +235,24 @@ fn sweep(rows: usize, columns: usize, ground: &[i32], level: &mut [u32]) -> bool
     lowered
 }
 
+// Sets every level to where sweeps start from.
+fn restart(ground: &[i32], level: &mut [u32])
+    requires { ⌜ ((rows : ℕ) × (columns : ℕ) × Ready rows columns (now ground) × (length (now level) ≡ rows * columns)) ⌝ }
+    ensures { λ r. ⌜ ((rows columns : ℕ) → length (now (level .entry)) ≡ rows * columns → now (level .exit) ≡ startOf (filling rows columns (levelsOf (now (ground .entry))))) ⌝ }
+{
+    let mut x: usize = 0;
+    while x < level.len() {
+        level[x] = smaller(start_word(ground_level(ground, x)), UNREACHED);
+        x += 1;
+    }
+}
+
 // The levels of the filled heights, by sweeps alone until no cell can be lowered.
 fn settle(rows: usize, columns: usize, ground: &[i32], level: &mut [u32])
     requires { ⌜ Ready rows columns (now ground) × (length (now level) ≡ rows * columns) ⌝ }
     ensures { λ r. ⌜ now (level .exit) ≡ filledLevels rows columns (now (ground .entry)) ⌝ }
 {
-    start(ground, level);
-    write_levels(level);
+    restart(ground, level);
     let mut again = true;
     while again {
         again = sweep(rows, columns, ground, level);

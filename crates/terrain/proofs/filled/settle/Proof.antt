@@ -4,12 +4,11 @@ use mathlib.Core.Bool.{true≢false}
 use Prim.Native.Nat.{_+_}
 use Rattle.laws.specs.Lists.{total}
 use Rattle.laws.specs.Settle.{dueOf, Settling}
-use Rattle.laws.proofs.Settle.{settling-less, settling-more}
+use Rattle.laws.proofs.Settle.{start-kept, settling-less, settling-more}
 use Rattle.terrain.specs.Cells.{levelsOf}
 use Rattle.terrain.specs.Filled.{filling, Stands}
 use Rattle.terrain.specs.Flood.{FillKept}
 use Rattle.terrain.proofs.Filling.{filling-rule, filled-is}
-use Rattle.terrain.proofs.Words.{start-done}
 use borrow.Author.Needs.{needs}
 use Rattle.terrain.proofs.filled.settle.Statement.{statement}
 use Rattle.terrain.proofs.filled.settle.Tie as tie
@@ -20,41 +19,38 @@ Inv-loop rows columns ground level₀ again₀ level again = Settling (filling r
 abbrev μ-loop : tie.MeasureT-loop
 μ-loop rows columns ground level₀ again₀ level again = total level + dueOf again
 
-start-requires : tie.Need-start-requires Inv-loop μ-loop
-start-requires c κs = search needs
-
-write-levels-requires : tie.Need-write-levels-requires Inv-loop μ-loop
-write-levels-requires c κs = search needs
+restart-requires : tie.Need-restart-requires Inv-loop μ-loop
+restart-requires c κs = search needs
 
 loop-holds : tie.Need-loop-holds Inv-loop μ-loop
 loop-holds c =
-    let s = c .before .before .before .before .before .before .before .before .before in
-    let e = c .before .before .before .before .before .before .start .ensures (s .args .rows) (s .args .columns) (s .pre .1) in
+    let s = c .before .before .before .before .before in
+    let e = c .before .before .restart .ensures (s .args .rows) (s .args .columns) (s .pre .1) in
     record {
-      kept = subst (FillKept (s .args .rows) (s .args .columns) (s .args .ground .now)) (sym (c .before .before .write-levels .ensures)) (start-done (s .pre .0) _ e);
+      kept = subst (FillKept (s .args .rows) (s .args .columns) (s .args .ground .now)) (sym e) (start-kept _ _ (filling-rule _ _ _ (s .pre .0)));
       still = (λ f. absurd (true≢false f));
     }
 
 sweep-requires : tie.Need-sweep-requires Inv-loop μ-loop
-sweep-requires c κs = (c .before .before .before .before .before .before .before .before .before .before .before .before .pre .0, c .before .before .loop .inv .kept .long)
+sweep-requires c κs = (c .before .before .before .before .before .before .before .before .pre .0, c .before .before .loop .inv .kept .long)
 
 loop-less : tie.Need-loop-less Inv-loop μ-loop
 loop-less c =
     let r = c .before .before .sweep in
-    settling-less _ _ (filling-rule _ _ _ (c .before .before .before .before .before .before .before .before .before .before .before .before .before .before .before .pre .0)) _ _ (r .result) (c .before .before .before .before .before .loop .again) (c .before .before .before .before .loop-test .taken) (r .ensures)
+    settling-less _ _ (filling-rule _ _ _ (c .before .before .before .before .before .before .before .before .before .before .before .pre .0)) _ _ (r .result) (c .before .before .before .before .before .loop .again) (c .before .before .before .before .loop-test .taken) (r .ensures)
 
 loop-again : tie.Need-loop-again Inv-loop μ-loop
 loop-again c =
     let r = c .before .before .sweep in
-    settling-more _ _ (filling-rule _ _ _ (c .before .before .before .before .before .before .before .before .before .before .before .before .before .before .before .pre .0)) _ _ (r .result) (c .before .before .before .before .before .loop .inv .kept) (r .ensures)
+    settling-more _ _ (filling-rule _ _ _ (c .before .before .before .before .before .before .before .before .before .before .before .pre .0)) _ _ (r .result) (c .before .before .before .before .before .loop .inv .kept) (r .ensures)
 
 same-length : tie.Need-same-length Inv-loop μ-loop
-same-length c = c .before .loop .inv .kept .long ∙ sym (c .before .before .before .before .before .before .before .before .before .before .before .pre .1)
+same-length c = c .before .loop .inv .kept .long ∙ sym (c .before .before .before .before .before .before .before .pre .1)
 
 returns : tie.Need-returns Inv-loop μ-loop
 returns c =
     let p = c .before .loop in
-    filled-is _ _ _ (c .before .before .before .before .before .before .before .before .before .before .before .pre .0) (p .level) (p .inv .kept) (p .inv .still (c .loop-test .left))
+    filled-is _ _ _ (c .before .before .before .before .before .before .before .pre .0) (p .level) (p .inv .kept) (p .inv .still (c .loop-test .left))
 
 pub settle-spec : {M : Type 1} → statement M
 settle-spec =
@@ -62,8 +58,7 @@ settle-spec =
     (tie.spec
     Inv-loop
     μ-loop
-    start-requires
-    write-levels-requires
+    restart-requires
     loop-holds
     sweep-requires
     loop-less
