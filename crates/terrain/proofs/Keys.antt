@@ -89,8 +89,8 @@ module _ (rows cols : ℕ) (lv : List ℕ) (x : ℕ) where
     key-is h = let g = greatest-is n (λ i. key (s i)) (omega arith) in (g .0, g .1, omega (arith, g .2))
 
     -- that of the first side of those that drop as much
-    key-first : (i j : ℕ) → i < n → m ≡ key (s i) → s i < 8 → j < n → s j < s i → drop (s j) < drop (s i)
-    key-first i j h e b l q = omega (arith, greatest-ge n (λ i. key (s i)) j l, code-rises (s j) (s i) b q, code-small (s i))
+    key-first : (i j : ℕ) → m ≡ key (s i) → s i < 8 → j < n → s j < s i → drop (s j) < drop (s i)
+    key-first i j e b l q = omega (arith, greatest-ge n (λ i. key (s i)) j l, code-rises (s j) (s i) b q, code-small (s i))
 
     key-small : (v : ℕ) → ((i : ℕ) → drop (s i) ≤ v) → m ≤ v * 256 + 255
     key-small v h = omega (arith, greatest-le n (λ i. key (s i)) (v * 256 + 255) (λ i l. omega (arith, h i)))
@@ -152,7 +152,7 @@ module _ (rows cols : ℕ) (lv : List ℕ) (x : ℕ) where
         (by-parity (λ j. (steep j ≤ steep (2 * i)) × (j < 2 * i → steep j < steep (2 * i)))
         (λ j l. (
           let a : drop (2 * j) ≤ drop (2 * i) = omega (arith, c-over j l, key-drop (2 * i) c e) in omega (arith, steep-cardinal i, steep-cardinal j, mul-le-mul a a),
-          λ b. omega (arith, steep-cardinal i, steep-cardinal j, square-less (key-first (λ i. 2 * i) 4 c p i j h e (omega arith) l b)),
+          λ b. omega (arith, steep-cardinal i, steep-cardinal j, square-less (key-first (λ i. 2 * i) 4 c p i j e (omega arith) l b)),
         ))
         (λ j l.
         let a = d-over j l in
@@ -171,7 +171,7 @@ module _ (rows cols : ℕ) (lv : List ℕ) (x : ℕ) where
         (λ j l. let a = c-over j l in (omega (arith, steep-diagonal i, steep-cardinal j, mul-le-mul a a), λ b. omega (arith, steep-diagonal i, steep-cardinal j, mul-le-mul a a)))
         (λ j l. (
           let a : drop (2 * j + 1) ≤ drop (2 * i + 1) = omega (arith, d-over j l, key-drop (2 * i + 1) d e) in omega (arith, steep-diagonal i, steep-diagonal j, mul-le-mul a a),
-          λ b. omega (arith, steep-diagonal i, steep-diagonal j, square-less (key-first (λ i. 2 * i + 1) 4 d q i j h e (omega arith) l b)),
+          λ b. omega (arith, steep-diagonal i, steep-diagonal j, square-less (key-first (λ i. 2 * i + 1) 4 d q i j e (omega arith) l b)),
         )))
 
     -- none

@@ -106,49 +106,41 @@ impl Fall {
     }
 }
 
-// The key of side k of a cell x that is inside.
-fn key_inside(columns: usize, level: &[u32], x: usize, k: usize) -> u32
-    requires { ⌜ ((rows : ℕ) × Levels rows columns (now level) × Inside rows columns x × (k < 8)) ⌝ }
-    ensures { λ r. ⌜ ((rows : ℕ) → Inside rows columns x → r ≡ sideKey rows columns (now (level .entry)) x k) ⌝ }
+// The neighbour at side k of a cell x that is inside, or not.
+fn neighbour(rows: usize, columns: usize, x: usize, k: usize, inside: bool) -> usize
+    requires { ⌜ Sized rows columns × (x < rows * columns) × (k < 8) × (inside ≡ true → Inside rows columns x) ⌝ }
+    ensures { λ r. ⌜ r ≡ neighbour rows columns x k ⌝ }
 {
-    key_of(level[x], level[beside(columns, x, k)], k)
+    if inside {
+        return beside(columns, x, k);
+    }
+    near(rows, columns, x, k)
 }
 
-// The same of any cell x.
-fn key_near(rows: usize, columns: usize, level: &[u32], x: usize, k: usize) -> u32
-    requires { ⌜ Levels rows columns (now level) × (x < rows * columns) × (k < 8) ⌝ }
+// The key of side k of a cell x that is inside, or not.
+fn key_at(rows: usize, columns: usize, level: &[u32], x: usize, k: usize, inside: bool) -> u32
+    requires { ⌜ Levels rows columns (now level) × (x < rows * columns) × (k < 8) × (inside ≡ true → Inside rows columns x) ⌝ }
     ensures { λ r. ⌜ r ≡ sideKey rows columns (now (level .entry)) x k ⌝ }
 {
-    key_of(level[x], value_at(level, near(rows, columns, x, k)), k)
-}
-
-// The code, but for flats, and the fall of a cell x that is inside.
-fn fall_inside(columns: usize, level: &[u32], x: usize) -> Fall
-    requires { ⌜ ((rows : ℕ) × Levels rows columns (now level) × Inside rows columns x) ⌝ }
-    ensures { λ r. ⌜ ((rows : ℕ) → Inside rows columns x → FallTo rows columns (now (level .entry)) x r) ⌝ }
-{
-    let mut cardinal: u32 = 255;
-    let mut diagonal: u32 = 255;
-    let mut i: usize = 0;
-    while i < 4 {
-        cardinal = larger(cardinal, key_inside(columns, level, x, 2 * i));
-        diagonal = larger(diagonal, key_inside(columns, level, x, 2 * i + 1));
-        i += 1;
+    let v = level[x];
+    let y = neighbour(rows, columns, x, k, inside);
+    if inside {
+        return key_of(v, level[y], k);
     }
-    Fall::chosen(cardinal, diagonal).at(level[x])
+    key_of(v, value_at(level, y), k)
 }
 
-// The same of any cell x.
-fn fall_near(rows: usize, columns: usize, level: &[u32], x: usize) -> Fall
-    requires { ⌜ Levels rows columns (now level) × (x < rows * columns) ⌝ }
+// The code, but for flats, and the fall of a cell x that is inside, or not.
+fn fall_at(rows: usize, columns: usize, level: &[u32], x: usize, inside: bool) -> Fall
+    requires { ⌜ Levels rows columns (now level) × (x < rows * columns) × (inside ≡ true → Inside rows columns x) ⌝ }
     ensures { λ r. ⌜ FallTo rows columns (now (level .entry)) x r ⌝ }
 {
     let mut cardinal: u32 = 255;
     let mut diagonal: u32 = 255;
     let mut i: usize = 0;
     while i < 4 {
-        cardinal = larger(cardinal, key_near(rows, columns, level, x, 2 * i));
-        diagonal = larger(diagonal, key_near(rows, columns, level, x, 2 * i + 1));
+        cardinal = larger(cardinal, key_at(rows, columns, level, x, 2 * i, inside));
+        diagonal = larger(diagonal, key_at(rows, columns, level, x, 2 * i + 1, inside));
         i += 1;
     }
     Fall::chosen(cardinal, diagonal).at(level[x])
@@ -156,6 +148,7 @@ fn fall_near(rows: usize, columns: usize, level: &[u32], x: usize) -> Fall
 
 // Writes the codes, but for flats, and the falls of a run of cells that are inside.
 fn point_run(
+    rows: usize,
     columns: usize,
     level: &[u32],
     direction: &mut [u8],
@@ -163,12 +156,12 @@ fn point_run(
     from: usize,
     to: usize,
 )
-    requires { ⌜ ((rows : ℕ) × Levels rows columns (now level) × RunsTo rows columns from to × (length (now direction) ≡ rows * columns) × (length (now falls) ≡ rows * columns)) ⌝ }
-    ensures { λ r. ⌜ ((rows : ℕ) → RunsTo rows columns from to → Down rows columns (now (level .entry)) (now (direction .entry)) (now (falls .entry)) from → Down rows columns (now (level .entry)) (now (direction .exit)) (now (falls .exit)) to) ⌝ }
+    requires { ⌜ Levels rows columns (now level) × RunsTo rows columns from to × (length (now direction) ≡ rows * columns) × (length (now falls) ≡ rows * columns) × Down rows columns (now level) (now direction) (now falls) from ⌝ }
+    ensures { λ r. ⌜ Down rows columns (now (level .entry)) (now (direction .exit)) (now (falls .exit)) to ⌝ }
 {
     let mut x = from;
     while x < to {
-        let fall = fall_inside(columns, level, x);
+        let fall = fall_at(rows, columns, level, x, true);
         direction[x] = fall.code;
         falls[x] = fall.fall;
         x += 1;
@@ -183,23 +176,12 @@ fn point_down(rows: usize, columns: usize, level: &[u32], direction: &mut [u8], 
     let mut x: usize = 0;
     while x < direction.len() {
         let end = run_end(rows, columns, x);
-        point_run(columns, level, direction, falls, x, end);
-        let fall = fall_near(rows, columns, level, end);
+        point_run(rows, columns, level, direction, falls, x, end);
+        let fall = fall_at(rows, columns, level, end, false);
         direction[end] = fall.code;
         falls[end] = fall.fall;
         x = end + 1;
     }
-}
-
-// The neighbour at side k of a cell x that is inside, or not.
-fn neighbour(rows: usize, columns: usize, x: usize, k: usize, inside: bool) -> usize
-    requires { ⌜ Sized rows columns × (x < rows * columns) × (k < 8) × (inside ≡ true → Inside rows columns x) ⌝ }
-    ensures { λ r. ⌜ r ≡ neighbour rows columns x k ⌝ }
-{
-    if inside {
-        return beside(columns, x, k);
-    }
-    near(rows, columns, x, k)
 }
 
 // Whether the neighbour y of the cell x has the same level and is one step nearer.

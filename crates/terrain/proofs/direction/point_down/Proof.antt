@@ -1,5 +1,6 @@
 -- `terrain::direction::point_down` meets its contract: the cells passed have their codes but for flats, and their falls. Assumes nothing.
-use mathlib.Core.Path.{_≡_, refl, _∙_}
+use mathlib.Core.Path.{_≡_, refl, sym, _∙_}
+use mathlib.Core.Bool.{true≢false}
 use Prim.Native.Nat.{_≤_, _*_, _-_}
 use native.Mathlib.Omega.{arith}
 use lib.ListN.{length, length-set}
@@ -21,7 +22,7 @@ abbrev start : tie.At-loop Inv-loop μ-loop → tie.Start Inv-loop μ-loop
 start c = c .before .before .before .before
 
 -- the run before a cell
-abbrev run : tie.After-fall-near Inv-loop μ-loop → tie.After-point-run Inv-loop μ-loop
+abbrev run : tie.After-fall-at Inv-loop μ-loop → tie.After-point-run Inv-loop μ-loop
 run c = c .before .before .before .before .before
 
 loop-holds : tie.Need-loop-holds Inv-loop μ-loop
@@ -34,19 +35,19 @@ point-run-requires : tie.Need-point-run-requires Inv-loop μ-loop
 point-run-requires c κs =
     let l = c .before .before .before .before in
     let s = start l in
-    (s .args .rows, s .pre .0, c .before .before .run-end .ensures, l .loop .inv .0 ∙ s .pre .1, l .loop .inv .1 ∙ s .pre .2)
+    (s .pre .0, c .before .before .run-end .ensures, l .loop .inv .0 ∙ s .pre .1, l .loop .inv .1 ∙ s .pre .2, l .loop .inv .3)
 
-fall-near-requires : tie.Need-fall-near-requires Inv-loop μ-loop
-fall-near-requires c κs =
+fall-at-requires : tie.Need-fall-at-requires Inv-loop μ-loop
+fall-at-requires c κs =
     let e = c .before .before .before .before .before .before .before in
-    (start (e .before .before) .pre .0, e .run-end .ensures .within)
+    (start (e .before .before) .pre .0, e .run-end .ensures .within, λ b. absurd (true≢false (sym b)))
 
 slice-write-direction : tie.Need-slice-write-direction Inv-loop μ-loop
 slice-write-direction c =
     let r = run c in
     let e = r .before .before .before in
     let l = e .before .before in
-    omega (arith, e .run-end .ensures .within, r .point-run .kept .1 .1 .0 ∙ l .loop .inv .0, start l .pre .1)
+    omega (arith, e .run-end .ensures .within, r .point-run .kept .1 .1 .1 .0 ∙ l .loop .inv .0, start l .pre .1)
 
 mul-falls : tie.Need-mul-falls Inv-loop μ-loop
 mul-falls c = search needs
@@ -56,7 +57,7 @@ slice-write-falls c =
     let r = run c in
     let e = r .before .before .before in
     let l = e .before .before in
-    omega (arith, e .run-end .ensures .within, r .point-run .kept .1 .1 .1 .0 ∙ l .loop .inv .1, start l .pre .2)
+    omega (arith, e .run-end .ensures .within, r .point-run .kept .1 .1 .1 .1 .0 ∙ l .loop .inv .1, start l .pre .2)
 
 add-x : tie.Need-add-x Inv-loop μ-loop
 add-x c = search needs
@@ -71,12 +72,12 @@ loop-again c =
     let l = e .before .before in
     let s = start l in
     let within = e .run-end .ensures .within in
-    let long = r .point-run .kept .1 .1 .0 ∙ l .loop .inv .0 in
-    let falls-long = r .point-run .kept .1 .1 .1 .0 ∙ l .loop .inv .1 in (
+    let long = r .point-run .kept .1 .1 .1 .0 ∙ l .loop .inv .0 in
+    let falls-long = r .point-run .kept .1 .1 .1 .1 .0 ∙ l .loop .inv .1 in (
       rw length-set long,
       rw length-set falls-long,
       omega (arith, within),
-      down-more (omega (arith, within, long, s .pre .1)) (omega (arith, within, falls-long, s .pre .2)) (r .point-run .ensures (s .args .rows) (e .run-end .ensures) (l .loop .inv .3)) (c .fall-near .ensures) refl refl,
+      down-more (omega (arith, within, long, s .pre .1)) (omega (arith, within, falls-long, s .pre .2)) (r .point-run .ensures) (c .fall-at .ensures) refl refl,
     )
 
 same-length : tie.Need-same-length Inv-loop μ-loop
@@ -101,7 +102,7 @@ point-down-spec =
     loop-holds
     run-end-requires
     point-run-requires
-    fall-near-requires
+    fall-at-requires
     slice-write-direction
     mul-falls
     slice-write-falls

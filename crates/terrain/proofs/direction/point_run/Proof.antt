@@ -1,9 +1,8 @@
 -- `terrain::direction::point_run` meets its contract: the cells passed have their codes but for flats, and their falls. Assumes nothing.
-use mathlib.Core.Path.{_≡_, refl, _∙_}
-use Prim.Native.Nat.{ℕ, _≤_, _-_}
+use mathlib.Core.Path.{_≡_, refl}
+use Prim.Native.Nat.{_≤_, _-_}
 use native.Mathlib.Omega.{arith}
 use lib.ListN.{length, length-set}
-use Rattle.terrain.specs.Inside.{RunsTo}
 use Rattle.terrain.specs.Levels.{Down}
 use Rattle.terrain.proofs.Falls.{down-more}
 use borrow.Author.Needs.{needs}
@@ -11,27 +10,26 @@ use Rattle.terrain.proofs.direction.point_run.Statement.{statement}
 use Rattle.terrain.proofs.direction.point_run.Tie as tie
 
 abbrev Inv-loop : tie.InvT-loop
-Inv-loop columns level direction₀ falls₀ from to x₀ direction falls x =
-    (length direction ≡ length direction₀) × (length falls ≡ length falls₀) × (from ≤ x) × (x ≤ to)
-    × ((rows : ℕ) → RunsTo rows columns from to → Down rows columns level direction₀ falls₀ from → Down rows columns level direction falls x)
+Inv-loop rows columns level direction₀ falls₀ from to x₀ direction falls x =
+    (length direction ≡ length direction₀) × (length falls ≡ length falls₀) × (from ≤ x) × (x ≤ to) × Down rows columns level direction falls x
 
 abbrev μ-loop : tie.MeasureT-loop
-μ-loop columns level direction₀ falls₀ from to x₀ direction falls x = to - x
+μ-loop rows columns level direction₀ falls₀ from to x₀ direction falls x = to - x
 
 loop-holds : tie.Need-loop-holds Inv-loop μ-loop
-loop-holds c = (refl, refl, omega arith, omega (arith, c .before .before .before .pre .2 .from), λ rows r g. g)
+loop-holds c = let t = c .before .before .before .pre in (refl, refl, omega arith, omega (arith, t .1 .from), t .4)
 
-fall-inside-requires : tie.Need-fall-inside-requires Inv-loop μ-loop
-fall-inside-requires c κs = let s = c .before .before .before .before .before in let p = c .before .loop in (s .pre .0, s .pre .1, s .pre .2 .inside (p .x) (omega arith) (omega arith))
+fall-at-requires : tie.Need-fall-at-requires Inv-loop μ-loop
+fall-at-requires c κs = let t = c .before .before .before .before .before .pre in (t .0, omega (arith, t .1 .within), λ _. t .1 .inside (c .before .loop .x) (omega arith) (omega arith))
 
 slice-write-direction : tie.Need-slice-write-direction Inv-loop μ-loop
-slice-write-direction c = let t = c .before .before .before .before .before .before .pre in omega (arith, t .3, t .2 .within)
+slice-write-direction c = let t = c .before .before .before .before .before .before .pre in omega (arith, t .2, t .1 .within)
 
 mul-falls : tie.Need-mul-falls Inv-loop μ-loop
 mul-falls c = search needs
 
 slice-write-falls : tie.Need-slice-write-falls Inv-loop μ-loop
-slice-write-falls c = let t = c .before .before .before .before .before .before .pre in omega (arith, t .4, t .2 .within)
+slice-write-falls c = let t = c .before .before .before .before .before .before .pre in omega (arith, t .3, t .1 .within)
 
 add-x : tie.Need-add-x Inv-loop μ-loop
 add-x c = search needs
@@ -43,11 +41,11 @@ loop-again : tie.Need-loop-again Inv-loop μ-loop
 loop-again c =
     let p = c .before .before .loop in
     let t = c .before .before .before .before .before .before .pre in (
-      length-set (p .direction) (p .x) (c .fall-inside .result .code) ∙ p .inv .0,
-      length-set (p .falls) (p .x) (c .fall-inside .result .fall) ∙ p .inv .1,
+      rw length-set (p .inv .0),
+      rw length-set (p .inv .1),
       omega arith,
       omega arith,
-      λ rows r g. down-more (omega (arith, p .inv .0, t .3, t .2 .within)) (omega (arith, p .inv .1, t .4, t .2 .within)) (p .inv .4 rows r g) (c .fall-inside .ensures rows (r .inside (p .x) (omega arith) (omega arith))) refl refl,
+      down-more (omega (arith, p .inv .0, t .2, t .1 .within)) (omega (arith, p .inv .1, t .3, t .1 .within)) (p .inv .4) (c .fall-at .ensures) refl refl,
     )
 
 same-length : tie.Need-same-length Inv-loop μ-loop
@@ -60,7 +58,7 @@ returns : tie.Need-returns Inv-loop μ-loop
 returns c =
     let p = c .before .loop in
     let e : p .x ≡ c .before .before .before .before .before .args .to = omega arith in
-    λ rows r g. rw e at (p .inv .4 rows r g)
+    rw e at (p .inv .4)
 
 pub point-run-spec : {M : Type 1} → statement M
 point-run-spec =
@@ -69,7 +67,7 @@ point-run-spec =
     Inv-loop
     μ-loop
     loop-holds
-    fall-inside-requires
+    fall-at-requires
     slice-write-direction
     mul-falls
     slice-write-falls

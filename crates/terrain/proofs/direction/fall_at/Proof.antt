@@ -1,38 +1,38 @@
--- `terrain::direction::fall_near` meets its contract: the greatest keys of the sides passed. Assumes nothing.
+-- `terrain::direction::fall_at` meets its contract: the greatest keys of the sides passed. Assumes nothing.
 use mathlib.Core.Path.{_≡_, refl, ap, _∙_}
 use Prim.Native.Nat.{_≤_, _-_, max}
 use native.Mathlib.Omega.{arith}
 use Rattle.terrain.proofs.Keys.{KeysTo, keys-none, keys-more, keys-small, keys-fall}
 use borrow.Author.Needs.{needs}
-use Rattle.terrain.proofs.direction.fall_near.Statement.{statement}
-use Rattle.terrain.proofs.direction.fall_near.Tie as tie
+use Rattle.terrain.proofs.direction.fall_at.Statement.{statement}
+use Rattle.terrain.proofs.direction.fall_at.Tie as tie
 
 abbrev Inv-loop : tie.InvT-loop
-Inv-loop rows columns level x cardinal₀ diagonal₀ i₀ cardinal diagonal i = (i ≤ 4) × KeysTo rows columns level x i cardinal diagonal
+Inv-loop rows columns level x inside cardinal₀ diagonal₀ i₀ cardinal diagonal i = (i ≤ 4) × KeysTo rows columns level x i cardinal diagonal
 
 abbrev μ-loop : tie.MeasureT-loop
-μ-loop rows columns level x cardinal₀ diagonal₀ i₀ cardinal diagonal i = 4 - i
+μ-loop rows columns level x inside cardinal₀ diagonal₀ i₀ cardinal diagonal i = 4 - i
 
 loop-holds : tie.Need-loop-holds Inv-loop μ-loop
 loop-holds c = (omega arith, keys-none refl refl)
 
-mul-key-near : tie.Need-mul-key-near Inv-loop μ-loop
-mul-key-near c = search needs
+mul-key-at : tie.Need-mul-key-at Inv-loop μ-loop
+mul-key-at c = search needs
 
-key-near-requires : tie.Need-key-near-requires Inv-loop μ-loop
-key-near-requires c κs = let s = c .before .before .before in (s .pre .0, s .pre .1, omega arith)
+key-at-requires : tie.Need-key-at-requires Inv-loop μ-loop
+key-at-requires c κs = let s = c .before .before .before in (s .pre .0, s .pre .1, omega arith, s .pre .2)
 
 larger-requires : tie.Need-larger-requires Inv-loop μ-loop
 larger-requires c κs = search needs
 
-mul-key-near-2 : tie.Need-mul-key-near-2 Inv-loop μ-loop
-mul-key-near-2 c = search needs
+mul-key-at-2 : tie.Need-mul-key-at-2 Inv-loop μ-loop
+mul-key-at-2 c = search needs
 
-add-key-near : tie.Need-add-key-near Inv-loop μ-loop
-add-key-near c = search needs
+add-key-at : tie.Need-add-key-at Inv-loop μ-loop
+add-key-at c = search needs
 
-key-near-requires-2 : tie.Need-key-near-requires-2 Inv-loop μ-loop
-key-near-requires-2 c κs = let s = c .before .before .before .before .before in (s .pre .0, s .pre .1, omega arith)
+key-at-requires-2 : tie.Need-key-at-requires-2 Inv-loop μ-loop
+key-at-requires-2 c κs = let s = c .before .before .before .before .before in (s .pre .0, s .pre .1, omega arith, s .pre .2)
 
 larger-requires-2 : tie.Need-larger-requires-2 Inv-loop μ-loop
 larger-requires-2 c κs = search needs
@@ -47,7 +47,7 @@ loop-again : tie.Need-loop-again Inv-loop μ-loop
 loop-again c =
     let p = c .before .before .before .before .before .loop in (
       omega arith,
-      keys-more (p .inv .1) (c .before .before .larger .ensures ∙ ap (max (p .cardinal)) (c .before .before .before .key-near .ensures)) (c .larger2 .ensures ∙ ap (max (p .diagonal)) (c .before .key-near2 .ensures)),
+      keys-more (p .inv .1) (c .before .before .larger .ensures ∙ ap (max (p .cardinal)) (c .before .before .before .key-at .ensures)) (c .larger2 .ensures ∙ ap (max (p .diagonal)) (c .before .key-at2 .ensures)),
     )
 
 chosen-requires : tie.Need-chosen-requires Inv-loop μ-loop
@@ -68,19 +68,19 @@ returns c =
     let e : p .i ≡ 4 = omega arith in
     keys-fall e (p .inv .1) (c .before .before .chosen .ensures) (c .at .ensures)
 
-pub fall-near-spec : {M : Type 1} → statement M
-fall-near-spec =
+pub fall-at-spec : {M : Type 1} → statement M
+fall-at-spec =
     tie.close
     (tie.spec
     Inv-loop
     μ-loop
     loop-holds
-    mul-key-near
-    key-near-requires
+    mul-key-at
+    key-at-requires
     larger-requires
-    mul-key-near-2
-    add-key-near
-    key-near-requires-2
+    mul-key-at-2
+    add-key-at
+    key-at-requires-2
     larger-requires-2
     add-i
     loop-less
