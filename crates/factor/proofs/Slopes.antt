@@ -1,7 +1,7 @@
 -- The steepness of a cell from its fall: that of its drop and its direction, and how large it is. Assumes nothing.
 use mathlib.Core.Path.{_≡_, refl, ap, _∙_}
 use mathlib.Core.Bool.{Bool, true, false, cond}
-use Prim.Native.Nat.{ℕ, zero, suc, _+_, _*_, _/_, _%_, _^_, _≤_, _<_}
+use Prim.Native.Nat.{ℕ, zero, suc, _+_, _*_, _/_, _%_, _≤_, _<_}
 use native.Mathlib.Nat.{mul-le-mul}
 use native.Mathlib.Omega.{arith}
 use lib.Dec.{eqb}
@@ -26,10 +26,6 @@ steepness-small {fall} h = go (eqb (fall % 2) 0)
     go : (b : Bool) → cond b (2 * ((fall / 2) * (fall / 2))) ((fall / 2) * (fall / 2)) ≤ steepest
     go true = omega (arith, small)
     go false = omega (arith, small)
-
--- as a cell's factor asks for it
-pub steepness-fits : {fall : ℕ} → fall ≤ greatestFall → steepnessOf fall < 2 ^ 43
-steepness-fits h = omega (arith, steepness-small h)
 
 fall-none : (k : ℕ) → fallOf k 0 ≡ 0
 unfolding fallOf

@@ -124,10 +124,6 @@ module _ {join : ℕ → ℕ → ℕ} {all : ℕ → (ℕ → ℕ) → ℕ} {n :
         }
 
     module _ {order l : List ℕ} {p : ℕ} (s : Handing join all n to give own v fin order l p) where
-      -- a value is never above the whole
-      pub hand-le : (z : ℕ) → z < n → standsIn order p z ≡ 0 → getD l z 0 ≤ v z
-      hand-le z h e = omega (arith, s .got z h e, got-le order p z h)
-
       -- that of a cell whose turn it is, is whole
       pub hand-whole : (x : ℕ) → x < n → standsIn order p x ≡ 0 → ((u : ℕ) → to u ≡ x → 0 < standsIn order p u) → getD l x 0 ≡ v x
       hand-whole x h e q = s .got x h e ∙ got-whole order p x h q

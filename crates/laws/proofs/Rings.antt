@@ -10,17 +10,17 @@ use native.Mathlib.Decide.{decLt, ℕ-discrete}
 use lib.ListN.{getD}
 use lib.Dec.{eqb}
 use borrow.Author.Tests.{eq-eqb, ne-eqb, eqb-true}
-use Rattle.laws.specs.Sums.{sumTo, when}
+use Rattle.laws.specs.Sums.{when}
 use Rattle.laws.specs.First.{firstOf}
 use Rattle.laws.specs.Orders.{standsIn, Ordered, Pointing, Falling}
 use Rattle.laws.specs.Peel.{Peeling}
 use Rattle.laws.specs.Rings.{walkTo, OnRing}
 use Rattle.laws.proofs.Tests.{two, and-both, and-true-left}
-use Rattle.laws.proofs.Sums.{sum-le, sum-add, sum-one, when-yes, when-no}
+use Rattle.laws.proofs.Sums.{when-yes, when-no}
 use Rattle.laws.proofs.First.{first-holds, first-le}
 use Rattle.laws.proofs.Pigeon.{pigeon-meet}
-use Rattle.laws.proofs.Orders.{stands-none, stands-more, stands-total}
-use Rattle.laws.proofs.Peel.{place-in, end-taken}
+use Rattle.laws.proofs.Orders.{stands-none, stands-more}
+use Rattle.laws.proofs.Peel.{end-taken}
 
 -- ---- walks
 
@@ -98,25 +98,6 @@ module _ {n : ℕ} {cell : ℕ → Bool} {to : ℕ → ℕ} (f : Pointing n cell
   -- a cell on a ring is never taken
   pub ring-left : {z : ℕ} → OnRing n to z → standsIn order p z ≡ 0
   ring-left {z} r = ap (standsIn order p) (sym (walk-none to z)) ∙ ring-waits r order p (s .after) p 0 (omega arith) (r .some)
-
-  -- so, where as many are taken as there are, there is no ring
-  pub peel-ringless : {z : ℕ} → p ≡ sumTo n (λ u. when (cell u) 1) → OnRing n to z → ⊥
-  peel-ringless {z} e r =
-      omega (
-        arith,
-        stands-total order n p (place-in f s),
-        sum-le n (λ u. standsIn order p u + when (eqb z u) 1) (λ u. when (cell u) 1) (λ u l. each u),
-        sum-add n (standsIn order p) (λ u. when (eqb z u) 1),
-        sum-one n (λ u. when (eqb z u) 1) z (f .within z (ring-cell r f)) (λ u l d. when-no 1 (ne-eqb z u (λ q. d (sym q)))),
-        when-yes 1 (eq-eqb z z refl),
-      )
-    where
-      each : (u : ℕ) → standsIn order p u + when (eqb z u) 1 ≤ when (cell u) 1
-      each u =
-          elim (ℕ-discrete z u) [
-            | yes q ↦ omega (arith, ap (standsIn order p) q, ring-left r, when-yes 1 (ap cell (sym q) ∙ ring-cell r f), when-yes 1 (eq-eqb z u q))
-            | no d ↦ omega (arith, s .once u, when-no 1 (ne-eqb z u d))
-          ]
 
   module _ (h : n ≤ b) (k : n ≤ x) where
     -- a cell that is left over at the end

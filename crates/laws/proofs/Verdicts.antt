@@ -21,10 +21,6 @@ pub test-passed : (ok : Bool) (number place : ℕ) → test ok number place ≡ 
 test-passed true number place e = refl
 test-passed false number place e = absurd (passed-failed (sym e))
 
-pub test-failed : (ok : Bool) (number place n p : ℕ) → test ok number place ≡ failed n p → (ok ≡ false) × (n ≡ number) × (p ≡ place)
-test-failed true number place n p e = absurd (passed-failed e)
-test-failed false number place n p e = (refl, cc, cc)
-
 -- ---- a list of tests
 
 pub verdict-none : verdict [] ≡ passed

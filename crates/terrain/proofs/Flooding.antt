@@ -1,7 +1,6 @@
 -- Laws of heights in words, of the search for cells at fault, and of what is read off the filled levels. Assumes nothing.
 use mathlib.Core.Path.{_≡_, refl, sym, ap, subst, _∙_}
 use mathlib.Core.List.{List, map}
-use mathlib.Core.Bool.{Bool}
 use Prim.Native.Nat.{ℕ, _+_, _*_, _<_, min}
 use native.Mathlib.Omega.{arith}
 use native.Mathlib.Decide.{decLt}
@@ -13,15 +12,12 @@ use mir.Val.{SFits, toZ, ofZ}
 use mir.Facts.{toZ-ofZ, toZ-pos}
 use borrow.Author.Tests.{lt-ltb, le-ltb}
 use Rattle.laws.specs.Sums.{sumTo, when}
-use Rattle.laws.proofs.Sums.{sum-ext}
 use Rattle.laws.proofs.Search.{failing-one}
 use Rattle.terrain.specs.Cells.{Fine, levelOf, heightOf, levelsOf, validAt, Ready}
 use Rattle.terrain.specs.Filled.{top, lowestOf, filledLevels, filledOf}
 use Rattle.terrain.specs.Flood.{FaultyCell, Faulty}
 use Rattle.terrain.specs.Trail.{validsOf}
-use Rattle.terrain.specs.Answers.{validOf}
 use Rattle.terrain.proofs.Neighbours.{sum-level, level-fine, fine-fits, difference-height, height-mag}
-use Rattle.terrain.proofs.Filling.{filled-valid}
 
 -- ---- heights and levels in words of 32 bits
 
@@ -65,13 +61,6 @@ unfolding validsOf
 valids-counted rows cols lv n e = ap (λ (m : ℕ). sumTo m (λ x. when (validAt lv x) 1)) e
 
 module _ {rows cols : ℕ} {ground : List ℤ} (ready : Ready rows cols ground) where
-  -- the filled levels have the ground's valid cells
-  pub filled-valids : validsOf rows cols (filledLevels rows cols ground) ≡ validOf rows cols ground
-  unfolding validOf validsOf
-  filled-valids =
-      sum-ext (rows * cols) (λ x. when (validAt (filledLevels rows cols ground) x) 1) (λ x. when (validAt (levelsOf ground) x) 1)
-      (λ x h. ap (λ (t : Bool). when t 1) (filled-valid rows cols ground ready x))
-
   -- and their heights are the filled heights
   pub filled-heights : map heightOf (filledLevels rows cols ground) ≡ filledOf rows cols ground
   unfolding filledOf

@@ -2,22 +2,20 @@
 use mathlib.Core.Path.{_≡_, sym, ap, ap₂, _∙_}
 use mathlib.Core.List.{List}
 use mathlib.Core.Logic.{⊎-elim}
-use mathlib.Core.Bool.{true, false, _&&_, true≢false}
+use mathlib.Core.Bool.{true, _&&_}
 use Prim.Native.Nat.{ℕ, _*_, _≤_, _<_}
 use native.Mathlib.Omega.{arith}
 use lib.ListN.{getD}
 use lib.Dec.{eqb}
-use borrow.Author.Tests.{eqb-true, eq-eqb, ne-eqb}
-use Rattle.laws.specs.First.{someOf}
+use borrow.Author.Tests.{eqb-true, eq-eqb}
 use Rattle.laws.specs.Sums.{greatestTo, when}
 use Rattle.laws.proofs.Tests.{two, and-both}
-use Rattle.laws.proofs.First.{some-is, some-yes}
 use Rattle.laws.proofs.Sums.{greatest-ge, greatest-le, when-yes, when-no}
-use Rattle.terrain.specs.Cells.{neighbour, codeOf, sideOf}
+use Rattle.terrain.specs.Cells.{neighbour, sideOf}
 use Rattle.terrain.specs.Trail.{flowsAt, nextAt, stepsIn, intoAt}
 use Rattle.terrain.specs.Directed.{Directed, receiverOf}
-use Rattle.terrain.proofs.Neighbours.{across, across-small, neighbour-back, neighbour-only}
-use Rattle.terrain.proofs.Trails.{code-flows, code-next, flows-code, flows-mapped, receiver-flows, receiver-points}
+use Rattle.terrain.proofs.Neighbours.{across, across-small, neighbour-back}
+use Rattle.terrain.proofs.Trails.{code-next, flows-code, flows-mapped, receiver-flows, receiver-points}
 use Rattle.terrain.proofs.Receivers.{pointing}
 
 -- ---- the neighbour at the side k of z
@@ -33,20 +31,6 @@ module _ (rows cols : ℕ) (dir : List ℕ) (z k : ℕ) where
   flows-into : flowsAt rows cols dir y ≡ true → nextAt rows cols dir y ≡ z → intoAt rows cols dir z k ≡ true
   unfolding intoAt
   flows-into q e = ap₂ _&&_ q (eq-eqb (nextAt rows cols dir y) z e)
-
-  -- it points at z if it has the code of the side across
-  pub into-code : z < rows * cols → k < 8 → neighbour rows cols z k < rows * cols → intoAt rows cols dir z k ≡ eqb (getD dir (neighbour rows cols z k) 255) (codeOf (across k))
-  into-code i h l = ⊎-elim (λ e. e ∙ sym (eq-eqb (getD dir y 255) (codeOf (across k)) (points e))) (λ e. e ∙ sym (ne-eqb (getD dir y 255) (codeOf (across k)) (λ q. true≢false (sym (back q) ∙ e)))) (two (intoAt rows cols dir z k))
-    where
-      back : getD dir y 255 ≡ codeOf (across k) → intoAt rows cols dir z k ≡ true
-      back q = flows-into (code-flows rows cols dir y (across k) (across-small k h) q) (code-next rows cols dir y (across k) (across-small k h) q ∙ neighbour-back rows cols z k i h l)
-
-      points : intoAt rows cols dir z k ≡ true → getD dir y 255 ≡ codeOf (across k)
-      points e =
-          let w = into-flows e in
-          let c = flows-code rows cols dir y (w .0) in
-          let there = sym (code-next rows cols dir y (sideOf (getD dir y 255)) (c .0) (c .1)) ∙ w .1 in
-          c .1 ∙ ap codeOf (neighbour-only rows cols y (sideOf (getD dir y 255)) (across k) (c .0) (across-small k h) (omega (arith, there)) (there ∙ sym (neighbour-back rows cols z k i h l)))
 
 -- ---- the cells that point at z
 
@@ -101,19 +85,3 @@ module _ {rows cols : ℕ} {dir : List ℕ} (d : Directed rows cols dir) where
         cell x =
             ⊎-elim (λ e. let w = points-into z x h (eqb-true (recv x) z e) in omega (arith, when-yes (g x) e, ap g (w .2), when-yes (g (nb z (w .0))) (w .3), greatest-ge 8 (across-side g) (w .0) (w .1)))
             (λ e. omega (arith, when-no (g x) e)) (two (eqb (recv x) z))
-
-    -- there is an inflow at some side if some cell points at z
-    pub inflow-some : someOf (intoAt rows cols dir z) 8 ≡ someOf (λ x. eqb (receiverOf rows cols dir x) z) (rows * cols)
-    inflow-some = ⊎-elim (λ e. e ∙ sym (cells e)) (λ e. ⊎-elim (λ q. absurd (true≢false (sym (sides q) ∙ e))) (λ q. e ∙ sym q) (two (someOf (λ x. eqb (recv x) z) n))) (two (someOf (intoAt rows cols dir z) 8))
-      where
-        cells : someOf (intoAt rows cols dir z) 8 ≡ true → someOf (λ x. eqb (recv x) z) n ≡ true
-        cells e =
-            let s = some-is (intoAt rows cols dir z) 8 e in
-            let w = into-points z (s .0) (s .2) in
-            some-yes (λ x. eqb (recv x) z) n (nb z (s .0)) (w .0) (eq-eqb (recv (nb z (s .0))) z (w .1))
-
-        sides : someOf (λ x. eqb (recv x) z) n ≡ true → someOf (intoAt rows cols dir z) 8 ≡ true
-        sides e =
-            let s = some-is (λ x. eqb (recv x) z) n e in
-            let w = points-into z (s .0) h (eqb-true (recv (s .0)) z (s .2)) in
-            some-yes (intoAt rows cols dir z) 8 (w .0) (w .1) (w .3)
