@@ -1,22 +1,17 @@
 -- Laws of heights in words, of the search for cells at fault, and of what is read off the filled levels. Assumes nothing.
 use mathlib.Core.Path.{_≡_, refl, sym, ap, subst, _∙_}
 use mathlib.Core.List.{List, map}
-use Prim.Native.Nat.{ℕ, _+_, _*_, _<_, min}
+use Prim.Native.Nat.{ℕ, _+_, _*_, _<_}
 use native.Mathlib.Omega.{arith}
-use native.Mathlib.Decide.{decLt}
 use lib.ListN.{length, getD}
 use lib.IntN.{ℤ, pos, _+ℤ_, _-ℤ_}
-use lib.Dec.{ltb}
 use mir.Syntax.{w32}
 use mir.Val.{SFits, toZ, ofZ}
 use mir.Facts.{toZ-ofZ, toZ-pos}
-use borrow.Author.Tests.{lt-ltb, le-ltb}
-use Rattle.laws.specs.Sums.{sumTo, when}
 use Rattle.laws.proofs.Search.{failing-one}
-use Rattle.terrain.specs.Cells.{Fine, levelOf, heightOf, levelsOf, validAt, Ready}
+use Rattle.terrain.specs.Cells.{Fine, levelOf, heightOf, levelsOf, Ready}
 use Rattle.terrain.specs.Filled.{top, lowestOf, filledLevels, filledOf}
 use Rattle.terrain.specs.Flood.{FaultyCell, Faulty}
-use Rattle.terrain.specs.Trail.{validsOf}
 use Rattle.terrain.proofs.Neighbours.{sum-level, level-fine, fine-fits, difference-height, height-mag}
 
 -- ---- heights and levels in words of 32 bits
@@ -49,19 +44,10 @@ ground-read r x h = (omega (arith, r .long), r .fine x (omega (arith, r .long)))
 pub cell-faulty : (rows cols : ℕ) (ground : List ℤ) (l : List ℕ) (b m v u low : ℕ) → v ≡ getD l b 0 → u ≡ getD (levelsOf ground) b 0 → low ≡ lowestOf rows cols l b 8 → FaultyCell v u low m → Faulty rows cols ground l b (b + 1) m
 cell-faulty rows cols ground l b m v u low p q r o = failing-one _ b m (o .few) (λ e. record { above = omega (arith, o .above e); still = omega (arith, o .still e) })
 
--- ---- valid cells and filled heights
-
--- as the code counts one
-pub valid-one : (v : ℕ) → min v 1 ≡ when (ltb 0 v) 1
-unfolding when
-valid-one v = elim (decLt 0 v) [ yes h ↦ rw (lt-ltb 0 v h) (omega arith) | no f ↦ rw (le-ltb 0 v (omega arith)) (omega arith) ]
-
-pub valids-counted : (rows cols : ℕ) (lv : List ℕ) (n : ℕ) → n ≡ rows * cols → sumTo n (λ x. when (validAt lv x) 1) ≡ validsOf rows cols lv
-unfolding validsOf
-valids-counted rows cols lv n e = ap (λ (m : ℕ). sumTo m (λ x. when (validAt lv x) 1)) e
+-- ---- filled heights
 
 module _ {rows cols : ℕ} {ground : List ℤ} (ready : Ready rows cols ground) where
-  -- and their heights are the filled heights
+  -- the heights of the filled levels are the filled heights
   pub filled-heights : map heightOf (filledLevels rows cols ground) ≡ filledOf rows cols ground
   unfolding filledOf
   filled-heights = refl

@@ -11,7 +11,6 @@ ghost use Rattle.laws.specs.Settle.{startOf};
 ghost use Rattle.terrain.specs.Cells.{Fine, levelsOf, heightOf, Ready};
 ghost use Rattle.terrain.specs.Inside.{Sized, Inside, RunsTo};
 ghost use Rattle.terrain.specs.Filled.{top, lowestOf, filling, filledLevels};
-ghost use Rattle.terrain.specs.Trail.{validsOf};
 ghost use Rattle.terrain.specs.Flood.{FaultyCell, Faulty, FillSweeping, Lowered, doneOf, Flooded};
 use crate::cells::beside;
 use crate::cells::larger;
@@ -281,18 +280,4 @@ pub(crate) fn write_heights(level: &[u32], filled: &mut [i32])
         filled[x] = height_of(level[x]);
         x += 1;
     }
-}
-
-// The number of cells that have data.
-pub(crate) fn valid_cells(level: &[u32]) -> u32
-    requires { ⌜ length (now level) ≤ 1048576 ⌝ }
-    ensures { λ r. ⌜ ((rows columns : ℕ) → length (now (level .entry)) ≡ rows * columns → r ≡ validsOf rows columns (now (level .entry))) ⌝ }
-{
-    let mut valid: u32 = 0;
-    let mut x: usize = 0;
-    while x < level.len() {
-        valid += smaller(level[x], 1);
-        x += 1;
-    }
-    valid
 }
