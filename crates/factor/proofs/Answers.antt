@@ -1,73 +1,152 @@
--- The promise of the map call, from that of the terrain layer: a refusal leaves the LS grid as it was, and after an accepted call each of its places holds a
--- drop, which is turned into the factor. Assumes nothing.
-use mathlib.Core.Path.{_≡_, refl, sym, ap, subst, _∙_}
+-- The promise of the map call: from the judge's finding, the terrain layer's promise, and the pass along the order. Assumes nothing.
+use mathlib.Core.Path.{_≡_, refl, sym, ap, ap₂, subst, _∙_}
 use mathlib.Core.List.{List}
-use Prim.Native.Nat.{ℕ}
+use mathlib.Core.Bool.{Bool, true, false, true≢false}
+use Prim.Native.Nat.{ℕ, _*_, _≤_}
+use native.Mathlib.Omega.{arith}
+use lib.ListN.{length, getD, replicate}
 use lib.IntN.{ℤ}
+use Rattle.laws.specs.Tests.{Test, passed, failed, verdict}
+use Rattle.text.specs.declared.Refusal.{Refusal}
 use Rattle.settings.specs.declared.Settings.{Settings}
 use Rattle.settings.specs.declared.Rules.{Rules}
+use Rattle.settings.specs.Settings.{rulesOf}
 use Rattle.terrain.specs.Cells.{Ready}
-use Rattle.terrain.specs.Drainage.{Trails, Totals, Surface}
-use Rattle.terrain.specs.Answers.{Answer, Verdict, accepted, refused, judge, answerOf}
+use Rattle.terrain.specs.Filled.{filledLevels, filledOf}
+use Rattle.terrain.specs.Trail.{countsOf, longestOf}
+use Rattle.terrain.specs.Directed.{Directed}
+use Rattle.terrain.specs.Downhill.{Downhill}
+use Rattle.terrain.specs.Falls.{fallsOf}
+use Rattle.terrain.specs.Drainage.{Drainage, Trails, Totals, Surface}
+use Rattle.terrain.specs.Answers.{Mapped, After, validOf, directionOf}
 use Rattle.terrain.specs.Answers as terrain
-use Rattle.terrain.proofs.Answers.{accepted-judged, accepted-ready, accepted-side}
-use Rattle.factor.specs.Answers.{Grids, lentOn, withFactors, gridsOf, answer, after}
-use Rattle.factor.specs.Inner.{Dropped, factorsFrom}
-use Rattle.factor.proofs.Maps.{map-dropped, map-factors}
+use Rattle.terrain.specs.declared.Answer as Drained
+use Rattle.terrain.specs.declared.Answer.the-variants as drained
+use Rattle.terrain.proofs.Public.{passed-ready, filled-small, directions-directed, counts-long}
+use Rattle.factor.specs.Length.{lengthsOf}
+use Rattle.factor.specs.Grid.{factorsOf}
+use Rattle.factor.specs.Answers.{Grids, lent, judged, mapOf, answerOf, gridsOf, answer, after, accepts}
+use Rattle.factor.specs.Inner.{firstTests}
+use Rattle.factor.specs.Pass.{Measuring}
+use Rattle.factor.specs.declared.Answer.{Answer}
+use Rattle.factor.specs.declared.Answer.the-variants.{Accepted, Refused}
+use Rattle.factor.proofs.Judging.{lentOn, first-fails, first-passes, first-side, first-lengths}
 
--- what document 01 demands of the grids of an accepted call
-abbrev pub Demanded : ℕ → ℕ → List ℤ → Answer → terrain.Grids → Type 0
-Demanded rows cols ground a t =
-    (a .number ≡ 0 → Trails rows cols ground (t .filled) (t .direction)) ×
-    ((a .number ≡ 0 → Totals rows cols (t .direction) (t .count) (a .valids)) × (a .number ≡ 0 → Surface rows cols ground (t .filled)))
+-- grids that are the same one by one
+lent-same : {f f′ : List ℤ} {d d′ c c′ l l′ x x′ w w′ : List ℕ} → f ≡ f′ → d ≡ d′ → c ≡ c′ → l ≡ l′ → x ≡ x′ → w ≡ w′ → lent f d c l x w ≡ lent f′ d′ c′ l′ x′ w′
+lent-same p q r s t u = cc
+
+-- what the terrain layer tells by accepting
+record Accepting (rows cols : ℕ) (ground : List ℤ) (g t : terrain.Grids) (valid longest : ℕ) : Type 0 where
+  passes : terrain.judged rows cols ground g ≡ passed
+  mapped : Mapped rows cols ground (directionOf rows cols ground) t
+  valid-is : valid ≡ validOf rows cols ground
+  longest-is : longest ≡ longestOf rows cols (directionOf rows cols ground)
 
 module _ (rows cols side : ℕ) (settings : Settings) (ground : List ℤ) (g : Grids) where
-  -- the promise of the map call, for an answer, the grids that the terrain layer leaves, and the LS grid
-  abbrev pub Promised : Answer → terrain.Grids → List ℕ → Type 0
-  Promised a t factors = (a ≡ answer rows cols side settings ground g) × ((withFactors t factors ≡ after rows cols side settings ground g) × Demanded rows cols ground a t)
+  abbrev first : Test
+  first = verdict (firstTests rows cols side settings ground g)
 
-  module _ (a : Answer) (t : terrain.Grids)
-      (p : a ≡ terrain.answer rows cols side settings ground (lentOn g))
-      (q : t ≡ terrain.after rows cols side settings ground (lentOn g)) where
-    answer-is : a ≡ answer rows cols side settings ground g
-    unfolding answer
-    answer-is = p
+  -- what document 01 demands of the grids of an accepted call
+  abbrev pub Demanded : Answer → Grids → Type 0
+  Demanded a h =
+      (accepts a ≡ true → Trails rows cols ground (h .filled) (h .direction))
+      × ((accepts a ≡ true → Totals rows cols (h .direction) (h .count) (validOf rows cols ground)) × (accepts a ≡ true → Surface rows cols ground (h .filled)))
 
-    -- the number is not 0
-    pub refuses : (a .number ≡ 0 → ⊥) → Demanded rows cols ground a t → Promised a t (t .drops)
-    unfolding after gridsOf terrain.answer terrain.answerOf terrain.after terrain.gridsOf
-    refuses n d = (answer-is, (go (judge rows cols side settings ground (lentOn g)) refl, d))
+  -- the promise of the map call, for an answer and the grids that it leaves
+  abbrev pub Promised : Answer → Grids → Type 0
+  Promised a h = (a ≡ answer rows cols side settings ground g) × ((h ≡ after rows cols side settings ground g) × Demanded a h)
+
+  refusal-demands : (f : Refusal) (h : Grids) → Demanded (Refused f) h
+  refusal-demands f h = ((λ e. absurd (true≢false (sym e))), ((λ e. absurd (true≢false (sym e))), (λ e. absurd (true≢false (sym e)))))
+
+  -- a refusal
+  refuses : (f : Refusal) → judged rows cols side settings ground g ≡ failed (f .number) (f .place) → Promised (Refused f) g
+  unfolding answer after answerOf gridsOf
+  refuses f j = (sym (ap (answerOf rows cols ground) j), (sym (ap (gridsOf rows cols side settings ground g) j), refusal-demands f g))
+
+  -- by one of the first four tests
+  pub first-refuses : (f : Refusal) → failed (f .number) (f .place) ≡ verdict (firstTests rows cols side settings ground g) → Promised (Refused f) g
+  first-refuses f e = refuses f (first-fails rows cols side settings ground g (sym e))
+
+  -- ---- the terrain layer is called
+
+  module _ (e : first ≡ passed) where
+    abbrev heights : Test
+    heights = terrain.judged rows cols ground (lentOn g)
+
+    -- it refuses, and leaves its grids
+    pub terrain-refuses : (f : Refusal) {t : terrain.Grids} → drained.Refused f ≡ terrain.answer rows cols ground (lentOn g) → After rows cols ground (lentOn g) t heights → (t ≡ lentOn g) × (judged rows cols side settings ground g ≡ failed (f .number) (f .place))
+    unfolding terrain.answer terrain.answerOf
+    terrain-refuses f {t} q a = go heights refl q a
       where
-        go : (v : Verdict) → judge rows cols side settings ground (lentOn g) ≡ v → withFactors t (t .drops) ≡ after rows cols side settings ground g
-        go (accepted rules) j = absurd (n (ap (λ (b : Answer). b .number) (p ∙ ap (answerOf rows cols ground) j)))
-        go (refused number place) j =
-            ap (λ (u : terrain.Grids). withFactors u (u .drops)) (q ∙ ap (terrain.gridsOf rows cols side ground (lentOn g)) j) ∙ sym (ap (gridsOf rows cols side ground g) j)
+        go : (v : Test) → heights ≡ v → drained.Refused f ≡ terrain.answerOf rows cols ground v → After rows cols ground (lentOn g) t v → (t ≡ lentOn g) × (judged rows cols side settings ground g ≡ failed (f .number) (f .place))
+        go passed j q a = absurd (true≢false (sym (ap terrain.accepts q)))
+        go (failed number place) j q a =
+            let r : f ≡ record { number = number; place = place } = cc in
+            (a, first-passes rows cols side settings ground g e ∙ j ∙ sym (ap (λ (r : Refusal). failed (r .number) (r .place)) r))
 
-    module _ (z : a .number ≡ 0) where
-      judged : (rules : Rules) × (judge rows cols side settings ground (lentOn g) ≡ accepted rules)
-      judged = accepted-judged rows cols side settings ground (lentOn g) (ap (λ (b : Answer). b .number) (sym p) ∙ z)
+    pub terrain-refused : (f : Refusal) {t : terrain.Grids} → drained.Refused f ≡ terrain.answer rows cols ground (lentOn g) → After rows cols ground (lentOn g) t (terrain.judged rows cols ground (lentOn g)) → Promised (Refused f) (lent (t .filled) (t .direction) (t .count) (g .lengths) (t .falls) (t .workspace))
+    terrain-refused f {t} q a =
+        let w = terrain-refuses f q a in
+        subst (λ (u : terrain.Grids). Promised (Refused f) (lent (u .filled) (u .direction) (u .count) (g .lengths) (u .falls) (u .workspace))) (sym (w .0)) (refuses f (w .1))
+
+    -- it accepts, and gives its grids
+    terrain-accepts : {valid longest : ℕ} {t : terrain.Grids} → drained.Accepted valid longest ≡ terrain.answer rows cols ground (lentOn g) → After rows cols ground (lentOn g) t heights → Accepting rows cols ground (lentOn g) t valid longest
+    unfolding terrain.answer terrain.answerOf
+    terrain-accepts {valid} {longest} {t} q a = go heights refl q a
+      where
+        go : (v : Test) → heights ≡ v → drained.Accepted valid longest ≡ terrain.answerOf rows cols ground v → After rows cols ground (lentOn g) t v → Accepting rows cols ground (lentOn g) t valid longest
+        go passed j q a = record { passes = j; mapped = a; valid-is = cc; longest-is = cc }
+        go (failed number place) j q a = absurd (true≢false (ap terrain.accepts q))
+
+    module _ (t : terrain.Grids) {valid longest : ℕ} (q : drained.Accepted valid longest ≡ terrain.answer rows cols ground (lentOn g)) (a : After rows cols ground (lentOn g) t heights) where
+      abbrev found : Accepting rows cols ground (lentOn g) t valid longest
+      found = terrain-accepts q a
+
+      abbrev lv : List ℕ
+      lv = filledLevels rows cols ground
 
       ready : Ready rows cols ground
-      ready = accepted-ready rows cols side settings ground (lentOn g) (judged .1)
+      ready = passed-ready rows cols ground (lentOn g) (found .passes)
 
-      left-is : t ≡ terrain.gridsOf rows cols side ground (lentOn g) (accepted (judged .0))
-      unfolding terrain.after
-      left-is = q ∙ ap (terrain.gridsOf rows cols side ground (lentOn g)) (judged .1)
+      -- what the pass assumes
+      pub accepted-measuring : Measuring rows cols side (filledLevels rows cols ground) (t .direction) (t .count) (t .workspace) valid (g .lengths) (t .falls)
+      accepted-measuring =
+          let m = found .mapped in
+          let s = first-side rows cols side settings ground g e in
+          record {
+            directed = rw (m .direction-is) (directions-directed ready);
+            capped = (λ x. omega (arith, filled-small rows cols ground ready x));
+            side-some = s .0;
+            side-small = s .1;
+            count-long = ap length (m .count-is) ∙ counts-long rows cols (directionOf rows cols ground);
+            order-is = rw (m .direction-is, found .valid-is) (m .order);
+            lengths-long = first-lengths rows cols side settings ground g e;
+            falls-are = m .falls-are ∙ ap (fallsOf rows cols lv) (sym (m .direction-is));
+          }
 
-      pub accepts-dropped : Dropped side (t .direction) (t .lengths) (t .drops)
-      unfolding terrain.gridsOf
-      accepts-dropped =
-          let s = accepted-side rows cols side settings ground (lentOn g) (judged .1) in
-          subst (λ (u : terrain.Grids). Dropped side (u .direction) (u .lengths) (u .drops)) (sym left-is)
-          (map-dropped ready side (judged .0) (s .0) (s .1))
-
-      pub accepts : {factors : List ℕ} → factors ≡ factorsFrom side (t .direction) (t .drops) (t .lengths) → Demanded rows cols ground a t → Promised a t factors
-      unfolding after gridsOf terrain.gridsOf
-      accepts {factors} f d = (answer-is, (grids, d))
+      -- and the whole promise
+      pub accepted-promised : {rules : Rules} {lengths factors workspace : List ℕ} → rules ≡ rulesOf settings → (lengths ≡ lengthsOf rows cols side rules (filledLevels rows cols ground) (t .direction) (t .count)) × (factors ≡ factorsOf rows cols side (filledLevels rows cols ground) (t .direction) lengths) → workspace ≡ replicate (rows * cols) 0 → Drainage rows cols ground (t .filled) (t .direction) (t .count) (validOf rows cols ground) → Promised (Accepted valid longest) (lent (t .filled) (t .direction) (t .count) lengths factors workspace)
+      unfolding answer after answerOf gridsOf mapOf
+      accepted-promised {rules} {lengths} {factors} {workspace} r d w n =
+          let j = first-passes rows cols side settings ground g e ∙ found .passes in
+          (answers ∙ sym (ap (answerOf rows cols ground) j), (leaves ∙ sym (ap (gridsOf rows cols side settings ground g) j), ((λ x. n .trails), ((λ x. n .totals), (λ x. n .surface)))))
         where
-          grids : withFactors t factors ≡ after rows cols side settings ground g
-          grids =
-              ap (withFactors t) f
-              ∙ ap (λ (u : terrain.Grids). withFactors u (factorsFrom side (u .direction) (u .drops) (u .lengths))) left-is
-              ∙ ap (withFactors (terrain.gridsOf rows cols side ground (lentOn g) (accepted (judged .0)))) (map-factors ready side (judged .0))
-              ∙ sym (ap (gridsOf rows cols side ground g) (judged .1))
+          answers : Accepted valid longest ≡ Accepted (validOf rows cols ground) (longestOf rows cols (directionOf rows cols ground))
+          answers = ap₂ Accepted (found .valid-is) (found .longest-is)
+
+          count-is : t .count ≡ countsOf rows cols (directionOf rows cols ground)
+          count-is = found .mapped .count-is
+
+          direction-is : t .direction ≡ directionOf rows cols ground
+          direction-is = found .mapped .direction-is
+
+          lengths-are : lengths ≡ lengthsOf rows cols side (rulesOf settings) lv (directionOf rows cols ground) (countsOf rows cols (directionOf rows cols ground))
+          lengths-are = d .0 ∙ rw (r, direction-is, count-is)
+
+          factors-are : factors ≡ factorsOf rows cols side lv (directionOf rows cols ground) (lengthsOf rows cols side (rulesOf settings) lv (directionOf rows cols ground) (countsOf rows cols (directionOf rows cols ground)))
+          factors-are = d .1 ∙ ap₂ (factorsOf rows cols side lv) direction-is lengths-are
+
+          leaves : lent (t .filled) (t .direction) (t .count) lengths factors workspace ≡ mapOf rows cols side (rulesOf settings) ground (directionOf rows cols ground)
+          leaves = lent-same (found .mapped .filled-is) direction-is count-is lengths-are factors-are w

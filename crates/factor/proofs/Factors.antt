@@ -6,12 +6,12 @@ use native.Mathlib.Nat.{mul-le-mul}
 use native.Mathlib.Omega.{arith}
 use borrow.Author.Tests.{lt-ltb, le-ltb}
 use lib.Dec.{leb, ltb}
-use Rattle.factor.specs.Quantities.{noDataFactor, tooLong}
 use Rattle.factor.specs.Exponent.{exponentOf}
 use Rattle.factor.specs.LengthFactor.{millimetres, longest, reached, lengthFactor}
 use Rattle.factor.specs.Steepness.{steepnessFactor}
-use Rattle.factor.specs.Cell.{factorOf}
-use Rattle.factor.proofs.Greatest.{greatest-within}
+use Rattle.factor.specs.Cell.{tooLong, factorOf}
+use Rattle.factor.specs.Grid.{noDataFactor}
+use Rattle.laws.proofs.Greatest.{greatest-within}
 use Rattle.factor.proofs.Sines.{sine-within}
 
 pub exponent-in : (c q : ℕ) → (2 ≤ exponentOf c q) × (exponentOf c q ≤ 5)

@@ -1,8 +1,12 @@
-pub mod Greatest
 pub mod Tables
 pub mod Power
 pub mod Sines
 pub mod Factors
-pub mod Grids
-pub mod Maps
+pub mod Channels
+pub mod Slopes
+pub mod Lengths
+pub mod Gathering
+pub mod Turns
+pub mod Walking
+pub mod Judging
 pub mod Answers

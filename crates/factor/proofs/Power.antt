@@ -11,10 +11,10 @@ use borrow.Author.Tests.{leb-true, leb-false, le-leb, not-true}
 use lib.Dec.{leb}
 use lib.ListN.{getD, length}
 use Rattle.laws.proofs.Tests.{and-both}
-use Rattle.factor.specs.Greatest.{greatest}
+use Rattle.laws.specs.Greatest.{greatest}
 use Rattle.factor.specs.LengthFactor.{longest, reached, lengthFactor}
 use Rattle.factor.specs.Inner.{Firsts, Rising, upTo}
-use Rattle.factor.proofs.Greatest.{Falling, greatest-is, greatest-within, greatest-passes, greatest-above}
+use Rattle.laws.proofs.Greatest.{Falling, greatest-is, greatest-within, greatest-passes, greatest-above}
 use Rattle.factor.proofs.Tables.{every, every-at}
 
 -- ---- the test of a list

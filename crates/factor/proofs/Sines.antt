@@ -6,9 +6,9 @@ use native.Mathlib.Nat.{le-trans, mul-le-mul, mul-le-mul-right}
 use native.Mathlib.Decide.{decLe}
 use native.Mathlib.Omega.{arith}
 use borrow.Author.Tests.{leb-true, le-leb, lt-leb}
-use Rattle.factor.specs.Greatest.{greatest}
+use Rattle.laws.specs.Greatest.{greatest}
 use Rattle.factor.specs.Steepness.{sineReaches, sineOf}
-use Rattle.factor.proofs.Greatest.{Falling, greatest-is, greatest-within, greatest-passes, greatest-above}
+use Rattle.laws.proofs.Greatest.{Falling, greatest-is, greatest-within, greatest-passes, greatest-above}
 
 -- the two sides of the test
 abbrev asked : ℕ → ℕ → ℕ → ℕ

@@ -1,12 +1,21 @@
--- Document 01, "Numbers of refusal": what the map call answers, and what each lent grid holds afterwards. Verdict, numbers and the other grids are those of the
--- terrain layer, which is lent the LS grid for its drops. Assumes nothing.
-use mathlib.Core.List.{List}
-use Prim.Native.Nat.{ℕ}
+-- Document 01, "Numbers of refusal": what the map call answers, and what each lent grid holds afterwards. Assumes nothing.
+use mathlib.Core.List.{List, [], _∷_}
+use mathlib.Core.Bool.{Bool, true, false}
+use Prim.Native.Nat.{ℕ, _*_}
+use lib.ListN.{length, replicate}
 use lib.IntN.{ℤ}
+use Rattle.laws.specs.Tests.{Test, passed, failed, verdict}
+use Rattle.text.specs.Ranges.{sizeTest, lengthTest, sideTest, heightTest}
 use Rattle.settings.specs.declared.Settings.{Settings}
-use Rattle.terrain.specs.Answers.{Answer, Verdict, accepted, refused, judge}
-use Rattle.terrain.specs.Answers as terrain
+use Rattle.settings.specs.declared.Rules.{Rules}
+use Rattle.settings.specs.Settings.{rulesOf, settingsTest}
+use Rattle.terrain.specs.Filled.{filledLevels, filledOf}
+use Rattle.terrain.specs.Trail.{countsOf, longestOf}
+use Rattle.terrain.specs.Answers.{validOf, directionOf}
+use Rattle.factor.specs.Length.{lengthsOf}
 use Rattle.factor.specs.Grid.{factorsOf}
+use Rattle.factor.specs.declared.Answer.{Answer}
+use Rattle.factor.specs.declared.Answer.the-variants.{Accepted, Refused}
 
 -- the grids that a call is lent to write
 pub record Grids : Type 0 where
@@ -21,25 +30,65 @@ pub record Grids : Type 0 where
 abbrev pub lent : List ℤ → List ℕ → List ℕ → List ℕ → List ℕ → List ℕ → Grids
 lent filled direction count lengths factors workspace = record { filled = filled; direction = direction; count = count; lengths = lengths; factors = factors; workspace = workspace }
 
--- the same as they are lent on to the terrain layer
-abbrev pub lentOn : Grids → terrain.Grids
-lentOn g = terrain.lent (g .filled) (g .direction) (g .count) (g .lengths) (g .factors) (g .workspace)
+-- how many places the ground and each lent grid have
+abbrev pub placesOf : List ℤ → Grids → List ℕ
+placesOf ground g = length ground ∷ length (g .filled) ∷ length (g .direction) ∷ length (g .count) ∷ length (g .lengths) ∷ length (g .factors) ∷ length (g .workspace) ∷ []
 
--- the grids of the terrain layer with a grid in the place of its drops
-abbrev pub withFactors : terrain.Grids → List ℕ → Grids
-withFactors t factors = lent (t .filled) (t .direction) (t .count) (t .lengths) factors (t .workspace)
+-- "The map call tests 1, 2, 3, 4, 5 in that order, 5 at the first bad cell in row order."
+unfoldable pub tests : ℕ → ℕ → ℕ → Settings → List ℤ → Grids → List Test
+tests rows cols side settings ground g =
+    sizeTest rows cols ∷ lengthTest (rows * cols) (placesOf ground g) ∷ sideTest side ∷ settingsTest settings ∷ heightTest (rows * cols) ground ∷ []
+
+-- what they decide
+unfoldable pub judged : ℕ → ℕ → ℕ → Settings → List ℤ → Grids → Test
+unfolding tests verdict
+judged rows cols side settings ground g = verdict (tests rows cols side settings ground g)
+
+-- the grids of a ground for a list of directions. "The workspace holds zeros after success."
+unfoldable pub mapOf : ℕ → ℕ → ℕ → Rules → List ℤ → List ℕ → Grids
+unfolding filledLevels filledOf countsOf lengthsOf factorsOf
+mapOf rows cols side rules ground dir =
+    let lv = filledLevels rows cols ground in
+    let count = countsOf rows cols dir in
+    let lengths = lengthsOf rows cols side rules lv dir count in
+    lent (filledOf rows cols ground) dir count lengths (factorsOf rows cols side lv dir lengths) (replicate (rows * cols) 0)
+
+-- "The answer also gives the number of valid cells and the longest trail"; a refusal has number and place
+unfoldable pub answerOf : ℕ → ℕ → List ℤ → Test → Answer
+unfolding validOf directionOf longestOf
+answerOf rows cols ground passed = let dir = directionOf rows cols ground in Accepted (validOf rows cols ground) (longestOf rows cols dir)
+answerOf rows cols ground (failed number place) = Refused (record { number = number; place = place })
 
 -- "A refusal changes no lent grid."
-unfoldable pub gridsOf : ℕ → ℕ → ℕ → List ℤ → Grids → Verdict → Grids
-unfolding terrain.gridsOf factorsOf
-gridsOf rows cols side ground g (accepted rules) = withFactors (terrain.gridsOf rows cols side ground (lentOn g) (accepted rules)) (factorsOf rows cols side rules ground)
-gridsOf rows cols side ground g (refused number place) = g
+unfoldable pub gridsOf : ℕ → ℕ → ℕ → Settings → List ℤ → Grids → Test → Grids
+unfolding rulesOf directionOf mapOf
+gridsOf rows cols side settings ground g passed = let dir = directionOf rows cols ground in mapOf rows cols side (rulesOf settings) ground dir
+gridsOf rows cols side settings ground g (failed number place) = g
 
 -- the whole of the map call
 unfoldable pub answer : ℕ → ℕ → ℕ → Settings → List ℤ → Grids → Answer
-unfolding terrain.answer
-answer rows cols side settings ground g = terrain.answer rows cols side settings ground (lentOn g)
+unfolding judged answerOf
+answer rows cols side settings ground g = answerOf rows cols ground (judged rows cols side settings ground g)
 
 unfoldable pub after : ℕ → ℕ → ℕ → Settings → List ℤ → Grids → Grids
-unfolding judge gridsOf
-after rows cols side settings ground g = gridsOf rows cols side ground g (judge rows cols side settings ground (lentOn g))
+unfolding judged gridsOf
+after rows cols side settings ground g = gridsOf rows cols side settings ground g (judged rows cols side settings ground g)
+
+-- ---- an answer as the paper's numbers
+
+-- number and place, the number of valid cells and the steps of the longest trail
+pub record Numbers : Type 0 where
+  pub number : ℕ
+  pub place : ℕ
+  pub valids : ℕ
+  pub longest : ℕ
+
+-- "An accepted call has number and place 0"; "a refusal returns number and place with every other number 0"
+abbrev pub told : Answer → Numbers
+told (Accepted valid longest) = record { number = 0; place = 0; valids = valid; longest = longest }
+told (Refused f) = record { number = f .number; place = f .place; valids = 0; longest = 0 }
+
+-- the call was accepted
+abbrev pub accepts : Answer → Bool
+accepts (Accepted valid longest) = true
+accepts (Refused f) = false

@@ -2,10 +2,13 @@
 use Prim.Native.Nat.{ℕ, _*_}
 use mathlib.Core.Bool.{cond}
 use lib.Dec.{ltb}
-use Rattle.factor.specs.Quantities.{tooLong}
 use Rattle.factor.specs.Exponent.{exponentOf}
 use Rattle.factor.specs.LengthFactor.{millimetres, longest, lengthFactor}
 use Rattle.factor.specs.Steepness.{steepnessFactor}
+
+-- "LS: 4,294,967,294 too long"
+abbrev pub tooLong : ℕ
+tooLong = 4294967294
 
 -- "LS = t·S", in hundred-thousandths, up to 304,800 mm; above: too long
 unfoldable pub factorOf : ℕ → ℕ → ℕ → ℕ

@@ -1,24 +1,27 @@
 -- What the functions inside the crate assume, and what they answer: no promise of a public call cites this file. Assumes nothing.
-use Prim.Native.Nat.{ℕ, suc, _-_, _^_, _≤_, _<_}
+use Prim.Native.Nat.{ℕ, suc, _-_, _*_, _/_, _%_, _^_, _≤_, _<_}
 use mathlib.Core.Bool.{Bool, true, false, cond}
-use mathlib.Core.List.{List}
+use mathlib.Core.List.{List, [], _∷_}
 use mathlib.Core.Path.{_≡_}
-use lib.Dec.{leb, eqb}
+use lib.Dec.{ltb, leb, eqb}
+use lib.IntN.{ℤ}
 use lib.ListN.{length, getD}
-use Rattle.laws.specs.Lists.{tab}
-use Rattle.terrain.specs.Cells.{sideOf}
-use Rattle.terrain.specs.Direction.{steepOf}
-use Rattle.factor.specs.Quantities.{noDataFactor}
+use Rattle.laws.specs.Tests.{Test, passed, failed, verdict}
+use Rattle.text.specs.Ranges.{sizeTest, lengthTest, sideTest}
+use Rattle.settings.specs.declared.Settings.{Settings}
+use Rattle.settings.specs.declared.Rules.{Rules}
+use Rattle.settings.specs.Settings.{rulesOf, settingsTest}
+use Rattle.factor.specs.Inflow.{cutoffFor, startLength, stepOver, amountOf}
 use Rattle.factor.specs.LengthFactor.{longest, reached}
-use Rattle.factor.specs.Cell.{factorOf}
+use Rattle.factor.specs.Answers.{Grids, placesOf}
+use Rattle.factor.specs.declared.judge.Judgement.{Judgement}
+use Rattle.factor.specs.declared.judge.Judgement.the-variants.{Sound, Unsound}
 
 -- a cell side, and a steepness as small as those of a map: at most twice the square of a drop below 2^21 cm
 pub record Sloping (side q : ℕ) : Type 0 where
   pub side-some : 1 ≤ side
   pub side-small : side ≤ 100000
   pub steepness-small : q < 2 ^ 43
-
--- ---- lists
 
 -- a list of at most 1,000 entries that do not fall
 pub record Rising (list : List ℕ) : Type 0 where
@@ -43,49 +46,47 @@ pub record Listed (five four three two : List ℕ) : Type 0 where
   pub threes : Firsts 3 three
   pub twos : Firsts 2 two
 
--- ---- what a factor is worked out from
-
--- an exponent in tenths, and a length in mm that is not too long
-pub record Lookup (k mm : ℕ) (five four three two : List ℕ) : Type 0 where
-  pub least : 2 ≤ k
-  pub most : k ≤ 5
-  pub length-in : mm ≤ longest
-  pub listed : Listed five four three two
-
 -- a cell, whose length is as small as those of a map: at most 14,142 for each of 1,048,576 cells, and 5,000
 pub record Measured (side q len : ℕ) (five four three two : List ℕ) : Type 0 where
   pub sloping : Sloping side q
   pub length-small : len < 2 ^ 36
   pub listed : Listed five four three two
 
--- ---- from drops to factors
+-- no less than any fall, any steepness and any length: heights go from -999,900 to 900,000, and a step is at most a diagonal
+abbrev pub greatestFall : ℕ
+greatestFall = 3800001
 
--- no less than any drop: heights go from -999,900 to 900,000
-abbrev pub greatestDrop : ℕ
-greatestDrop = 1900000
+abbrev pub steepest : ℕ
+steepest = 7220000000000
 
--- a cell side, and a drop and a length as small as those of a map
-pub record Dropping (side drop len : ℕ) : Type 0 where
-  pub side-some : 1 ≤ side
-  pub side-small : side ≤ 100000
-  pub drop-small : drop ≤ greatestDrop
-  pub length-small : len < 2 ^ 36
+abbrev pub greatestLength : ℕ
+greatestLength = 15000000000
 
--- the same of each cell of a map
-pub record Dropped (side : ℕ) (direction lengths drops : List ℕ) : Type 0 where
-  pub lengths-long : length lengths ≡ length direction
-  pub drops-long : length drops ≡ length direction
-  pub small : (x : ℕ) → x < length direction → Dropping side (getD drops x 0) (getD lengths x 0)
+-- the steepness of a fall
+unfoldable pub steepnessOf : ℕ → ℕ
+steepnessOf fall = cond (eqb (fall % 2) 0) (2 * ((fall / 2) * (fall / 2))) ((fall / 2) * (fall / 2))
 
--- LS of a cell, by its direction, drop and length
-unfoldable pub factorFrom : ℕ → ℕ → ℕ → ℕ → ℕ
-unfolding sideOf factorOf
-factorFrom side code drop len = cond (eqb code 255) noDataFactor (factorOf side (steepOf (sideOf code) drop) len)
+-- the length of a cell that is a channel or not, from one more than the greatest amount brought, 0 for none
+unfoldable pub settledOf : Bool → ℕ → ℕ
+settledOf channel gathered = cond channel 0 (cond (ltb gathered 1) startLength (gathered - 1))
 
--- the same at the cell x of grids of codes, drops and lengths
-abbrev pub factorFromAt : ℕ → List ℕ → List ℕ → List ℕ → ℕ → ℕ
-factorFromAt side direction drops lengths x = factorFrom side (getD direction x 0) (getD drops x 0) (getD lengths x 0)
+-- what an inflow of steepness p and this length brings over the side k to a cell of steepness q
+unfoldable pub broughtBy : ℕ → Rules → ℕ → ℕ → ℕ → ℕ → ℕ
+unfolding cutoffFor amountOf stepOver
+broughtBy side rules k p q len = amountOf (cutoffFor (rules .low) (rules .high) side q) q p (stepOver k) len
 
-unfoldable pub factorsFrom : ℕ → List ℕ → List ℕ → List ℕ → List ℕ
-unfolding tab factorFrom
-factorsFrom side direction drops lengths = tab (length direction) (factorFromAt side direction drops lengths)
+-- ---- the tests that are made before the terrain layer is called
+
+-- the verdict that a case of the code's enum stands for
+abbrev pub found : Judgement → Test
+found (Sound rules) = passed
+found (Unsound f) = failed (f .number) (f .place)
+
+-- the tests 1 to 4
+unfoldable pub firstTests : ℕ → ℕ → ℕ → Settings → List ℤ → Grids → List Test
+firstTests rows cols side settings ground g = sizeTest rows cols ∷ lengthTest (rows * cols) (placesOf ground g) ∷ sideTest side ∷ settingsTest settings ∷ []
+
+-- what is found by them; the rules are those of the settings
+pub record Judges (rows cols side : ℕ) (settings : Settings) (ground : List ℤ) (g : Grids) (r : Judgement) : Type 0 where
+  pub verdict-is : found r ≡ verdict (firstTests rows cols side settings ground g)
+  pub rules-are : (rules : Rules) → r ≡ Sound rules → rules ≡ rulesOf settings

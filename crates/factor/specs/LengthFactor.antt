@@ -2,7 +2,7 @@
 use Prim.Native.Nat.{ℕ, _*_, _^_, _/_}
 use mathlib.Core.Bool.{Bool}
 use lib.Dec.{leb}
-use Rattle.factor.specs.Greatest.{greatest}
+use Rattle.laws.specs.Greatest.{greatest}
 
 -- "Length in mm: floor(length·c / 1,000)", for a length in ten-thousandths of the cell side c
 abbrev pub millimetres : ℕ → ℕ → ℕ

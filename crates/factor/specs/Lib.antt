@@ -1,9 +1,12 @@
-pub mod Quantities
-pub mod Greatest
+pub mod Slope
+pub mod Channel
+pub mod Inflow
+pub mod Length
 pub mod Exponent
 pub mod LengthFactor
 pub mod Steepness
 pub mod Cell
 pub mod Grid
-pub mod Inner
 pub mod Answers
+pub mod Inner
+pub mod Pass

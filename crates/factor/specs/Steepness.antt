@@ -2,7 +2,7 @@
 use Prim.Native.Nat.{ℕ, _+_, _*_, _/_}
 use mathlib.Core.Bool.{Bool}
 use lib.Dec.{leb}
-use Rattle.factor.specs.Greatest.{greatest}
+use Rattle.laws.specs.Greatest.{greatest}
 
 -- "u²·(q + 2·c²) ≤ 1,000,000·q"
 abbrev pub sineReaches : ℕ → ℕ → ℕ → Bool

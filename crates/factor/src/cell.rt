@@ -4,7 +4,7 @@ ghost use Rattle.factor.specs.Cell.{factorOf};
 ghost use Rattle.factor.specs.Inner.{Measured};
 use crate::exponent::exponent_of;
 use crate::length_factor::length_factor;
-use crate::steepness::steepness_factor;
+use crate::sine::steepness_factor;
 
 // The greatest length in mm that has a factor.
 const LONGEST: u64 = 304800;

@@ -1,9 +1,10 @@
 // The length factor, looked up in the list of its exponent.
 ghost use mathlib.Core.Path.{_≡_};
+ghost use Prim.Native.Nat.{_≤_};
 ghost use lib.ListN.{length};
-ghost use Rattle.factor.specs.Greatest.{greatest};
-ghost use Rattle.factor.specs.LengthFactor.{lengthFactor};
-ghost use Rattle.factor.specs.Inner.{Rising, upTo, Lookup};
+ghost use Rattle.laws.specs.Greatest.{greatest};
+ghost use Rattle.factor.specs.LengthFactor.{longest, lengthFactor};
+ghost use Rattle.factor.specs.Inner.{Rising, upTo, Listed};
 use crate::search::moved_if;
 
 // How many entries of a rising list are at most x, by halves.
@@ -30,7 +31,7 @@ pub(crate) fn length_factor<'a>(
     three: &'a [u32],
     two: &'a [u32],
 ) -> usize
-    requires { ⌜ Lookup k mm (now five) (now four) (now three) (now two) ⌝ }
+    requires { ⌜ (2 ≤ k) × (k ≤ 5) × (mm ≤ longest) × Listed (now five) (now four) (now three) (now two) ⌝ }
     ensures { λ r. ⌜ r ≡ lengthFactor k mm ⌝ }
 {
     match k {

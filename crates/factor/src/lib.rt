@@ -1,31 +1,46 @@
-// The factor layer: slope length and steepness become the LS factor of Handbook 537. Document 01, "LS".
+// The factor layer, what the handbook makes of the water: slope length and steepness become the LS factor of Handbook 537.
+// Document 01, "Length" and "LS".
 //
-// Its call gives every grid of document 01. It knows the terrain layer by its promise alone: terrain judges the input and writes
-// the other grids, and a drop into each place of the LS grid, which is then turned into the factor.
+// Its call gives every grid of document 01. It judges sizes, lengths, cell side and settings; the terrain layer, known by its
+// promise alone, judges the heights and writes filled heights, directions, counts and falls, and an order from the ridges down;
+// one pass along that order gives lengths and LS.
 mod cell;
+mod channel;
 mod exponent;
-mod grid;
+mod inflow;
+mod judge;
 mod length_factor;
+mod pass;
 mod search;
-mod steepness;
+mod sine;
+mod slope;
 mod thresholds;
 
 pub use settings::Channel;
 pub use settings::Settings;
-pub use terrain::Answer;
 ghost use mathlib.Core.Path.{_≡_};
-ghost use lib.Dec.{eqb};
-ghost use Rattle.terrain.specs.Answers.{told};
+ghost use mathlib.Core.Bool.{true};
+ghost use lib.ListN.{length, replicate};
 ghost use Rattle.terrain.specs.Drainage.{Trails, Totals, Surface};
-ghost use Rattle.factor.specs.Answers.{lent, answer, after};
+ghost use Rattle.terrain.specs.Answers.{validOf};
+ghost use Rattle.factor.specs.Answers.{lent, answer, after, accepts};
+use judge::Judgement;
+use text::Refusal;
 
-// Whether an answer's number is 0, as that of an accepted call is.
-fn is_accepted(answer: Answer) -> bool
-    ensures { λ r. ⌜ r ≡ eqb (told answer .number) 0 ⌝ }
+// The answer of the map call: the number of valid cells and the steps of the longest trail, or why there is no map.
+pub enum Answer {
+    Accepted { valid: u32, longest: u32 },
+    Refused(Refusal),
+}
+
+// Sets every place of the workspace to 0.
+fn clear(workspace: &mut [u32])
+    ensures { λ _. ⌜ now (workspace .exit) ≡ replicate (length (now (workspace .entry))) 0 ⌝ }
 {
-    match answer {
-        Answer::Accepted { .. } => true,
-        Answer::Refused(refusal) => refusal.number == 0,
+    let mut x: usize = 0;
+    while x < workspace.len() {
+        workspace[x] = 0;
+        x += 1;
     }
 }
 
@@ -44,13 +59,13 @@ pub fn map(
     factors: &mut [u32],
     workspace: &mut [u32],
 ) -> Answer
-    ensures answers { λ r. ⌜ told r ≡ answer rows columns side settings (now (ground .entry)) (lent (now (filled .entry)) (now (direction .entry)) (now (count .entry)) (now (lengths .entry)) (now (factors .entry)) (now (workspace .entry))) ⌝ }
+    ensures answers { λ r. ⌜ r ≡ answer rows columns side settings (now (ground .entry)) (lent (now (filled .entry)) (now (direction .entry)) (now (count .entry)) (now (lengths .entry)) (now (factors .entry)) (now (workspace .entry))) ⌝ }
     ensures leaves { λ _. ⌜ lent (now (filled .exit)) (now (direction .exit)) (now (count .exit)) (now (lengths .exit)) (now (factors .exit)) (now (workspace .exit)) ≡ after rows columns side settings (now (ground .entry)) (lent (now (filled .entry)) (now (direction .entry)) (now (count .entry)) (now (lengths .entry)) (now (factors .entry)) (now (workspace .entry))) ⌝ }
-    ensures trails { λ r. ⌜ (told r .number ≡ 0 → Trails rows columns (now (ground .entry)) (now (filled .exit)) (now (direction .exit))) ⌝ }
-    ensures totals { λ r. ⌜ (told r .number ≡ 0 → Totals rows columns (now (direction .exit)) (now (count .exit)) (told r .valids)) ⌝ }
-    ensures surface { λ r. ⌜ (told r .number ≡ 0 → Surface rows columns (now (ground .entry)) (now (filled .exit))) ⌝ }
+    ensures trails { λ r. ⌜ (accepts r ≡ true → Trails rows columns (now (ground .entry)) (now (filled .exit)) (now (direction .exit))) ⌝ }
+    ensures totals { λ r. ⌜ (accepts r ≡ true → Totals rows columns (now (direction .exit)) (now (count .exit)) (validOf rows columns (now (ground .entry)))) ⌝ }
+    ensures surface { λ r. ⌜ (accepts r ≡ true → Surface rows columns (now (ground .entry)) (now (filled .exit))) ⌝ }
 {
-    let answer = terrain::map(
+    let judgement = judge::judge(
         rows,
         columns,
         side,
@@ -63,9 +78,39 @@ pub fn map(
         factors,
         workspace,
     );
-    if !is_accepted(answer) {
-        return answer;
+    let rules = match judgement {
+        Judgement::Sound(rules) => rules,
+        Judgement::Unsound(refusal) => return Answer::Refused(refusal),
+    };
+    let drained = terrain::map(
+        rows,
+        columns,
+        ground,
+        filled,
+        direction,
+        count,
+        factors,
+        workspace,
+    );
+    match drained {
+        terrain::Answer::Refused(refusal) => Answer::Refused(refusal),
+        terrain::Answer::Accepted { valid, longest } => {
+            pass::measure(
+                columns,
+                side,
+                rules,
+                direction,
+                count,
+                workspace,
+                valid as usize,
+                lengths,
+                factors,
+            );
+            clear(workspace);
+            Answer::Accepted {
+                valid: valid,
+                longest: longest,
+            }
+        }
     }
-    grid::factors_from_drops(side, direction, lengths, factors);
-    answer
 }

@@ -3,11 +3,12 @@ use mathlib.Core.Path.{refl}
 use mathlib.Core.List.{List, [], _∷_}
 use lib.IntN.{pos, negsuc}
 use Prim.Native.Nat.{ℕ}
+use Rattle.text.specs.Ranges.{sizeTest, lengthTest, sideTest, heightTest}
 use Rattle.settings.specs.declared.Channel.{Channel}
 use Rattle.settings.specs.declared.Channel.the-variants.{Percentage, NoChannel}
 use Rattle.settings.specs.declared.Settings.{Settings}
-use Rattle.settings.specs.Settings.{quotient}
-use Rattle.terrain.specs.Quantities.{noData}
+use Rattle.settings.specs.Settings.{quotient, settingsTest}
+use Rattle.terrain.specs.Cells.{noData}
 use Rattle.factor.specs.Answers.{answer, after}
 use Rattle.fields.specs.Claims.{Claim, mapped, refusedAt, half, All}
 
@@ -110,6 +111,6 @@ inland =
     []
 
 pub inland-hold : All inland
-unfolding inland answer after
+unfolding inland answer after sizeTest lengthTest sideTest settingsTest heightTest
 inland-hold =
     ((refl, refl), ((refl, refl), ((refl, refl), ((refl, refl), ((refl, refl), ((refl, refl), ((refl, refl), ((refl, refl), ((refl, refl), ((refl, refl), ((refl, refl), ((refl, refl), ((refl, refl), ((refl, refl), ((refl, refl), ((refl, refl), ((refl, refl), tt)))))))))))))))))

@@ -2,6 +2,8 @@
 use mathlib.Core.Path.{refl}
 use mathlib.Core.List.{List, [], _∷_}
 use lib.IntN.{pos, negsuc}
+use Rattle.text.specs.Ranges.{sizeTest, lengthTest, sideTest, heightTest}
+use Rattle.settings.specs.Settings.{settingsTest}
 use Rattle.factor.specs.Exponent.{exponentOf}
 use Rattle.factor.specs.LengthFactor.{lengthFactor}
 use Rattle.factor.specs.Answers.{answer, after}
@@ -139,6 +141,6 @@ papers =
     []
 
 pub papers-hold : All papers
-unfolding papers answer after lengthFactor exponentOf
+unfolding papers answer after sizeTest lengthTest sideTest settingsTest heightTest lengthFactor exponentOf
 papers-hold =
     ((refl, refl), ((refl, refl), ((refl, refl), ((refl, refl), ((refl, refl), ((refl, refl), ((refl, refl), (refl, (refl, (refl, (refl, (refl, (refl, (refl, (refl, (refl, (refl, (refl, (refl, (refl, (refl, (refl, (refl, ((refl, refl), tt))))))))))))))))))))))))

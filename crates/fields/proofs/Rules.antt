@@ -6,11 +6,11 @@ use Prim.Native.Nat.{ℕ}
 use Rattle.settings.specs.declared.Threshold.{Threshold}
 use Rattle.settings.specs.declared.Threshold.the-variants.{Share, Over, Never}
 use Rattle.settings.specs.declared.Rules.{Rules}
-use Rattle.terrain.specs.Quantities.{noData}
-use Rattle.terrain.specs.Length.{lengthOf}
-use Rattle.factor.specs.Quantities.{tooLong}
+use Rattle.terrain.specs.Cells.{noData}
+use Rattle.terrain.specs.Answers.{directionOf}
 use Rattle.factor.specs.LengthFactor.{lengthFactor}
-use Rattle.factor.specs.Cell.{factorOf}
+use Rattle.factor.specs.Cell.{tooLong, factorOf}
+use Rattle.factor.specs.Answers.{mapOf}
 use Rattle.fields.specs.Claims.{Claim, measured, reaches, factored, All}
 
 abbrev rules : ℕ → ℕ → Threshold → Rules
@@ -96,6 +96,6 @@ edges =
     []
 
 pub edges-hold : All edges
-unfolding edges lengthOf lengthFactor factorOf
+unfolding edges directionOf mapOf lengthFactor factorOf
 edges-hold =
     (refl, (refl, (refl, (refl, (refl, (refl, (refl, (refl, (refl, (refl, (refl, (refl, (refl, (refl, (refl, (refl, (refl, (refl, (refl, (refl, (refl, (refl, (refl, (refl, (refl, (refl, (refl, (refl, (refl, (refl, (refl, (refl, (refl, tt)))))))))))))))))))))))))))))))))

@@ -8,11 +8,12 @@ use Rattle.settings.specs.declared.Channel.the-variants.{NoChannel}
 use Rattle.settings.specs.declared.Settings.{Settings}
 use Rattle.settings.specs.declared.Rules.{Rules}
 use Rattle.settings.specs.Settings.{quotient}
-use Rattle.terrain.specs.Length.{lengthOf}
+use Rattle.terrain.specs.Answers.{directionOf}
 use Rattle.factor.specs.Exponent.{exponentOf}
 use Rattle.factor.specs.LengthFactor.{lengthFactor}
 use Rattle.factor.specs.Cell.{factorOf}
-use Rattle.factor.specs.Answers.{Grids, answer, after}
+use Rattle.factor.specs.Answers.{Grids, mapOf, answer, after}
+use Rattle.factor.specs.declared.Answer.the-variants.{Accepted, Refused}
 
 -- what a map is claimed to be
 pub record Maps : Type 0 where
@@ -53,11 +54,11 @@ lent n =
 
 abbrev pub Holds : Claim → Type 0
 Holds (mapped rows cols side given ground m) =
-    (answer rows cols side given ground (lent (rows * cols)) ≡ record { number = 0; place = 0; valids = m .valids; longest = m .longest })
+    (answer rows cols side given ground (lent (rows * cols)) ≡ Accepted (m .valids) (m .longest))
     × (after rows cols side given ground (lent (rows * cols)) ≡ record { filled = m .filled; direction = m .direction; count = m .count; lengths = m .lengths; factors = m .factors; workspace = replicate (rows * cols) 0 })
 Holds (refusedAt rows cols side given ground number place) =
-    (answer rows cols side given ground (lent 2) ≡ record { number = number; place = place; valids = 0; longest = 0 }) × (after rows cols side given ground (lent 2) ≡ lent 2)
-Holds (measured rows cols side rules ground lengths) = lengthOf rows cols side rules ground ≡ lengths
+    (answer rows cols side given ground (lent 2) ≡ Refused (record { number = number; place = place })) × (after rows cols side given ground (lent 2) ≡ lent 2)
+Holds (measured rows cols side rules ground lengths) = (let dir = directionOf rows cols ground in mapOf rows cols side rules ground dir .lengths) ≡ lengths
 Holds (reaches k mm t) = lengthFactor k mm ≡ t
 Holds (east drop k) = exponentOf 1000 (2 * (drop * drop)) ≡ k
 Holds (factored q length ls) = factorOf 1000 q length ≡ ls

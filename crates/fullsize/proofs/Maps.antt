@@ -1,22 +1,43 @@
--- What a map call promises, told of the answer that is handed out and of the settings that the five numbers stand for. Assumes nothing.
-use mathlib.Core.Path.{_≡_, sym, ap, _∙_}
+-- What a map call promises, told of the numbers that are handed out and of the settings that the five numbers stand for. Assumes nothing.
+use mathlib.Core.Path.{_≡_, refl, sym, ap, _∙_}
+use mathlib.Core.Bool.{true, true≢false}
 use mathlib.Core.List.{List}
 use Prim.Native.Nat.{ℕ}
 use lib.IntN.{ℤ}
+use Rattle.laws.specs.Tests.{Test, passed, failed}
 use Rattle.settings.specs.declared.Settings.{Settings}
-use Rattle.terrain.specs.Answers.{Answer}
-use Rattle.factor.specs.Answers.{Grids, answer, after}
+use Rattle.terrain.specs.Answers.{validOf}
+use Rattle.factor.specs.Answers.{Grids, judged, answerOf, answer, after, Numbers, told, accepts}
+use Rattle.factor.specs.declared.Answer.{Answer}
+use Rattle.factor.proofs.Judging.{number-some}
 
 module _ (rows cols side : ℕ) (ground : List ℤ) (g : Grids) {s t : Settings} (same : s ≡ t) where
-  pub answers-of : {a b : Answer} → a ≡ b → b ≡ answer rows cols side s ground g → a ≡ answer rows cols side t ground g
-  answers-of e p = e ∙ p ∙ ap (λ (x : Settings). answer rows cols side x ground g) same
+  pub answers-of : {n : Numbers} {a : Answer} → n ≡ told a → a ≡ answer rows cols side s ground g → n ≡ told (answer rows cols side t ground g)
+  answers-of e p = e ∙ ap told (p ∙ ap (λ (x : Settings). answer rows cols side x ground g) same)
 
   pub leaves-of : {left : Grids} → left ≡ after rows cols side s ground g → left ≡ after rows cols side t ground g
   leaves-of p = p ∙ ap (λ (x : Settings). after rows cols side x ground g) same
 
-module _ {a b : Answer} (e : a ≡ b) where
-  pub number-of : a .number ≡ 0 → b .number ≡ 0
-  number-of z = sym (ap (λ (x : Answer). x .number) e) ∙ z
+module _ (rows cols side : ℕ) (settings : Settings) (ground : List ℤ) (g : Grids) where
+  -- the number of valid cells that an accepted call answers
+  accepted-valids : accepts (answer rows cols side settings ground g) ≡ true → told (answer rows cols side settings ground g) .valids ≡ validOf rows cols ground
+  unfolding answer answerOf
+  accepted-valids = go (judged rows cols side settings ground g)
+    where
+      go : (t : Test) → accepts (answerOf rows cols ground t) ≡ true → told (answerOf rows cols ground t) .valids ≡ validOf rows cols ground
+      go passed y = refl
+      go (failed number place) y = absurd (true≢false (sym y))
 
-  pub valids-of : {total : ℕ} → total ≡ b .valids → total ≡ a .valids
-  valids-of p = p ∙ sym (ap (λ (x : Answer). x .valids) e)
+  -- a call that hands out the number 0 is accepted, and hands out the number of valid cells
+  module _ {n : Numbers} {a : Answer} (e : n ≡ told a) (p : a ≡ answer rows cols side settings ground g) (z : n .number ≡ 0) where
+    told-is : n ≡ told (answer rows cols side settings ground g)
+    told-is = e ∙ ap told p
+
+    accepted : accepts (answer rows cols side settings ground g) ≡ true
+    accepted = number-some rows cols side settings ground g (sym (ap (λ (x : Numbers). x .number) told-is) ∙ z)
+
+    pub accepts-of : accepts a ≡ true
+    accepts-of = ap accepts p ∙ accepted
+
+    pub valids-of : {total : ℕ} → total ≡ validOf rows cols ground → total ≡ n .valids
+    valids-of t = t ∙ sym (ap (λ (x : Numbers). x .valids) told-is ∙ accepted-valids accepted)

@@ -3,7 +3,7 @@ use Prim.Native.Nat.{ℕ}
 use mathlib.Core.List.{List}
 use lib.IntN.{ℤ, pos}
 use Rattle.text.specs.Answers.{Outcome, GridOutcome}
-use Rattle.terrain.specs.Answers.{Answer}
+use Rattle.factor.specs.Answers.{Numbers}
 
 -- of the header call and the reader call: number and place, and the four numbers
 abbrev pub reading : ℕ → ℕ → ℕ → ℕ → ℕ → ℤ → Outcome
@@ -14,5 +14,5 @@ abbrev pub gridReading : Outcome → List ℤ → GridOutcome
 gridReading answer heights = record { answer = answer; heights = heights }
 
 -- of the map call: number and place, the number of valid cells and the steps of the longest trail
-abbrev pub mapping : ℕ → ℕ → ℕ → ℕ → Answer
+abbrev pub mapping : ℕ → ℕ → ℕ → ℕ → Numbers
 mapping number place valids longest = record { number = number; place = place; valids = valids; longest = longest }

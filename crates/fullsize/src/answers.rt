@@ -1,7 +1,7 @@
 // An answer handed out: each number of it goes to its own place, and the number of the refusal is the result.
 ghost use mathlib.Core.Path.{_≡_};
 ghost use Rattle.text.specs.Answers.{outcomeOf};
-ghost use Rattle.terrain.specs.Answers.{told};
+ghost use Rattle.factor.specs.Answers.{told};
 ghost use Rattle.fullsize.specs.Outcomes.{reading, mapping};
 
 // Hands out the answer of a reading.
@@ -38,7 +38,7 @@ pub(crate) fn hand_out_reading(
 
 // Hands out the answer of a map call.
 pub(crate) fn hand_out_mapping(
-    answer: terrain::Answer,
+    answer: factor::Answer,
     place: &mut usize,
     valid: &mut u32,
     longest: &mut u32,
@@ -46,7 +46,7 @@ pub(crate) fn hand_out_mapping(
     ensures { λ r. ⌜ mapping r (now (place .exit)) (now (valid .exit)) (now (longest .exit)) ≡ told answer ⌝ }
 {
     match answer {
-        terrain::Answer::Accepted {
+        factor::Answer::Accepted {
             valid: cells,
             longest: steps,
         } => {
@@ -55,7 +55,7 @@ pub(crate) fn hand_out_mapping(
             *longest = steps;
             0
         }
-        terrain::Answer::Refused(refusal) => {
+        factor::Answer::Refused(refusal) => {
             *place = refusal.place;
             *valid = 0;
             *longest = 0;

@@ -10,7 +10,7 @@ ghost use mathlib.Core.Path.{_≡_};
 ghost use Rattle.text.specs.Answers.{headerAnswer, gridAnswer};
 ghost use Rattle.settings.specs.Settings.{defaultSettings};
 ghost use Rattle.terrain.specs.Drainage.{Trails, Totals, Surface};
-ghost use Rattle.factor.specs.Answers.{lent, answer, after};
+ghost use Rattle.factor.specs.Answers.{lent, answer, after, told};
 ghost use Rattle.fullsize.specs.Outcomes.{reading, gridReading, mapping};
 ghost use Rattle.fullsize.specs.Crossing.{numbers, numbersOf, settingsOf};
 use settings::Settings;
@@ -85,7 +85,7 @@ pub extern "C" fn lsmap_map(
     valid: &mut u32,
     longest: &mut u32,
 ) -> u32
-    ensures answers { λ r. ⌜ mapping r (now (place .exit)) (now (valid .exit)) (now (longest .exit)) ≡ answer rows columns side (settingsOf low high kind cells percentage) (now (ground .entry)) (lent (now (filled .entry)) (now (direction .entry)) (now (count .entry)) (now (lengths .entry)) (now (factors .entry)) (now (workspace .entry))) ⌝ }
+    ensures answers { λ r. ⌜ mapping r (now (place .exit)) (now (valid .exit)) (now (longest .exit)) ≡ told (answer rows columns side (settingsOf low high kind cells percentage) (now (ground .entry)) (lent (now (filled .entry)) (now (direction .entry)) (now (count .entry)) (now (lengths .entry)) (now (factors .entry)) (now (workspace .entry)))) ⌝ }
     ensures leaves { λ _. ⌜ lent (now (filled .exit)) (now (direction .exit)) (now (count .exit)) (now (lengths .exit)) (now (factors .exit)) (now (workspace .exit)) ≡ after rows columns side (settingsOf low high kind cells percentage) (now (ground .entry)) (lent (now (filled .entry)) (now (direction .entry)) (now (count .entry)) (now (lengths .entry)) (now (factors .entry)) (now (workspace .entry))) ⌝ }
     ensures trails { λ r. ⌜ (r ≡ 0 → Trails rows columns (now (ground .entry)) (now (filled .exit)) (now (direction .exit))) ⌝ }
     ensures totals { λ r. ⌜ (r ≡ 0 → Totals rows columns (now (direction .exit)) (now (count .exit)) (now (valid .exit))) ⌝ }

@@ -1,10 +1,16 @@
 pub mod Tests
+pub mod Verdicts
 pub mod Signed
 pub mod Filling
 pub mod Lists
 pub mod Sums
+pub mod Squares
 pub mod First
 pub mod Search
 pub mod Pigeon
 pub mod Settle
-pub mod Raise
+pub mod Orders
+pub mod Peel
+pub mod Rings
+pub mod Handing
+pub mod Greatest

@@ -51,14 +51,6 @@ getD-any [] x d e h = absurd (not-suc-le-zero h)
 getD-any (a ∷ l) zero d e h = refl
 getD-any (a ∷ l) (suc x) d e h = getD-any l x d e (le-of-suc-le-suc h)
 
--- zeros are 0 inside and past the end
-pub getD-zeros : (n x : ℕ) → getD {A = ℕ} (replicate n 0) x 0 ≡ 0
-getD-zeros n x =
-    elim (decLt x n) [
-      | yes h ↦ getD-replicate n x 0 0 h
-      | no f ↦ List·getD-eq-default {A = ℕ} (replicate n 0) 0 {n = x} (omega (arith, length-replicate {A = ℕ} n 0))
-    ]
-
 pub getD-map-in : {A B : Type 0} (f : A → B) (l : List A) (x : ℕ) (a : A) (b : B) → x < length l → getD (map f l) x b ≡ f (getD l x a)
 getD-map-in f [] x a b h = absurd (not-suc-le-zero h)
 getD-map-in f (z ∷ l) zero a b h = refl

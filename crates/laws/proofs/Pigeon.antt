@@ -1,9 +1,16 @@
 -- The pigeonhole: different numbers below n are at most n. Assumes nothing.
-use mathlib.Core.Path.{_≡_}
+use mathlib.Core.Path.{_≡_, sym, _∙_}
+use mathlib.Core.Bool.{Bool, true≢false}
+use mathlib.Core.Logic.{⊎-elim}
 use Prim.Native.Nat.{ℕ, zero, suc, _≤_, _<_}
 use native.Mathlib.Omega.{arith}
 use native.Mathlib.Decide.{ℕ-discrete}
+use lib.Dec.{eqb}
+use borrow.Author.Tests.{eq-eqb, eqb-true}
+use Rattle.laws.specs.First.{someOf}
 use Rattle.laws.specs.Pigeon.{Apart}
+use Rattle.laws.proofs.Tests.{two}
+use Rattle.laws.proofs.First.{some-is, some-yes, none-at}
 
 -- the number n itself gives way to the number a
 swapped : (n a v : ℕ) → Dec (v ≡ n) → ℕ
@@ -35,3 +42,16 @@ pigeon (suc n) (suc m) f p =
             differ = (λ i j lt h. swap-differ n (f m) (f i) (f j) (ℕ-discrete (f i) n) (ℕ-discrete (f j) n) (p .differ i j lt (omega arith)) (p .differ i m (omega arith) (omega arith)) (p .differ j m h (omega arith)));
           }),
     )
+
+-- so of more than n numbers below n two are the same
+pub pigeon-meet : (n m : ℕ) (f : ℕ → ℕ) → n < m → ((i : ℕ) → i < m → f i < n) → (i : ℕ) × (j : ℕ) × (i < j) × (j < m) × (f i ≡ f j)
+pigeon-meet n m f h below =
+    ⊎-elim (λ e. let w = some-is again m e in let u = some-is (same (w .0)) (w .0) (w .2) in (u .0, w .0, u .1, w .1, eqb-true (f (u .0)) (f (w .0)) (u .2)))
+    (λ e. absurd (omega (arith, pigeon n m f (record { below = below; differ = (λ i j l k q. true≢false (sym (some-yes (same j) j i l (eq-eqb (f i) (f j) q)) ∙ none-at again m j e k)) }))))
+    (two (someOf again m))
+  where
+    same : ℕ → ℕ → Bool
+    same j i = eqb (f i) (f j)
+
+    again : ℕ → Bool
+    again j = someOf (same j) j

@@ -1,11 +1,13 @@
 -- Laws of sums and of the greatest value over the numbers below n. Assumes nothing.
 use mathlib.Core.Path.{_≡_, refl, sym, ap}
 use mathlib.Core.Bool.{Bool, true, false, cond}
-use Prim.Native.Nat.{ℕ, zero, suc, _+_, _≤_, _<_, max}
+use Prim.Native.Nat.{ℕ, zero, suc, _+_, _-_, _≤_, _<_, max}
 use native.Mathlib.Omega.{arith}
 use native.Mathlib.Numerals.{add-one}
 use native.Mathlib.Decide.{decLe, ℕ-discrete}
+use mathlib.Core.Logic.{⊎-elim}
 use Rattle.laws.specs.Sums.{sumTo, greatestTo, when}
+use Rattle.laws.proofs.Tests.{two}
 
 -- ---- sums
 
@@ -59,6 +61,22 @@ sum-one (suc n) f k l h =
       | yes e ↦ omega (arith, sum-zero n f (λ i lt. h i (omega arith) (λ q. omega arith)), ap f e)
       | no d ↦ omega (arith, sum-one n f k (omega arith) (λ i lt q. h i (omega arith) q), h n (omega arith) (λ q. d (sym q)))
     ]
+
+-- two sums that differ at one number
+pub sum-but-one : (n : ℕ) (f g : ℕ → ℕ) (k : ℕ) → k < n → ((i : ℕ) → i < n → (i ≡ k → ⊥) → f i ≡ g i) → sumTo n f + g k ≡ sumTo n g + f k
+unfolding sumTo
+sum-but-one zero f g k l h = absurd (omega arith)
+sum-but-one (suc n) f g k l h =
+    elim (ℕ-discrete k n) [
+      | yes e ↦ omega (arith, sum-ext n f g (λ i lt. h i (omega arith) (λ q. omega arith)), ap f e, ap g e)
+      | no d ↦ omega (arith, sum-but-one n f g k (omega arith) (λ i lt q. h i (omega arith) q), h n (omega arith) (λ q. d (sym q)))
+    ]
+
+-- a value is at most the sum
+pub sum-ge : (n : ℕ) (f : ℕ → ℕ) (k : ℕ) → k < n → f k ≤ sumTo n f
+unfolding sumTo
+sum-ge zero f k l = absurd (omega arith)
+sum-ge (suc n) f k l = elim (ℕ-discrete k n) [ yes e ↦ omega (arith, ap f e) | no d ↦ omega (arith, sum-ge n f k (omega arith)) ]
 
 -- ---- the greatest
 
@@ -142,3 +160,9 @@ pub sum-when : (n : ℕ) (b : Bool) (f : ℕ → ℕ) → when b (sumTo n f) ≡
 unfolding when
 sum-when n true f = refl
 sum-when n false f = sym (sum-zero n (λ i. 0) (λ i l. refl))
+
+-- the greatest of what is one more is one more, where there is any
+pub greatest-less : (n : ℕ) (b : ℕ → Bool) (f : ℕ → ℕ) → greatestTo n (λ x. when (b x) (f x + 1)) - 1 ≡ greatestTo n (λ x. when (b x) (f x))
+unfolding greatestTo
+greatest-less zero b f = refl
+greatest-less (suc n) b f = ⊎-elim (λ e. omega (arith, greatest-less n b f, when-yes (f n + 1) e, when-yes (f n) e)) (λ e. omega (arith, greatest-less n b f, when-no (f n + 1) e, when-no (f n) e)) (two (b n))

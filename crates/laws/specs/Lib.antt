@@ -4,4 +4,9 @@ pub mod First
 pub mod Search
 pub mod Pigeon
 pub mod Settle
-pub mod Raise
+pub mod Orders
+pub mod Peel
+pub mod Rings
+pub mod Handing
+pub mod Tests
+pub mod Greatest

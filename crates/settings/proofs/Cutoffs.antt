@@ -144,7 +144,7 @@ module _ (d top : ℕ) (rising : Rising d top) where
 
 -- ---- the verdict on settings, test by test as the code makes it
 
-judged-is : (s : Settings) → judgedOf s ≡ verdictOf (wholeOf 100 100 (s .low)) (wholeOf 100 100 (s .high)) (thresholdOf (s .channel))
+judged-is : (s : Settings) → judgedOf s ≡ verdictOf (record { low = wholeOf 100 100 (s .low); high = wholeOf 100 100 (s .high); threshold = thresholdOf (s .channel) })
 unfolding judgedOf
 judged-is s = refl
 
@@ -203,8 +203,8 @@ pub data Claim : Type 0 where
   cutoffs : ℕ → ℕ → Judged → Claim
   channel : Channel → Judged → Claim
 
-abbrev rulesOf : ℕ → ℕ → Threshold → Judged
-rulesOf low high threshold = Accepted (record { low = low; high = high; threshold = threshold })
+abbrev accepted : ℕ → ℕ → Threshold → Judged
+accepted low high threshold = Accepted (record { low = low; high = high; threshold = threshold })
 
 abbrev pub Holds : Claim → Type 0
 Holds (cutoffs low high j) = judgedOf (record { low = ofBits binary64 low; high = ofBits binary64 high; channel = NoChannel }) ≡ j
@@ -217,9 +217,9 @@ All (c ∷ l) = Holds c × All l
 unfoldable pub claims : List Claim
 claims =
     -- 0.29, 0.57 and 0.58 mean 29, 57 and 58; zero and minus zero mean 0, and 1.0 means 100
-    cutoffs 0x3FD28F5C28F5C28F 0x3FE23D70A3D70A3D (rulesOf 29 57 Never) ∷
-    cutoffs 0x3FE28F5C28F5C28F 0x0000000000000000 (rulesOf 58 0 Never) ∷
-    cutoffs 0x8000000000000000 0x3FF0000000000000 (rulesOf 0 100 Never) ∷
+    cutoffs 0x3FD28F5C28F5C28F 0x3FE23D70A3D70A3D (accepted 29 57 Never) ∷
+    cutoffs 0x3FE28F5C28F5C28F 0x0000000000000000 (accepted 58 0 Never) ∷
+    cutoffs 0x8000000000000000 0x3FF0000000000000 (accepted 0 100 Never) ∷
     -- as the low cutoff 0.285, -0.01, 1.01, the infinities, NaN and the floats beside 0.29
     cutoffs 0x3FD23D70A3D70A3D 0x3FE0000000000000 (Refused 1) ∷
     cutoffs 0xBF847AE147AE147B 0x3FE0000000000000 (Refused 1) ∷
@@ -238,16 +238,16 @@ claims =
     cutoffs 0x0000000000000000 0x7FF8000000000000 (Refused 2) ∷
     cutoffs 0x4000000000000000 0x4000000000000000 (Refused 1) ∷
     -- the percentages minus zero, 0.1, 1.0 and 28.9; 0.05 and NaN
-    channel (Percentage (ofBits binary64 0x8000000000000000)) (rulesOf 50 50 (Share 0)) ∷
-    channel (Percentage (ofBits binary64 0x3FB999999999999A)) (rulesOf 50 50 (Share 1)) ∷
-    channel (Percentage (ofBits binary64 0x3FF0000000000000)) (rulesOf 50 50 (Share 10)) ∷
-    channel (Percentage (ofBits binary64 0x403CE66666666666)) (rulesOf 50 50 (Share 289)) ∷
+    channel (Percentage (ofBits binary64 0x8000000000000000)) (accepted 50 50 (Share 0)) ∷
+    channel (Percentage (ofBits binary64 0x3FB999999999999A)) (accepted 50 50 (Share 1)) ∷
+    channel (Percentage (ofBits binary64 0x3FF0000000000000)) (accepted 50 50 (Share 10)) ∷
+    channel (Percentage (ofBits binary64 0x403CE66666666666)) (accepted 50 50 (Share 289)) ∷
     channel (Percentage (ofBits binary64 0x3FA999999999999A)) (Refused 3) ∷
     channel (Percentage (ofBits binary64 0x7FF8000000000000)) (Refused 3) ∷
     -- any number of cells, and no channel
-    channel (Cells 0) (rulesOf 50 50 (Over 0)) ∷
-    channel (Cells 4294967295) (rulesOf 50 50 (Over 4294967295)) ∷
-    channel NoChannel (rulesOf 50 50 Never) ∷
+    channel (Cells 0) (accepted 50 50 (Over 0)) ∷
+    channel (Cells 4294967295) (accepted 50 50 (Over 4294967295)) ∷
+    channel NoChannel (accepted 50 50 Never) ∷
     []
 
 pub settings-examples : All claims
@@ -255,6 +255,6 @@ unfolding claims judgedOf ofBits
 settings-examples = (refl, (refl, (refl, (refl, (refl, (refl, (refl, (refl, (refl, (refl, (refl, (refl, (refl, (refl, (refl, (refl, (refl, (refl, (refl, (refl, (refl, (refl, (refl, (refl, (refl, (refl, (refl, tt)))))))))))))))))))))))))))
 
 -- the defaults are accepted, and mean 50, 50 and 10 tenths of a percent
-pub default-means : judgedOf defaultSettings ≡ rulesOf 50 50 (Share 10)
+pub default-means : judgedOf defaultSettings ≡ accepted 50 50 (Share 10)
 unfolding judgedOf defaultSettings
 default-means = refl

@@ -1,1 +1,2 @@
 pub mod Cutoffs
+pub mod Verdicts

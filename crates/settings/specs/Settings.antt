@@ -5,11 +5,13 @@ use lib.IntN.{pos}
 use lib.Dec.{leb}
 use lib.Ieee.{Float, binary64, div, ofInt, eq}
 use Rattle.laws.specs.First.{firstOf}
+use Rattle.laws.specs.Tests.{Test, passed, failed}
 use Rattle.settings.specs.declared.Channel.{Channel}
 use Rattle.settings.specs.declared.Channel.the-variants.{Percentage, Cells, NoChannel}
 use Rattle.settings.specs.declared.Settings.{Settings}
 use Rattle.settings.specs.declared.Threshold.{Threshold}
 use Rattle.settings.specs.declared.Threshold.the-variants.{Share, Over, Never}
+use Rattle.settings.specs.declared.Rules.{Rules}
 use Rattle.settings.specs.declared.Judged.{Judged}
 use Rattle.settings.specs.declared.Judged.the-variants.{Accepted, Refused}
 
@@ -40,17 +42,29 @@ thresholdAccepted (Share n) = leb n 1000
 thresholdAccepted (Over n) = true
 thresholdAccepted Never = true
 
--- "a setting not accepted: the first bad one of 1 low cutoff, 2 high, 3 channel"
-unfoldable pub verdictOf : ℕ → ℕ → Threshold → Judged
+-- what accepted settings mean
+unfoldable pub rulesOf : Settings → Rules
+unfolding cutoffOf thresholdOf
+rulesOf s = record { low = cutoffOf (s .low); high = cutoffOf (s .high); threshold = thresholdOf (s .channel) }
+
+-- "the first bad one of 1 low cutoff, 2 high, 3 channel"
+unfoldable pub verdictOf : Rules → Judged
 unfolding thresholdAccepted
-verdictOf low high threshold =
-    cond (leb low 100)
-    (cond (leb high 100) (cond (thresholdAccepted threshold) (Accepted (record { low = low; high = high; threshold = threshold })) (Refused 3)) (Refused 2))
-    (Refused 1)
+verdictOf rules = cond (leb (rules .low) 100) (cond (leb (rules .high) 100) (cond (thresholdAccepted (rules .threshold)) (Accepted rules) (Refused 3)) (Refused 2)) (Refused 1)
 
 unfoldable pub judgedOf : Settings → Judged
-unfolding cutoffOf thresholdOf verdictOf
-judgedOf s = verdictOf (cutoffOf (s .low)) (cutoffOf (s .high)) (thresholdOf (s .channel))
+unfolding rulesOf verdictOf
+judgedOf s = verdictOf (rulesOf s)
+
+-- the number and the place of each case of the enum
+abbrev pub told : Judged → Test
+told (Accepted rules) = passed
+told (Refused place) = failed 4 place
+
+-- "4: a setting not accepted; place: the first bad one of 1 low cutoff, 2 high, 3 channel"
+unfoldable pub settingsTest : Settings → Test
+unfolding judgedOf
+settingsTest s = told (judgedOf s)
 
 -- "Library defaults: 0.5, 0.5, percentage 1.0"
 unfoldable pub defaultSettings : Settings

@@ -7,7 +7,8 @@ use Rattle.text.specs.Words.{run, wordStart, wordEnd, word}
 use Rattle.text.specs.Numbers.{value, countAt, decimals, numberAt, count, number, measure}
 use Rattle.text.specs.Headers.{named, name, corner, side, field, anyMeasure, noData, extent, corners, sideAndNoData, header}
 use Rattle.text.specs.Heights.{height, heights, end, body, grid}
-use Rattle.settings.specs.Settings.{quotient}
+use Rattle.text.specs.Ranges.{sizeTest, lengthTest, sideTest, heightTest}
+use Rattle.settings.specs.Settings.{quotient, settingsTest}
 use Rattle.settings.specs.declared.Settings.{Settings}
 use Rattle.settings.specs.declared.Channel.the-variants.{NoChannel}
 use Rattle.sheet.specs.Sheet.{sheetOf}
@@ -41,5 +42,5 @@ examples =
     record { text = "ncols 1024 nrows 3 xllcorner 0 yllcorner 0 cellsize 0"; sheet = "refused 3 at 52\n" } ∷ []
 
 pub examples-hold : map (λ (x : Example). sheetOf (bytes (x .text)) half) examples ≡ map (λ (x : Example). bytes (x .sheet)) examples
-unfolding examples sheetOf bytes half run wordStart wordEnd word value countAt decimals numberAt count number measure named name corner side field anyMeasure noData extent corners sideAndNoData header height heights end body grid
+unfolding examples sheetOf bytes half run wordStart wordEnd word value countAt decimals numberAt count number measure named name corner side field anyMeasure noData extent corners sideAndNoData header height heights end body grid sizeTest lengthTest sideTest settingsTest heightTest
 examples-hold = refl

@@ -1,17 +1,22 @@
 -- Laws of a whole sheet: each of the top call's ways out writes what the definition says. Assumes nothing.
 use mathlib.Core.Path.{_≡_, refl, sym, ap, ap₂, _∙_}
-use mathlib.Core.Bool.{Bool, true, false}
-use mathlib.Core.List.{List, _∷_}
+use mathlib.Core.Bool.{Bool, true, false, true≢false}
+use mathlib.Core.List.{List, [], _∷_}
 use Prim.Native.Nat.{ℕ, zero, suc, _*_, _≤_, _<_}
 use native.Mathlib.Omega.{arith}
 use borrow.Author.Tests.{eq-eqb, ne-eqb, lt-ltb, le-ltb}
 use lib.IntN.{ℤ, pos}
 use lib.ListN.{length, take, replicate, length-replicate}
+use Rattle.laws.specs.Tests.{Test, passed, failed}
+use Rattle.laws.proofs.Verdicts.{verdict-passed}
 use Rattle.settings.specs.declared.Settings.{Settings}
+use Rattle.settings.specs.Settings.{settingsTest}
 use Rattle.text.specs.Answers.{headerAnswer, gridAnswer}
-use Rattle.terrain.specs.Answers.{Answer}
-use Rattle.terrain.proofs.Answers.{accepted-judged, accepted-ready}
-use Rattle.factor.specs.Answers.{Grids, lentOn, answer, after}
+use Rattle.text.specs.Ranges.{sizeTest, lengthTest, sideTest, heightTest}
+use Rattle.text.proofs.Accepted.{size-is, size-passed}
+use Rattle.factor.specs.Answers.{Grids, placesOf, tests, judged, answerOf, answer, after, told, accepts}
+use Rattle.factor.specs.declared.Answer.{Answer}
+use Rattle.factor.proofs.Judging.{number-some}
 use Rattle.sheet.specs.Lines.{refusalLine, gridsOf, mapLines}
 use Rattle.sheet.specs.Answers.{headNumbers, surveyNumbers}
 use Rattle.sheet.specs.Sheet.{linesOr, mapSheet, gridSheet, zeros, headSheet, sheetOf}
@@ -34,9 +39,23 @@ refused-as number place lines en ep h = ap₂ refusalLine en ep ∙ sym (lines-n
 
 -- ---- the map call
 
-module _ (rows columns side : ℕ) (settings : Settings) (ground : List ℤ) (g : Grids) {s : Survey} {a : Answer} (es : s ≡ surveyNumbers a) (ea : a ≡ answer rows columns side settings ground g) where
-  e : s ≡ surveyNumbers (answer rows columns side settings ground g)
-  e = es ∙ ap surveyNumbers ea
+module _ (rows columns side : ℕ) (settings : Settings) (ground : List ℤ) (g : Grids) where
+  passed-size : judged rows columns side settings ground g ≡ passed → sizeTest rows columns ≡ passed
+  unfolding judged tests
+  passed-size j = verdict-passed (sizeTest rows columns) (lengthTest (rows * columns) (placesOf ground g) ∷ sideTest side ∷ settingsTest settings ∷ heightTest (rows * columns) ground ∷ []) j .0
+
+  -- a map that is accepted has columns
+  accepted-columns : accepts (answer rows columns side settings ground g) ≡ true → 0 < columns
+  unfolding answer answerOf
+  accepted-columns = go (judged rows columns side settings ground g) refl
+    where
+      go : (t : Test) → judged rows columns side settings ground g ≡ t → accepts (answerOf rows columns ground t) ≡ true → 0 < columns
+      go passed j y = omega (arith, size-is columns (size-passed rows columns (passed-size j) .1) .0)
+      go (failed number place) j y = absurd (true≢false (sym y))
+
+module _ (rows columns side : ℕ) (settings : Settings) (ground : List ℤ) (g : Grids) {s : Survey} {a : Answer} (es : s ≡ surveyNumbers (told a)) (ea : a ≡ answer rows columns side settings ground g) where
+  e : s ≡ surveyNumbers (told (answer rows columns side settings ground g))
+  e = es ∙ ap (λ (x : Answer). surveyNumbers (told x)) ea
 
   pub map-refused : (s .number ≡ 0 → ⊥) → refusalLine (s .number) (s .place) ≡ mapSheet rows columns side settings ground g
   unfolding mapSheet
@@ -46,14 +65,10 @@ module _ (rows columns side : ℕ) (settings : Settings) (ground : List ℤ) (g 
   unfolding mapSheet
   map-printed m f h =
       ap₂ (λ (x : Survey) (m : Grids). mapLines (record { rows = rows; columns = columns; side = side; valid = x .valid; longest = x .longest }) (gridsOf ground (m .filled) (m .direction) (m .count) (m .lengths) (m .factors))) e f
-      ∙ sym (lines-yes _ (answer rows columns side settings ground g .place) _ (sym (ap (λ (x : Survey). x .number) e) ∙ h))
+      ∙ sym (lines-yes _ (told (answer rows columns side settings ground g) .place) _ (sym (ap (λ (x : Survey). x .number) e) ∙ h))
 
-  -- a map that is accepted has columns
   pub map-columns : s .number ≡ 0 → 0 < columns
-  unfolding answer
-  map-columns h =
-      let j = accepted-judged rows columns side settings ground (lentOn g) (sym (ap (λ (x : Survey). x .number) e) ∙ h) in
-      omega (arith, accepted-ready rows columns side settings ground (lentOn g) (j .1) .cols-some)
+  map-columns h = accepted-columns rows columns side settings ground g (number-some rows columns side settings ground g (sym (ap (λ (x : Survey). x .number) e) ∙ h))
 
 -- ---- the reader call
 

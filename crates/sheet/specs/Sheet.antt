@@ -7,7 +7,7 @@ use lib.IntN.{ℤ, pos, natAbs}
 use lib.ListN.{length, replicate}
 use Rattle.settings.specs.declared.Settings.{Settings}
 use Rattle.text.specs.Answers.{headerAnswer, gridAnswer}
-use Rattle.factor.specs.Answers.{Grids, lent, answer, after}
+use Rattle.factor.specs.Answers.{Grids, lent, answer, after, told}
 use Rattle.sheet.specs.Lines.{refusalLine, gridsOf, mapLines}
 
 -- the lines of an accepted call, or the line of its refusal
@@ -19,7 +19,7 @@ linesOr number place lines = elim (eqb number 0) [ true ↦ lines | false ↦ re
 unfoldable pub mapSheet : ℕ → ℕ → ℕ → Settings → List ℤ → Grids → List ℕ
 unfolding linesOr mapLines answer after
 mapSheet rows columns side settings ground g =
-    let a = answer rows columns side settings ground g in
+    let a = told (answer rows columns side settings ground g) in
     let m = after rows columns side settings ground g in
     linesOr (a .number) (a .place)
     (mapLines (record { rows = rows; columns = columns; side = side; valid = a .valids; longest = a .longest })

@@ -1,7 +1,7 @@
 // The answers of the layers below as plain numbers: an accepted call has number and place 0, and a refused one has every other number 0.
 ghost use mathlib.Core.Path.{_≡_};
 ghost use Rattle.text.specs.Answers.{outcomeOf};
-ghost use Rattle.terrain.specs.Answers.{told};
+ghost use Rattle.factor.specs.Answers.{told};
 ghost use Rattle.sheet.specs.Answers.{headNumbers, surveyNumbers};
 
 // What a text call answers, but for the NoData number.

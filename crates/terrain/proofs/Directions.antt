@@ -1,17 +1,16 @@
 -- Directions: each valid cell points at a lower neighbour, or at one of its level that is a step nearer, or leaves the map at the rim. Assumes nothing.
 use mathlib.Core.Path.{_≡_, refl, sym, subst, _∙_}
 use mathlib.Core.List.{List}
-use mathlib.Core.Logic.{⊎-elim}
 use mathlib.Core.Bool.{Bool, true, false, cond, true≢false}
 use Prim.Native.Nat.{ℕ, _+_, _-_, _*_, _≤_, _<_}
 use native.Mathlib.Nat.{mul-le-mul}
 use native.Mathlib.Omega.{arith}
 use native.Mathlib.Decide.{decLt}
 use lib.ListN.{length, getD}
-use lib.Dec.{ltb, eqb}
+use lib.Dec.{eqb}
 use borrow.Author.Tests.{lt-ltb, le-ltb, eqb-true, eq-eqb}
 use Rattle.laws.specs.First.{firstOf}
-use Rattle.laws.proofs.Tests.{two, and-both}
+use Rattle.laws.proofs.Tests.{and-both}
 use Rattle.laws.proofs.Lists.{getD-tab, getD-tab-past, length-tab}
 use Rattle.laws.proofs.Sums.{greatest-ge, greatest-is}
 use Rattle.laws.proofs.First.{first-holds, first-le, some-is, some-yes}
@@ -57,14 +56,6 @@ module _ (rows cols : ℕ) (lv : List ℕ) where
   pub some-steepest : (x : ℕ) → 0 < steepestAt rows cols lv x → hasLower rows cols lv x ≡ true
   unfolding hasLower steepestAt
   some-steepest x h = let i = greatest-is 8 (steepAt rows cols lv x) h in some-yes (lowerAt rows cols lv x) 8 (i .0) (i .1) (steep-lower x (i .0) (omega (arith, i .2)))
-
-  -- the one test that a program makes
-  pub lower-steepest : (x : ℕ) → hasLower rows cols lv x ≡ ltb 0 (steepestAt rows cols lv x)
-  lower-steepest x =
-      elim (decLt 0 (steepestAt rows cols lv x)) [
-        | yes h ↦ some-steepest x h ∙ sym (lt-ltb 0 (steepestAt rows cols lv x) h)
-        | no f ↦ ⊎-elim (λ e. absurd (f (steepest-some x e))) (λ e. e ∙ sym (le-ltb 0 (steepestAt rows cols lv x) (omega arith))) (two (hasLower rows cols lv x))
-      ]
 
   -- the side of the direction is a lower neighbour's
   pub steep-side : (x : ℕ) → hasLower rows cols lv x ≡ true → (steepSide rows cols lv x < 8) × (lowerAt rows cols lv x (steepSide rows cols lv x) ≡ true)

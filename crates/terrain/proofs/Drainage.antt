@@ -21,7 +21,7 @@ use Rattle.terrain.specs.Flat.{farSteps, flatSteps}
 use Rattle.terrain.specs.Direction.{directionsOf}
 use Rattle.terrain.specs.Trail.{Trail, ends, goes, OnValid, NeverRises, Meets, NeverTwice, lastOf, validsOf, mappedAt, flowsAt, nextAt, stepsIn, countAt, countsOf}
 use Rattle.terrain.specs.Drainage.{surfaceOf, outflowOf, Drainage}
-use Rattle.terrain.specs.Answers.{directionOf, countOf, validOf}
+use Rattle.terrain.specs.Answers.{directionOf, validOf}
 use Rattle.terrain.proofs.Neighbours.{side-code, code-some, code-small, valid-level, level-valid, level-invalid}
 use Rattle.terrain.proofs.Filling.{filled-long, filled-above, filled-some, filled-valid, level-filled}
 use Rattle.terrain.proofs.Surfaces.{filled-le, filled-least, filled-attained, filled-drained, filled-lowest}
@@ -172,7 +172,7 @@ module _ (rows cols : ℕ) (ground : List ℤ) (ready : Ready rows cols ground) 
   leaving x h = ⊎-elim mapped none (two (mappedAt rows cols dir x))
     where
       at : getD (countsOf rows cols dir) x 0 ≡ when (mappedAt rows cols dir x) (countAt rows cols dir x)
-      at = counts-at rows cols dir rank (rank-falls rows cols dir potential falls) rank-le x h
+      at = counts-at rows cols dir x h
 
       zero-is : mappedAt rows cols dir x ≡ true → eqb (getD dir x 255) 0 ≡ not (flowsAt rows cols dir x)
       zero-is v =
@@ -196,8 +196,8 @@ module _ (rows cols : ℕ) (ground : List ℤ) (ready : Ready rows cols ground) 
       ∙ total-leaves rows cols dir rank (rank-falls rows cols dir potential falls) rank-le
       ∙ sum-ext (rows * cols) (λ x. when (mappedAt rows cols dir x) 1) (λ x. when (validAt (levelsOf ground) x) 1) (λ x l. ap (λ (b : Bool). when b 1) (mapped-valid x ∙ filled-valid rows cols ground ready x))
 
-  pub drainage : Drainage rows cols ground (filledOf rows cols ground) (directionOf rows cols ground) (countOf rows cols ground) (validOf rows cols ground)
-  unfolding directionOf countOf validOf
+  pub drainage : Drainage rows cols ground (filledOf rows cols ground) (directionOf rows cols ground) (countsOf rows cols (directionOf rows cols ground)) (validOf rows cols ground)
+  unfolding directionOf validOf
   drainage =
       record {
         trails = record { trails = trails; stays = stays; falls = never-rises; once = never-twice; leaves = leaves-rim };

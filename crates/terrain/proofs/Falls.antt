@@ -1,155 +1,42 @@
--- Laws of the loops that work out the directions: the steepest of the sides passed, and the codes of the cells passed. Assumes nothing.
+-- Laws of the loops that work out the directions: the codes and the falls of the cells passed, then those of flats. Assumes nothing.
 use mathlib.Core.Path.{_≡_, refl, sym, ap, subst, _∙_}
 use mathlib.Core.List.{List}
-use mathlib.Core.Bool.{Bool, true, false, cond, _&&_, true≢false}
+use mathlib.Core.Bool.{Bool, true, false, cond, true≢false}
 use Prim.Native.Nat.{ℕ, _+_, _-_, _*_, _≤_, _<_}
-use native.Mathlib.Nat.{le-of-lt, mul-assoc, mul-le-mul, one-mul}
 use native.Mathlib.Omega.{arith}
-use native.Mathlib.Decide.{decLt, decLe}
+use native.Mathlib.Decide.{decLt}
 use lib.ListN.{length, getD, set, length-set}
 use lib.Seq.{getD-set-other}
-use lib.Dec.{ltb, leb, eqb}
-use borrow.Author.Tests.{ltb-true, lt-ltb, le-ltb, le-leb, lt-leb, eq-eqb, ne-eqb}
+use borrow.Author.Tests.{ltb-true, lt-ltb}
 use borrow.Author.Count.{below-more}
 use Rattle.laws.specs.Lists.{tab, Agrees}
-use Rattle.laws.specs.Sums.{greatestTo}
-use Rattle.laws.specs.First.{firstOf}
-use Rattle.laws.proofs.Lists.{agrees-more, agrees-tab, getD-tab, length-tab}
-use Rattle.laws.proofs.Sums.{greatest-more, greatest-ge, greatest-is}
-use Rattle.laws.proofs.First.{first-is, first-le, first-before, first-holds, first-none}
+use Rattle.laws.proofs.Lists.{agrees-none, agrees-more, agrees-tab, getD-tab, length-tab}
+use Rattle.laws.proofs.First.{first-is, first-none}
 use Rattle.laws.proofs.Settle.{kept-active}
-use Rattle.terrain.specs.Cells.{neighbour, codeOf, cardinal, validAt, rimAt}
+use Rattle.terrain.specs.Cells.{neighbour, codeOf, validAt, rimAt}
 use Rattle.terrain.specs.Flat.{hasLower, flatAt, flatSteps, flatStepping, Walk, there, on, walked, Within, StepsKept}
-use Rattle.terrain.specs.Direction.{steepOf, steepAt, steepestAt, steepSide, nearerAt, nearerSide, directionAt, directionsOf}
-use Rattle.terrain.specs.Levels.{Levels, dropOf, Steeper, fallIn, downAt}
+use Rattle.terrain.specs.Direction.{steepSide, nearerAt, nearerSide, directionAt, directionsOf}
+use Rattle.terrain.specs.Levels.{Levels, steepestIn, downAt, fallDownAt, FallTo, Down}
 use Rattle.terrain.specs.declared.direction.Fall.{Fall}
 use Rattle.terrain.proofs.Flats.{flat-valid, flat-inland, flat-is, steps-kept}
-use Rattle.terrain.proofs.Directions.{lower-steepest}
 
--- ---- the first of greatest value, as a loop finds it
+-- ---- the cells passed before the flats are
 
-module _ (f : ℕ → ℕ) (n : ℕ) where
-  -- the next value is no greater, or it is
-  first-kept : f n ≤ greatestTo n f → 0 < greatestTo n f → firstOf (λ j. eqb (f j) (greatestTo (n + 1) f)) (n + 1) ≡ firstOf (λ j. eqb (f j) (greatestTo n f)) n
-  first-kept h p =
-      let e : greatestTo (n + 1) f ≡ greatestTo n f = omega (arith, greatest-more n f) in
-      let q : ℕ → Bool = λ j. eqb (f j) (greatestTo n f) in
-      let i = greatest-is n f p in
-      let l : firstOf q n < n = omega (arith, i .1, first-le q n (i .0) (i .1) (eq-eqb (f (i .0)) (greatestTo n f) (i .2))) in
-      ap (λ (m : ℕ). firstOf (λ j. eqb (f j) m) (n + 1)) e ∙ first-is q (n + 1) (firstOf q n) (first-before q n) (omega arith) (first-holds q n l)
+module _ {rows cols : ℕ} {lv : List ℕ} where
+  pub down-none : (dir falls : List ℕ) → Down rows cols lv dir falls 0
+  down-none dir falls = record { codes = agrees-none (downAt rows cols lv) 255 dir; falls = agrees-none (fallDownAt rows cols lv) 0 falls }
 
-  first-new : greatestTo n f < f n → firstOf (λ j. eqb (f j) (greatestTo (n + 1) f)) (n + 1) ≡ n
-  first-new h =
-      let e : greatestTo (n + 1) f ≡ f n = omega (arith, greatest-more n f) in
-      ap (λ (m : ℕ). firstOf (λ j. eqb (f j) m) (n + 1)) e
-      ∙ first-is (λ j. eqb (f j) (f n)) (n + 1) n (λ j l. ne-eqb (f j) (f n) (λ q. omega (arith, greatest-ge n f j l))) (omega arith) (eq-eqb (f n) (f n) refl)
+  pub down-more : {dir falls dir′ falls′ : List ℕ} {x : ℕ} {a : Fall} → x < length dir → x < length falls → Down rows cols lv dir falls x → FallTo rows cols lv x a → dir′ ≡ set dir x (a .code) → falls′ ≡ set falls x (a .fall) → Down rows cols lv dir′ falls′ (x + 1)
+  down-more {dir} {falls} {dir′} {falls′} {x} {a} h k p f e q =
+      record { codes = rw e (agrees-more (downAt rows cols lv) 255 dir x (a .code) h (p .codes) (f .code)); falls = rw q (agrees-more (fallDownAt rows cols lv) 0 falls x (a .fall) k (p .falls) (f .fall)) }
 
--- ---- steepness
+  pub down-codes : {dir falls : List ℕ} → length dir ≡ rows * cols → Down rows cols lv dir falls (rows * cols) → dir ≡ tab (rows * cols) (downAt rows cols lv)
+  down-codes {dir} h p = agrees-tab (downAt rows cols lv) 255 dir (rows * cols) h (p .codes)
 
--- what the square of a drop counts at a side
-weight-small : (k w : ℕ) → w ≡ cond (cardinal k) 2 1 → w ≤ 2
-weight-small k w e = rw e (go (cardinal k))
-  where
-    go : (b : Bool) → cond b 2 1 ≤ 2
-    go true = omega arith
-    go false = omega arith
-
--- the products stay small
-pub weighed-small : (k w d : ℕ) → w ≡ cond (cardinal k) 2 1 → d < 2000000 → w * d ≤ 4000000
-weighed-small k w d e h = omega (arith, mul-le-mul (weight-small k w e) (le-of-lt h))
-
-pub steep-small : (k w d : ℕ) → w ≡ cond (cardinal k) 2 1 → d < 2000000 → w * d * d ≤ 8000000000000
-steep-small k w d e h = omega (arith, mul-le-mul (weighed-small k w d e h) (le-of-lt h))
-
--- twice a square, or the square, as the code multiplies
-steep-is : (k w d : ℕ) → w ≡ cond (cardinal k) 2 1 → w * d * d ≡ steepOf k d
-steep-is k w d e = rw e (go (cardinal k))
-  where
-    go : (b : Bool) → cond b 2 1 * d * d ≡ cond b (2 * (d * d)) (d * d)
-    go true = mul-assoc 2 d d
-    go false = rw one-mul
-
--- the fall that the code keeps, and the one that it takes
-pub steeper-kept : {k d w : ℕ} {a : Fall} → w ≡ cond (cardinal k) 2 1 → w * d * d ≤ a .steepness → Steeper k d a a
-steeper-kept {k} {d} {w} {a} e h =
-    let q = steep-is k w d e in
-    record { code = sym (ap (λ (b : Bool). cond b (a .code) (codeOf k)) (le-leb (steepOf k d) (a .steepness) (omega arith))); steepness = omega arith }
-
-pub steeper-new : {k d w : ℕ} {a r : Fall} → w ≡ cond (cardinal k) 2 1 → a .steepness < w * d * d → r .code ≡ codeOf k → r .steepness ≡ w * d * d → Steeper k d a r
-steeper-new {k} {d} {w} {a} e h c s =
-    let q = steep-is k w d e in
-    record { code = c ∙ sym (ap (λ (b : Bool). cond b (a .code) (codeOf k)) (lt-leb (steepOf k d) (a .steepness) (omega arith))); steepness = omega arith }
-
-pub drop-small : (v w : ℕ) → dropOf v w ≤ v
-drop-small v w = go (ltb 0 w && ltb w v)
-  where
-    go : (b : Bool) → cond b (v - w) 0 ≤ v
-    go true = omega arith
-    go false = omega arith
-
--- the fall at the first k sides of x
-pub record FallTo (rows cols : ℕ) (lv : List ℕ) (x k : ℕ) (a : Fall) : Type 0 where
-  pub code : a .code ≡ fallIn rows cols lv x k
-  pub steepness : a .steepness ≡ greatestTo k (steepAt rows cols lv x)
+  pub down-falls : {dir falls : List ℕ} → length falls ≡ rows * cols → Down rows cols lv dir falls (rows * cols) → falls ≡ tab (rows * cols) (fallDownAt rows cols lv)
+  down-falls {dir} {falls} h p = agrees-tab (fallDownAt rows cols lv) 0 falls (rows * cols) h (p .falls)
 
 module _ (rows cols : ℕ) (lv : List ℕ) (x : ℕ) where
-  abbrev steep : ℕ → ℕ
-  steep = steepAt rows cols lv x
-
-  -- the steepness at the side k, from the drop that the code finds
-  steep-drop : (k d : ℕ) → d ≡ dropOf (getD lv x 0) (getD lv (neighbour rows cols x k) 0) → steepOf k d ≡ steep k
-  unfolding steepAt
-  steep-drop k d e = rw e (go (ltb 0 (getD lv (neighbour rows cols x k) 0) && ltb (getD lv (neighbour rows cols x k) 0) (getD lv x 0)))
-    where
-      flat : (c : Bool) → cond c (2 * (0 * 0)) (0 * 0) ≡ 0
-      flat true = refl
-      flat false = refl
-
-      go : (b : Bool) → steepOf k (cond b (getD lv x 0 - getD lv (neighbour rows cols x k) 0) 0) ≡ cond b (steepOf k (getD lv x 0 - getD lv (neighbour rows cols x k) 0)) 0
-      go true = refl
-      go false = flat (cardinal k)
-
-  -- at the next side the fall stays, or it is the new side's
-  fall-kept : (k : ℕ) → steep k ≤ greatestTo k steep → fallIn rows cols lv x (k + 1) ≡ fallIn rows cols lv x k
-  unfolding fallIn
-  fall-kept k h =
-      let e : greatestTo (k + 1) steep ≡ greatestTo k steep = omega (arith, greatest-more k steep) in
-      elim (decLt 0 (greatestTo k steep)) [
-        | yes p ↦ simp (lt-ltb 0 (greatestTo k steep) p, lt-ltb 0 (greatestTo (k + 1) steep) (omega arith)) (ap codeOf (first-kept steep k h p))
-        | no q ↦ simp (le-ltb 0 (greatestTo k steep) (omega arith), le-ltb 0 (greatestTo (k + 1) steep) (omega arith))
-      ]
-
-  fall-new : (k : ℕ) → greatestTo k steep < steep k → fallIn rows cols lv x (k + 1) ≡ codeOf k
-  unfolding fallIn
-  fall-new k h = simp (lt-ltb 0 (greatestTo (k + 1) steep) (omega (arith, greatest-more k steep))) (ap codeOf (first-new steep k h))
-
-module _ {rows cols : ℕ} {lv : List ℕ} {x : ℕ} where
-  pub fall-none : {a : Fall} → a .code ≡ 0 → a .steepness ≡ 0 → FallTo rows cols lv x 0 a
-  unfolding fallIn greatestTo
-  fall-none c s = record { code = c; steepness = s }
-
-  pub fall-more : {k d : ℕ} {a r : Fall} → FallTo rows cols lv x k a → d ≡ dropOf (getD lv x 0) (getD lv (neighbour rows cols x k) 0) → Steeper k d a r → FallTo rows cols lv x (k + 1) r
-  fall-more {k} {d} {a} p e s =
-      record {
-        code = s .code ∙ go (steepOf k d) (steep-drop rows cols lv x k d e) (decLe (steepOf k d) (a .steepness));
-        steepness = omega (arith, s .steepness, p .steepness, steep-drop rows cols lv x k d e, greatest-more k (steepAt rows cols lv x));
-      }
-    where
-      go : (m : ℕ) → m ≡ steepAt rows cols lv x k → Dec (m ≤ a .steepness) → cond (leb m (a .steepness)) (a .code) (codeOf k) ≡ fallIn rows cols lv x (k + 1)
-      go m q (yes h) = rw (le-leb m (a .steepness) h) (p .code ∙ sym (fall-kept rows cols lv x k (omega (arith, p .steepness))))
-      go m q (no h) = rw (lt-leb m (a .steepness) (omega arith)) (sym (fall-new rows cols lv x k (omega (arith, p .steepness))))
-
-module _ (rows cols : ℕ) (lv : List ℕ) (x : ℕ) where
-  -- the code that is written before the flats are
-  pub down-is : {code r : ℕ} → code ≡ fallIn rows cols lv x 8 → r ≡ cond (ltb 0 (getD lv x 0)) code 255 → r ≡ downAt rows cols lv x
-  unfolding downAt
-  down-is e q = q ∙ ap (λ (m : ℕ). cond (ltb 0 (getD lv x 0)) m 255) e
-
-  -- at all eight sides it is the definition's
-  fall-is : fallIn rows cols lv x 8 ≡ cond (hasLower rows cols lv x) (codeOf (steepSide rows cols lv x)) 0
-  unfolding fallIn steepSide steepestAt
-  fall-is = ap (λ (b : Bool). cond b (codeOf (firstOf (λ j. eqb (steepAt rows cols lv x j) (steepestAt rows cols lv x)) 8)) 0) (sym (lower-steepest rows cols lv x))
-
   -- ---- the codes of the sides passed
 
   -- no side below k is nearer
@@ -217,11 +104,10 @@ module _ {rows cols : ℕ} {lv st : List ℕ} where
         code-flat (validAt lv x) (hasLower rows cols lv x) (rimAt rows cols lv x) (codeOf (steepSide rows cols lv x)) (codeOf (nearerSide rows cols lv st x)) (lt-ltb 0 (getD lv x 0) (flat-valid rows cols lv x e)) (n .0) (n .1)
 
     direction-down : (x : ℕ) → getD st x 0 ≤ 0 → directionAt rows cols lv st x ≡ downAt rows cols lv x
-    unfolding directionAt downAt
+    unfolding directionAt downAt steepestIn
     direction-down x h =
         code-down (validAt lv x) (hasLower rows cols lv x) (rimAt rows cols lv x) (codeOf (steepSide rows cols lv x)) (codeOf (nearerSide rows cols lv st x))
         (λ v l r. omega (arith, steps-some x (flat-is rows cols lv x (ltb-true 0 (getD lv x 0) v) l r)))
-        ∙ ap (λ (m : ℕ). cond (validAt lv x) m 255) (sym (fall-is rows cols lv x))
 
   module _ {dir dir′ : List ℕ} {x : ℕ} (p : Pointing rows cols lv st dir x) (kept : StepsKept rows cols lv st) (l : x < rows * cols) where
     -- a flat cell gets its code, and any other keeps it

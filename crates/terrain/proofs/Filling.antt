@@ -11,15 +11,14 @@ use lib.ListN.{length, getD, List·getD-map, List·getD-eq-default}
 use lib.IntN.{ℤ}
 use lib.Signed.{leZ}
 use borrow.Author.Tests.{ltb-true, lt-ltb, le-ltb}
-use Rattle.laws.specs.Settle.{Rule}
+use Rattle.laws.specs.Settle.{Rule, Still}
 use Rattle.laws.proofs.Settle.{settled-done, done-is}
 use Rattle.laws.proofs.Lists.{in-list}
-use Rattle.terrain.specs.Quantities.{noData, Fine}
-use Rattle.terrain.specs.Cells.{neighbour, Valid, levelOf, heightOf, levelsOf, validAt, Ready}
+use Rattle.terrain.specs.Cells.{noData, Fine, neighbour, Valid, levelOf, heightOf, levelsOf, validAt, Ready}
 use Rattle.terrain.specs.Surfaces.{Run, last, step, greatest, maxZ}
 use Rattle.terrain.specs.Filled.{top, lowestOf, filling, filledLevels, filledOf, Stands}
-use Rattle.terrain.specs.Flood.{FillKept, FillStill}
-use Rattle.terrain.proofs.Neighbours.{across, across-small, west, neighbour-back, level-at, level-max, level-fine, levels-long, level-height, fine-at, valid-level, level-valid, none-level, level-invalid}
+use Rattle.terrain.specs.Flood.{FillKept}
+use Rattle.terrain.proofs.Neighbours.{west, level-at, level-max, level-fine, levels-long, level-height, fine-at, valid-level, level-valid, none-level, level-invalid}
 
 -- ---- the lowest neighbour
 
@@ -82,20 +81,12 @@ module _ (rows cols : ℕ) (ground : List ℤ) (ready : Ready rows cols ground) 
         | no f ↦ (let s = kept .stands (nb x k) (active (nb x k) (omega arith)) low in (step x k (level-valid ready x p) h (s .0), omega (arith, s .1, level-at ground x, level-max (getD ground x noData) (greatest rows cols ground (s .0)))))
       ]
 
-  -- the same seen from the neighbour: y, at the side k of x, can stand at the higher of its ground and the level of x
-  pub stands-across : (l : List ℕ) → FillKept rows cols ground l → (x k v : ℕ) → x < rows * cols → k < 8 → 0 < getD g (nb x k) 0 → getD l x 0 < top → max (getD g (nb x k) 0) (getD l x 0) ≤ v → Stands rows cols ground (nb x k) v
-  stands-across l kept x k v i h p low le =
-      let inside : nb x k < rows * cols = omega (arith, in-list g (nb x k) p, levels-long ready) in
-      let back : nb (nb x k) (across k) ≡ x = neighbour-back rows cols x k i h inside in
-      let same : getD l (nb (nb x k) (across k)) 0 ≡ getD l x 0 = ap (λ (y : ℕ). getD l y 0) back in
-      stands-beside l kept (nb x k) (across k) v p (across-small k h) (omega arith) (omega arith)
-
   pub run-valid : {x : ℕ} → Run rows cols ground x → Valid ground x
   run-valid (last x r) = r .valid
   run-valid (step x k v h r) = v
 
   -- no run stays below a list that no offer lowers
-  pub still-least : (l : List ℕ) → FillKept rows cols ground l → FillStill rows cols ground l → {x : ℕ} (r : Run rows cols ground x) → getD l x 0 ≤ levelOf (greatest rows cols ground r)
+  pub still-least : (l : List ℕ) → FillKept rows cols ground l → Still (filling rows cols (levelsOf ground)) l → {x : ℕ} (r : Run rows cols ground x) → getD l x 0 ≤ levelOf (greatest rows cols ground r)
   still-least l k s (last x r) =
       omega (arith, s x (active x (valid-level ready x (r .valid))), lowest-le rows cols l x (r .side) 8 (r .small), k .clear (nb x (r .side)) (le-ltb 0 (getD g (nb x (r .side)) 0) (omega (arith, none-level ready (nb x (r .side)) (r .none)))), level-at ground x)
   still-least l k s (step x j v h r) =
@@ -118,11 +109,11 @@ module _ (rows cols : ℕ) (ground : List ℤ) (ready : Ready rows cols ground) 
   unfolding filledLevels
   filled-kept = settled-done (filling rows cols g) (Stands rows cols ground) filling-rule .0
 
-  pub filled-still : FillStill rows cols ground (filledLevels rows cols ground)
+  pub filled-still : Still (filling rows cols (levelsOf ground)) (filledLevels rows cols ground)
   unfolding filledLevels
   filled-still = settled-done (filling rows cols g) (Stands rows cols ground) filling-rule .1
 
-  pub filled-is : (l : List ℕ) → FillKept rows cols ground l → FillStill rows cols ground l → l ≡ filledLevels rows cols ground
+  pub filled-is : (l : List ℕ) → FillKept rows cols ground l → Still (filling rows cols (levelsOf ground)) l → l ≡ filledLevels rows cols ground
   unfolding filledLevels
   filled-is l k s = done-is (filling rows cols g) (Stands rows cols ground) filling-rule l k s
 

@@ -1,19 +1,22 @@
-pub mod Neighbours
-pub mod Filling
-pub mod Surfaces
-pub mod Flats
-pub mod Directions
-pub mod Trails
-pub mod Counting
-pub mod Following
-pub mod Drainage
-pub mod Lengths
-pub mod Measuring
-pub mod Answers
-pub mod Accepted
-pub mod Interior
-pub mod Flooding
-pub mod Stepping
-pub mod Falls
-pub mod Surveying
-pub mod Bounds
+mod Neighbours
+mod Filling
+mod Surfaces
+mod Flats
+mod Directions
+mod Trails
+mod Receivers
+mod Inflows
+mod Descending
+mod Passing
+mod Following
+mod Drainage
+mod Answers
+mod Interior
+mod Flooding
+mod Stepping
+mod Keys
+mod Falls
+mod Dropping
+mod Surveying
+mod Words
+pub mod Public

@@ -18,8 +18,9 @@ use Rattle.laws.specs.First.{firstOf}
 use Rattle.laws.proofs.First.{first-holds, some-is, some-yes}
 use Rattle.laws.proofs.Lists.{getD-any}
 use Rattle.laws.proofs.Tests.{and-both}
-use Rattle.terrain.specs.Quantities.{noData, heightAccepted, Fine}
-use Rattle.terrain.specs.Cells.{rowSteps, colSteps, cellAt, neighbour, codeOf, sideOf, Valid, levelOf, heightOf, levelsOf, validAt, rimAt, Ready}
+use Rattle.text.specs.Ranges.{heightAccepted}
+use Rattle.text.proofs.Accepted.{area-small}
+use Rattle.terrain.specs.Cells.{noData, Fine, rowSteps, colSteps, cellAt, neighbour, codeOf, sideOf, Valid, levelOf, heightOf, levelsOf, validAt, rimAt, Ready}
 use Rattle.terrain.specs.Surfaces.{maxZ}
 
 -- ---- the sides
@@ -96,10 +97,6 @@ unfolding sideOf firstOf
 side-none = refl
 
 -- ---- neighbours
-
--- a grid's number of cells
-pub area-small : (rows cols : ℕ) → rows ≤ 1024 → cols ≤ 1024 → rows * cols ≤ 1048576
-area-small rows cols h k = le-trans (mul-le-mul-right cols h) (omega arith)
 
 -- y is the cell of row a - 1 and column b - 1
 pub record InGrid (rows cols a b y : ℕ) : Type 0 where

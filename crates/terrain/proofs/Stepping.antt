@@ -19,7 +19,7 @@ use Rattle.laws.proofs.Settle.{relax-lower, relax-pass, kept-active, store-kept
 use Rattle.terrain.specs.Cells.{neighbour}
 use Rattle.terrain.specs.Filled.{lowestOf}
 use Rattle.terrain.specs.Flat.{farSteps, flatAt, nearestOf, flatStepping, Within, StepsKept}
-use Rattle.terrain.specs.Levels.{Levels, startOn, startAt, Reached, StepsLoose, LooseSteps, LoweredSteps}
+use Rattle.terrain.specs.Levels.{Levels, startOn, startAt, Reached, StepsLoose, LoweredSteps}
 use Rattle.terrain.proofs.Neighbours.{across, across-small, neighbour-back}
 use Rattle.terrain.proofs.Flats.{flat-valid, flat-lowest, within-beside, flat-rule}
 
@@ -98,8 +98,8 @@ module _ {rows cols : ℕ} {lv : List ℕ} (levels : Levels rows cols lv) where
 -- ---- the search for cells that can be lowered
 
 -- one cell, as the code tells
-pub steps-loose : (rows cols : ℕ) (lv d : List ℕ) (x : ℕ) {near m : ℕ} → near ≡ nearestOf rows cols lv d x 8 → LooseSteps (getD d x 0) near m → StepsLoose rows cols lv d x (x + 1) m
-steps-loose rows cols lv d x {m = m} e o = failing-one _ x m (o .few) (λ q. omega (arith, o .still q))
+pub steps-loose : (rows cols : ℕ) (lv d : List ℕ) (x : ℕ) {near m : ℕ} → near ≡ nearestOf rows cols lv d x 8 → (m ≤ 1) × (m ≡ 0 → getD d x 0 ≤ near + 1) → StepsLoose rows cols lv d x (x + 1) m
+steps-loose rows cols lv d x {m = m} e o = failing-one _ x m (o .0) (λ q. omega (arith, o .1 q))
 
 -- ---- lowering one cell
 

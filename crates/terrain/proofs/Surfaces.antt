@@ -7,8 +7,7 @@ use native.Mathlib.Decide.{decLt}
 use lib.ListN.{getD}
 use lib.IntN.{ℤ}
 use lib.Signed.{_≤ℤ_}
-use Rattle.terrain.specs.Quantities.{noData}
-use Rattle.terrain.specs.Cells.{neighbour, Valid, levelOf, heightOf, Ready}
+use Rattle.terrain.specs.Cells.{noData, neighbour, Valid, levelOf, heightOf, Ready}
 use Rattle.terrain.specs.Surfaces.{Run, last, step, greatest, NeverRises, Drained}
 use Rattle.terrain.specs.Filled.{filledLevels, filledOf}
 use Rattle.terrain.specs.Drainage.{surfaceOf}

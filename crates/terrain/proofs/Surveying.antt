@@ -1,27 +1,31 @@
--- The parts of a survey: what each assumes of the grids that those before it leave, and that together they give what is promised. Assumes nothing.
+-- The parts of a map: what each assumes of the grids that those before it leave, and that together they give what is promised. Assumes nothing.
 use mathlib.Core.Path.{_≡_, sym, ap, ap₂, subst, _∙_}
 use mathlib.Core.List.{List, map}
+use mathlib.Core.Bool.{Bool}
 use Prim.Native.Nat.{ℕ, _*_, _<_}
 use native.Mathlib.Omega.{arith}
-use lib.ListN.{length, getD, replicate}
+use lib.ListN.{length, getD}
 use lib.IntN.{ℤ}
-use Rattle.settings.specs.declared.Rules.{Rules}
-use Rattle.terrain.specs.Cells.{heightOf, levelsOf, Ready}
+use Rattle.laws.specs.Tests.{passed}
+use Rattle.laws.specs.Sums.{sumTo, when}
+use Rattle.laws.proofs.Sums.{sum-ext}
+use Rattle.laws.proofs.Orders.{order-places}
+use Rattle.terrain.specs.Cells.{heightOf, levelsOf, validAt, Ready}
 use Rattle.terrain.specs.Levels.{Levels}
-use Rattle.terrain.specs.Filled.{top, filledLevels}
+use Rattle.terrain.specs.Filled.{top, filledLevels, filledOf}
 use Rattle.terrain.specs.Direction.{directionsOf}
-use Rattle.terrain.specs.Trail.{validsOf, countsOf, longestOf}
+use Rattle.terrain.specs.Trail.{mappedAt, validsOf, countsOf, longestOf}
+use Rattle.terrain.specs.Falls.{fallsOf}
 use Rattle.terrain.specs.Directed.{Directed}
-use Rattle.terrain.specs.Length.{lengthsOf, dropsOf}
-use Rattle.terrain.specs.Measure.{Charted, Working}
-use Rattle.terrain.specs.Relief.{Relief}
-use Rattle.terrain.specs.Answers.{Grids, acceptance, lent, accepted, directionOf, countOf, longestTrail, answerOf, gridsOf}
+use Rattle.terrain.specs.Downhill.{Downhill}
+use Rattle.terrain.specs.Answers.{lent, validOf, directionOf, Mapped, answerOf}
+use Rattle.terrain.specs.declared.Answer.{Answer}
+use Rattle.terrain.specs.declared.Answer.the-variants.{Accepted}
 use Rattle.terrain.proofs.Interior.{ready-sized}
-use Rattle.terrain.proofs.Filling.{filled-long, filled-small}
-use Rattle.terrain.proofs.Flooding.{filled-valids, filled-heights}
-use Rattle.terrain.proofs.Trails.{rank-falls}
-use Rattle.terrain.proofs.Drainage.{potential, falls, stops-zero}
-use Rattle.terrain.proofs.Measuring.{filled-charted, measured-is, dropped-is}
+use Rattle.terrain.proofs.Filling.{filled-long, filled-small, filled-valid}
+use Rattle.terrain.proofs.Flooding.{filled-heights}
+use Rattle.terrain.proofs.Trails.{mapped-in, rank-falls}
+use Rattle.terrain.proofs.Drainage.{potential, falls, mapped-valid, stops-zero}
 
 module _ {rows cols : ℕ} {ground : List ℤ} (ready : Ready rows cols ground) where
   abbrev lv : List ℕ
@@ -36,40 +40,56 @@ module _ {rows cols : ℕ} {ground : List ℤ} (ready : Ready rows cols ground) 
   pub relief-small : {level : List ℕ} → level ≡ filledLevels rows cols ground → (x : ℕ) → getD level x 0 < top
   relief-small l x = omega (arith, ap (λ (m : List ℕ). getD m x 0) l, filled-small rows cols ground ready x)
 
-  pub relief : {level direction : List ℕ} {filled : List ℤ} {valid : ℕ} → level ≡ filledLevels rows cols ground → filled ≡ map heightOf level → direction ≡ directionsOf rows cols level → valid ≡ validsOf rows cols level → Relief rows cols ground filled direction valid
-  unfolding directionOf
-  relief l f d v = record { filled-is = f ∙ ap (map heightOf) l ∙ filled-heights ready; direction-is = d ∙ ap (directionsOf rows cols) l; valid-is = v ∙ ap (validsOf rows cols) l ∙ filled-valids ready }
-
   -- ---- directions
 
-  pub relief-directed : {direction : List ℕ} → direction ≡ directionOf rows cols ground → Directed rows cols direction
+  pub directions-directed : Directed rows cols (directionOf rows cols ground)
   unfolding directionOf
-  relief-directed d =
+  directions-directed =
       let f = rank-falls rows cols (directionsOf rows cols lv) (potential rows cols ground ready) (falls rows cols ground ready) in
-      subst (Directed rows cols) (sym d) (record { sized = ready-sized ready; long = f .long; stops = stops-zero rows cols ground ready; stays = f .stays; less = f .less })
+      record { sized = ready-sized ready; long = f .long; stops = stops-zero rows cols ground ready; stays = f .stays; less = f .less }
 
-  -- ---- lengths
+  -- they are of the ground's valid cells
+  pub directions-mapped : (x : ℕ) → mappedAt rows cols (directionOf rows cols ground) x ≡ validAt (levelsOf ground) x
+  unfolding directionOf
+  directions-mapped x = mapped-valid rows cols ground ready x ∙ filled-valid rows cols ground ready x
 
-  -- what drops and lengths assume of the grids before them
-  pub relief-charted : {filled : List ℤ} {direction : List ℕ} {valid : ℕ} → Relief rows cols ground filled direction valid → Charted rows cols filled direction
-  relief-charted r = filled-charted ready (r .filled-is) (relief-directed (r .direction-is))
+  -- an order of the cells has as many places as there are valid cells
+  pub downhill-valids : {order : List ℕ} {m : ℕ} → Downhill rows cols (directionOf rows cols ground) order m → m ≡ validOf rows cols ground
+  unfolding validOf validsOf
+  downhill-valids o =
+      order-places (o .cells) (mapped-in rows cols (directionOf rows cols ground) (directions-directed .long))
+      ∙ sum-ext (rows * cols) (λ x. when (mappedAt rows cols (directionOf rows cols ground) x) 1) (λ x. when (validAt (levelsOf ground) x) 1) (λ x h. ap (λ (b : Bool). when b 1) (directions-mapped x))
 
-  pub relief-working : {filled : List ℤ} {direction count lengths workspace : List ℕ} {valid : ℕ} → Relief rows cols ground filled direction valid → length count ≡ rows * cols → length lengths ≡ rows * cols → length workspace ≡ rows * cols → Working rows cols filled direction count lengths workspace
-  relief-working r c l w = record { charted = relief-charted r; count-long = c; lengths-long = l; waiting-long = w }
+  -- ---- the grids and the answer
 
--- ---- the answer and the grids
+  -- filled heights, directions and falls
+  abbrev pub Shaped : List ℤ → List ℕ → List ℕ → Type 0
+  Shaped filled direction falls = (filled ≡ filledOf rows cols ground) × (direction ≡ directionOf rows cols ground) × (falls ≡ fallsOf rows cols (filledLevels rows cols ground) (directionOf rows cols ground))
 
-module _ {rows cols : ℕ} {ground filled : List ℤ} {direction : List ℕ} {valid : ℕ} (r : Relief rows cols ground filled direction valid) (rules : Rules) where
-  pub survey-answer : {longest : ℕ} → longest ≡ longestOf rows cols direction → acceptance valid longest ≡ answerOf rows cols ground (accepted rules)
-  unfolding answerOf longestTrail
-  survey-answer l = ap₂ acceptance (r .valid-is) (l ∙ ap (longestOf rows cols) (r .direction-is))
+  pub relief : {level direction falls : List ℕ} {filled : List ℤ} → level ≡ filledLevels rows cols ground → filled ≡ map heightOf level → (direction ≡ directionsOf rows cols level) × (falls ≡ fallsOf rows cols level (directionsOf rows cols level)) → Shaped filled direction falls
+  unfolding directionOf
+  relief l f d = (f ∙ ap (map heightOf) l ∙ filled-heights ready, d .0 ∙ ap (directionsOf rows cols) l, d .1 ∙ ap (λ (v : List ℕ). fallsOf rows cols v (directionsOf rows cols v)) l)
 
-  pub survey-grids : (ready : Ready rows cols ground) (side : ℕ) (g : Grids) {count lengths drops workspace : List ℕ} → drops ≡ dropsOf rows cols (levelsOf filled) direction → count ≡ countsOf rows cols direction → lengths ≡ lengthsOf rows cols side rules (levelsOf filled) direction count → workspace ≡ replicate (rows * cols) 0 → lent filled direction count lengths drops workspace ≡ gridsOf rows cols side ground g (accepted rules)
-  unfolding gridsOf countOf
-  survey-grids ready side g f c l w =
-      let count-is = c ∙ ap (countsOf rows cols) (r .direction-is) in
-      let lengths-are = l ∙ measured-is ready side rules (r .filled-is) (r .direction-is) count-is in
-      let drops-are = f ∙ dropped-is ready (r .filled-is) (r .direction-is) in
-      let filled-are = r .filled-is in
-      let direction-is = r .direction-is in
-      cc
+  pub relief-directed : {direction : List ℕ} → direction ≡ directionOf rows cols ground → Directed rows cols direction
+  relief-directed e = subst (Directed rows cols) (sym e) directions-directed
+
+  module _ {filled : List ℤ} {direction count falls order : List ℕ} {r : Answer} (e : Shaped filled direction falls) (t : (count ≡ countsOf rows cols direction) × ((places : ℕ) × Downhill rows cols direction order places × (r ≡ Accepted places (longestOf rows cols direction)))) where
+    abbrev dir : List ℕ
+    dir = directionOf rows cols ground
+
+    places : Downhill rows cols dir order (t .1 .0)
+    places = subst (λ (d : List ℕ). Downhill rows cols d order (t .1 .0)) (e .1) (t .1 .1)
+
+    pub routed-answer : r ≡ answerOf rows cols ground passed
+    unfolding answerOf
+    routed-answer = t .1 .2 ∙ ap₂ (λ (m : ℕ) (d : List ℕ). Accepted m (longestOf rows cols d)) (downhill-valids places) (e .1)
+
+    pub routed-mapped : Mapped rows cols ground (directionOf rows cols ground) (lent filled direction count falls order)
+    routed-mapped =
+        record {
+          filled-is = e .0;
+          direction-is = e .1;
+          count-is = t .0 ∙ ap (countsOf rows cols) (e .1);
+          falls-are = e .2;
+          order = subst (Downhill rows cols dir order) (downhill-valids places) places;
+        }

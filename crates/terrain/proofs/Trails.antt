@@ -3,7 +3,7 @@
 use mathlib.Core.Path.{_≡_, refl, sym, ap, ap₂, subst, _∙_}
 use mathlib.Core.List.{List}
 use mathlib.Core.Logic.{⊎-elim}
-use mathlib.Core.Bool.{Bool, true, false, cond, not, _&&_, true≢false}
+use mathlib.Core.Bool.{Bool, true, false, cond, not, true≢false}
 use Prim.Native.Nat.{ℕ, zero, suc, _+_, _*_, _≤_, _<_}
 use native.Mathlib.Omega.{arith}
 use native.Mathlib.Decide.{decLt, ℕ-discrete}
@@ -11,14 +11,14 @@ use lib.ListN.{length, getD, List·getD-eq-default}
 use lib.Dec.{eqb}
 use borrow.Author.Tests.{ltb-true, lt-ltb, le-ltb, eqb-true, eqb-false, eq-eqb, ne-eqb, not-true}
 use Rattle.laws.specs.Sums.{sumTo, when}
-use Rattle.laws.specs.Raise.{Rule}
-use Rattle.laws.proofs.Tests.{two, and-both}
+use Rattle.laws.proofs.Tests.{two}
 use Rattle.laws.proofs.Lists.{length-tab, getD-tab}
 use Rattle.laws.proofs.Pigeon.{pigeon}
-use Rattle.laws.proofs.Sums.{sum-ext, sum-le, sum-zero, sum-ones, sum-add, sum-swap, sum-one, sum-when, when-yes, when-no, when-zero, when-swap, when-add, when-le, when-ext, when-under}
+use Rattle.laws.proofs.Sums.{sum-ext, sum-zero, sum-ones, sum-add, sum-swap, sum-one, sum-when, when-yes, when-no, when-zero, when-swap, when-add, when-under}
 use Rattle.terrain.specs.Cells.{neighbour, codeOf, sideOf}
-use Rattle.terrain.specs.Trail.{Trail, ends, goes, steps, mappedAt, flowsAt, nextAt, stepsIn, passesIn, countAt, countsOf, intoAt, countOffer}
-use Rattle.terrain.proofs.Neighbours.{across, across-small, side-code, code-side, code-small, side-leaves, neighbour-back, neighbour-only}
+use Rattle.terrain.specs.Trail.{Trail, ends, goes, steps, mappedAt, flowsAt, nextAt, stepsIn, passesIn, countAt, countsOf}
+use Rattle.terrain.specs.Directed.{receiverOf}
+use Rattle.terrain.proofs.Neighbours.{side-code, code-side, code-small, side-leaves}
 
 -- ---- one step
 
@@ -55,6 +55,18 @@ module _ (rows cols : ℕ) (dir : List ℕ) where
   pub flows-mapped : (x : ℕ) → flowsAt rows cols dir x ≡ true → mappedAt rows cols dir x ≡ true
   flows-mapped x e = is-mapped x (λ q. omega (arith, flows-code x e .1, code-small (sideOf (getD dir x 255))))
 
+  -- the cell that a cell points at
+  pub receiver-flows : (x : ℕ) → flowsAt rows cols dir x ≡ true → receiverOf rows cols dir x ≡ nextAt rows cols dir x
+  unfolding receiverOf
+  receiver-flows x q = ap (λ (b : Bool). cond b (nextAt rows cols dir x) (rows * cols)) q
+
+  pub receiver-stops : (x : ℕ) → flowsAt rows cols dir x ≡ false → receiverOf rows cols dir x ≡ rows * cols
+  unfolding receiverOf
+  receiver-stops x q = ap (λ (b : Bool). cond b (nextAt rows cols dir x) (rows * cols)) q
+
+  pub receiver-points : (x : ℕ) → receiverOf rows cols dir x < rows * cols → flowsAt rows cols dir x ≡ true
+  receiver-points x h = ⊎-elim (λ q. q) (λ q. absurd (omega (arith, receiver-stops x q))) (two (flowsAt rows cols dir x))
+
 -- ---- a number that falls along every trail
 
 pub record Falls (rows cols : ℕ) (dir : List ℕ) (pot : ℕ → ℕ) : Type 0 where
@@ -80,7 +92,7 @@ module _ (rows cols : ℕ) (dir : List ℕ) where
 
   -- ---- the steps of a trail
 
-  pub steps-none : (x : ℕ) → stepsIn rows cols dir 0 x ≡ 0
+  steps-none : (x : ℕ) → stepsIn rows cols dir 0 x ≡ 0
   unfolding stepsIn
   steps-none x = refl
 
@@ -89,7 +101,7 @@ module _ (rows cols : ℕ) (dir : List ℕ) where
   steps-end zero x q = refl
   steps-end (suc m) x q = ap (λ (b : Bool). cond b (stepsIn rows cols dir m (next x) + 1) 0) q
 
-  pub steps-next : (m x : ℕ) → flowsAt rows cols dir x ≡ true → stepsIn rows cols dir (suc m) x ≡ stepsIn rows cols dir m (nextAt rows cols dir x) + 1
+  steps-next : (m x : ℕ) → flowsAt rows cols dir x ≡ true → stepsIn rows cols dir (suc m) x ≡ stepsIn rows cols dir m (nextAt rows cols dir x) + 1
   unfolding stepsIn
   steps-next m x q = ap (λ (b : Bool). cond b (stepsIn rows cols dir m (next x) + 1) 0) q
 
@@ -274,61 +286,13 @@ module _ (rows cols : ℕ) (dir : List ℕ) (pot : ℕ → ℕ) (falls : Falls r
         ∙ sym (sum-when size (cell x) (λ z. when (leavesAt z) (hits size x z)))
         ∙ ⊎-elim (λ v. ap (when (cell x)) (leaves-once size x (bound x) v)) (λ v. when-no _ v ∙ sym (when-no _ v)) (two (cell x)))
 
-    -- ---- the count of a cell from those of the cells that point at it
-
-    abbrev nb : ℕ → ℕ → ℕ
-    nb = neighbour rows cols
-
-    abbrev into : ℕ → ℕ → Bool
-    into = intoAt rows cols dir
-
-    pub into-flows : (z k : ℕ) → intoAt rows cols dir z k ≡ true → (flowsAt rows cols dir (neighbour rows cols z k) ≡ true) × (nextAt rows cols dir (neighbour rows cols z k) ≡ z)
-    unfolding intoAt
-    into-flows z k e = let w = and-both (goesOn (nb z k)) (eqb (to (nb z k)) z) e in (w .0, eqb-true (to (nb z k)) z (w .1))
-
-    flows-into : (z k : ℕ) → goesOn (nb z k) ≡ true → to (nb z k) ≡ z → into z k ≡ true
-    unfolding intoAt
-    flows-into z k q e = ap₂ _&&_ q (eq-eqb (to (nb z k)) z e)
-
-    abbrev side : ℕ → ℕ
-    side x = across (sideOf (getD dir x 255))
-
-    side-small : (x : ℕ) → goesOn x ≡ true → side x < 8
-    side-small x q = across-small (sideOf (getD dir x 255)) (flows-code rows cols dir x q .0)
+    -- ---- what the cells that point at a cell bring
 
     inside : (x : ℕ) → cell x ≡ true → x < rows * cols
     inside x v = mapped-in rows cols dir (falls .long) x v
 
     here : (x : ℕ) → goesOn x ≡ true → x < rows * cols
     here x q = inside x (flows-mapped rows cols dir x q)
-
-    to-is : (x : ℕ) → to x ≡ nb x (sideOf (getD dir x 255))
-    unfolding nextAt
-    to-is x = refl
-
-    side-back : (x : ℕ) → goesOn x ≡ true → nb (to x) (side x) ≡ x
-    side-back x q =
-        let k = sideOf (getD dir x 255) in
-        ap (λ (y : ℕ). nb y (across k)) (to-is x)
-        ∙ neighbour-back rows cols x k (here x q) (flows-code rows cols dir x q .0) (omega (arith, to-is x, inside (to x) (falls .stays x q)))
-
-    side-only : (x : ℕ) → goesOn x ≡ true → (k : ℕ) → k < 8 → nb (to x) k ≡ x → k ≡ side x
-    side-only x q k h e = neighbour-only rows cols (to x) k (side x) h (side-small x q) (omega (arith, e, here x q)) (e ∙ sym (side-back x q))
-
-    term-zero : (z k m : ℕ) → (into z k ≡ true → m ≡ 0) → when (into z k) m ≡ 0
-    term-zero z k m h = ⊎-elim (λ e. when-yes m e ∙ h e) (λ e. when-no m e) (two (into z k))
-
-    -- x is at one side of z if it points at z, and else at none
-    side-sum : (x z : ℕ) → goesOn x ≡ true → sumTo 8 (λ k. when (into z k) (when (eqb x (nb z k)) 1)) ≡ when (eqb (to x) z) 1
-    side-sum x z q = elim (ℕ-discrete (to x) z) [ yes e ↦ there e | no d ↦ sum-zero 8 _ (λ k l. term-zero z k _ (λ e. when-no 1 (ne-eqb x (nb z k) (λ p. d (ap to p ∙ into-flows z k e .1))))) ∙ sym (when-no 1 (ne-eqb (to x) z d)) ]
-      where
-        there : to x ≡ z → sumTo 8 (λ k. when (into z k) (when (eqb x (nb z k)) 1)) ≡ when (eqb (to x) z) 1
-        there e =
-            let b : nb z (side x) ≡ x = ap (λ (y : ℕ). nb y (side x)) (sym e) ∙ side-back x q in
-            sum-one 8 (λ k. when (into z k) (when (eqb x (nb z k)) 1)) (side x) (side-small x q)
-            (λ k l d. term-zero z k _ (λ t. when-no 1 (ne-eqb x (nb z k) (λ p. d (side-only x q k l (ap (λ (y : ℕ). nb y k) e ∙ sym p))))))
-            ∙ when-yes _ (flows-into z (side x) (ap goesOn b ∙ q) (ap to b ∙ e))
-            ∙ when-yes 1 (eq-eqb x (nb z (side x)) (sym b)) ∙ sym (when-yes 1 (eq-eqb (to x) z e))
 
     hits-split : (m x y : ℕ) → goesOn x ≡ true → hits (suc m) x y ≡ when (eqb x y) 1 + hits m (to x) y
     hits-split m x y q =
@@ -337,48 +301,62 @@ module _ (rows cols : ℕ) (dir : List ℕ) (pot : ℕ → ℕ) (falls : Falls r
           | no d ↦ omega (arith, passes-next rows cols dir m x y d q, when-no 1 (ne-eqb x y d))
         ]
 
-    abbrev inflow : ℕ → ℕ → ℕ → ℕ
-    inflow m x z = sumTo 8 (λ k. when (into z k) (hits m x (nb z k)))
+    abbrev recv : ℕ → ℕ
+    recv = receiverOf rows cols dir
 
-    local-self : (m x z : ℕ) → x ≡ z → hits m x z ≡ when (eqb x z) 1 + inflow m x z
-    local-self m x z e =
+    -- what the cells that point at z are passed by
+    abbrev brought : ℕ → ℕ → ℕ → ℕ
+    brought m x z = sumTo size (λ y. when (eqb (recv y) z) (hits m x y))
+
+    brought-none : (m x z : ℕ) → z < rows * cols → ((y : ℕ) → goesOn y ≡ true → to y ≡ z → hits m x y ≡ 0) → brought m x z ≡ 0
+    brought-none m x z h e =
+        sum-zero size (λ y. when (eqb (recv y) z) (hits m x y)) (λ y l.
+        ⊎-elim (λ t. let g = eqb-true (recv y) z t in let q = receiver-points rows cols dir y (omega arith) in when-yes (hits m x y) t ∙ e y q (sym (receiver-flows rows cols dir y q) ∙ g)) (λ t. when-no (hits m x y) t) (two (eqb (recv y) z)))
+
+    brought-self : (m x z : ℕ) → z < rows * cols → x ≡ z → hits m x z ≡ when (eqb x z) 1 + brought m x z
+    brought-self m x z h e =
         omega (
           arith,
           passes-self rows cols dir m x z e,
           when-yes 1 (eq-eqb x z e),
-          sum-zero 8 (λ k. when (into z k) (hits m x (nb z k))) (λ k l. term-zero z k (hits m x (nb z k)) (λ t. hits-above m x (nb z k) (omega (arith, falls .less (nb z k) (into-flows z k t .0), ap pot (into-flows z k t .1), ap pot e)))),
+          brought-none m x z h (λ y q g. hits-above m x y (omega (arith, falls .less y q, ap pot g, ap pot e))),
         )
 
-    local-end : (m x z : ℕ) → (x ≡ z → ⊥) → goesOn x ≡ false → hits m x z ≡ when (eqb x z) 1 + inflow m x z
-    local-end m x z d q =
+    brought-end : (m x z : ℕ) → z < rows * cols → (x ≡ z → ⊥) → goesOn x ≡ false → hits m x z ≡ when (eqb x z) 1 + brought m x z
+    brought-end m x z h d q =
         omega (
           arith,
           passes-end rows cols dir m x z d q,
           when-no 1 (ne-eqb x z d),
-          sum-zero 8 (λ k. when (into z k) (hits m x (nb z k))) (λ k l. term-zero z k (hits m x (nb z k)) (λ t. passes-end rows cols dir m x (nb z k) (λ p. true≢false (sym (into-flows z k t .0) ∙ ap goesOn (sym p) ∙ q)) q)),
+          brought-none m x z h (λ y t g. passes-end rows cols dir m x y (λ p. true≢false (sym t ∙ ap goesOn (sym p) ∙ q)) q),
         )
 
-    inflow-split : (m x z : ℕ) → goesOn x ≡ true → inflow (suc m) x z ≡ when (eqb (to x) z) 1 + inflow m (to x) z
-    inflow-split m x z q =
-        sum-ext 8 (λ k. when (into z k) (hits (suc m) x (nb z k))) (λ k. when (into z k) (when (eqb x (nb z k)) 1) + when (into z k) (hits m (to x) (nb z k))) (λ k l. ap (when (into z k)) (hits-split m x (nb z k) q) ∙ when-add (into z k) (when (eqb x (nb z k)) 1) (hits m (to x) (nb z k)))
-        ∙ sum-add 8 (λ k. when (into z k) (when (eqb x (nb z k)) 1)) (λ k. when (into z k) (hits m (to x) (nb z k)))
-        ∙ ap (λ (j : ℕ). j + inflow m (to x) z) (side-sum x z q)
+    brought-split : (m x z : ℕ) → goesOn x ≡ true → brought (suc m) x z ≡ when (eqb (to x) z) 1 + brought m (to x) z
+    brought-split m x z q =
+        sum-ext size (λ y. when (eqb (recv y) z) (hits (suc m) x y)) (λ y. when (eqb (recv y) z) (when (eqb x y) 1) + when (eqb (recv y) z) (hits m (to x) y)) (λ y l. ap (when (eqb (recv y) z)) (hits-split m x y q) ∙ when-add (eqb (recv y) z) (when (eqb x y) 1) (hits m (to x) y))
+        ∙ sum-add size (λ y. when (eqb (recv y) z) (when (eqb x y) 1)) (λ y. when (eqb (recv y) z) (hits m (to x) y))
+        ∙ ap (λ (j : ℕ). j + brought m (to x) z) itself
+      where
+        itself : sumTo size (λ y. when (eqb (recv y) z) (when (eqb x y) 1)) ≡ when (eqb (to x) z) 1
+        itself =
+            sum-one size (λ y. when (eqb (recv y) z) (when (eqb x y) 1)) x (here x q) (λ y l d. ap (when (eqb (recv y) z)) (when-no 1 (ne-eqb x y (λ e. d (sym e)))) ∙ when-zero (eqb (recv y) z))
+            ∙ ap (when (eqb (recv x) z)) (when-yes 1 (eq-eqb x x refl)) ∙ ap (λ (y : ℕ). when (eqb y z) 1) (receiver-flows rows cols dir x q)
 
-    hits-local : (m x z : ℕ) → pot x ≤ m → hits m x z ≡ when (eqb x z) 1 + inflow m x z
-    hits-local zero x z h =
-        elim (ℕ-discrete x z) [ yes e ↦ local-self zero x z e | no d ↦ ⊎-elim (λ q. absurd (omega (arith, falls .less x q))) (local-end zero x z d) (two (goesOn x)) ]
-    hits-local (suc m) x z h =
+    hits-brought : (m x z : ℕ) → z < rows * cols → pot x ≤ m → hits m x z ≡ when (eqb x z) 1 + brought m x z
+    hits-brought zero x z k h =
+        elim (ℕ-discrete x z) [ yes e ↦ brought-self zero x z k e | no d ↦ ⊎-elim (λ q. absurd (omega (arith, falls .less x q))) (brought-end zero x z k d) (two (goesOn x)) ]
+    hits-brought (suc m) x z k h =
         elim (ℕ-discrete x z) [
-          | yes e ↦ local-self (suc m) x z e
-          | no d ↦ ⊎-elim (λ q. omega (arith, passes-next rows cols dir m x z d q, when-no 1 (ne-eqb x z d), inflow-split m x z q, hits-local m (to x) z (omega (arith, falls .less x q)))) (local-end (suc m) x z d) (two (goesOn x))
+          | yes e ↦ brought-self (suc m) x z k e
+          | no d ↦ ⊎-elim (λ q. omega (arith, passes-next rows cols dir m x z d q, when-no 1 (ne-eqb x z d), brought-split m x z q, hits-brought m (to x) z k (omega (arith, falls .less x q)))) (brought-end (suc m) x z k d) (two (goesOn x))
         ]
 
     -- a valid cell counts itself, and what the cells that point at it count
-    pub count-local : (z : ℕ) → mappedAt rows cols dir z ≡ true → countAt rows cols dir z ≡ 1 + sumTo 8 (λ k. when (intoAt rows cols dir z k) (countAt rows cols dir (neighbour rows cols z k)))
+    pub count-brought : (z : ℕ) → mappedAt rows cols dir z ≡ true → countAt rows cols dir z ≡ 1 + sumTo (rows * cols) (λ y. when (eqb (receiverOf rows cols dir y) z) (countAt rows cols dir y))
     unfolding countAt
-    count-local z v =
-        sum-ext size (λ x. when (cell x) (hits size x z)) (λ x. when (cell x) (when (eqb x z) 1) + when (cell x) (inflow size x z)) (λ x l. ap (when (cell x)) (hits-local size x z (bound x)) ∙ when-add (cell x) (when (eqb x z) 1) (inflow size x z))
-        ∙ sum-add size (λ x. when (cell x) (when (eqb x z) 1)) (λ x. when (cell x) (inflow size x z))
+    count-brought z v =
+        sum-ext size (λ x. when (cell x) (hits size x z)) (λ x. when (cell x) (when (eqb x z) 1) + when (cell x) (brought size x z)) (λ x l. ap (when (cell x)) (hits-brought size x z (inside z v) (bound x)) ∙ when-add (cell x) (when (eqb x z) 1) (brought size x z))
+        ∙ sum-add size (λ x. when (cell x) (when (eqb x z) 1)) (λ x. when (cell x) (brought size x z))
         ∙ ap₂ _+_ self rest
       where
         self : sumTo size (λ x. when (cell x) (when (eqb x z) 1)) ≡ 1
@@ -386,65 +364,21 @@ module _ (rows cols : ℕ) (dir : List ℕ) (pot : ℕ → ℕ) (falls : Falls r
             sum-one size (λ x. when (cell x) (when (eqb x z) 1)) z (inside z v) (λ x l d. ap (when (cell x)) (when-no 1 (ne-eqb x z d)) ∙ when-zero (cell x))
             ∙ when-yes (when (eqb z z) 1) v ∙ when-yes 1 (eq-eqb z z refl)
 
-        rest : sumTo size (λ x. when (cell x) (inflow size x z)) ≡ sumTo 8 (λ k. when (into z k) (countAt rows cols dir (nb z k)))
+        rest : sumTo size (λ x. when (cell x) (brought size x z)) ≡ sumTo size (λ y. when (eqb (recv y) z) (countAt rows cols dir y))
         rest =
-            sum-ext size (λ x. when (cell x) (inflow size x z)) (λ x. sumTo 8 (λ k. when (into z k) (when (cell x) (hits size x (nb z k))))) (λ x l.
-            sum-when 8 (cell x) (λ k. when (into z k) (hits size x (nb z k)))
-            ∙ sum-ext 8 (λ k. when (cell x) (when (into z k) (hits size x (nb z k)))) (λ k. when (into z k) (when (cell x) (hits size x (nb z k)))) (λ k q. when-swap (cell x) (into z k) (hits size x (nb z k))))
-            ∙ sum-swap size 8 (λ x k. when (into z k) (when (cell x) (hits size x (nb z k))))
-            ∙ sum-ext 8 (λ k. sumTo size (λ x. when (into z k) (when (cell x) (hits size x (nb z k))))) (λ k. when (into z k) (countAt rows cols dir (nb z k))) (λ k q. sym (sum-when size (into z k) (λ x. when (cell x) (hits size x (nb z k)))))
+            sum-ext size (λ x. when (cell x) (brought size x z)) (λ x. sumTo size (λ y. when (eqb (recv y) z) (when (cell x) (hits size x y)))) (λ x l.
+            sum-when size (cell x) (λ y. when (eqb (recv y) z) (hits size x y))
+            ∙ sum-ext size (λ y. when (cell x) (when (eqb (recv y) z) (hits size x y))) (λ y. when (eqb (recv y) z) (when (cell x) (hits size x y))) (λ y q. when-swap (cell x) (eqb (recv y) z) (hits size x y)))
+            ∙ sum-swap size size (λ x y. when (eqb (recv y) z) (when (cell x) (hits size x y)))
+            ∙ sum-ext size (λ y. sumTo size (λ x. when (eqb (recv y) z) (when (cell x) (hits size x y)))) (λ y. when (eqb (recv y) z) (countAt rows cols dir y)) (λ y q. sym (sum-when size (eqb (recv y) z) (λ x. when (cell x) (hits size x y))))
 
-    -- ---- the grid of counts is what raising to the offers gives
+-- ---- the grid of counts
 
-    pub counts-long : length (countsOf rows cols dir) ≡ rows * cols
-    unfolding countsOf
-    counts-long = length-tab (rows * cols) _
+module _ (rows cols : ℕ) (dir : List ℕ) where
+  pub counts-long : length (countsOf rows cols dir) ≡ rows * cols
+  unfolding countsOf
+  counts-long = length-tab (rows * cols) _
 
-    pub counts-at : (z : ℕ) → z < rows * cols → getD (countsOf rows cols dir) z 0 ≡ when (mappedAt rows cols dir z) (countAt rows cols dir z)
-    unfolding countsOf
-    counts-at z h = getD-tab (rows * cols) (λ y. when (cell y) (countAt rows cols dir y)) 0 z h
-
-    -- the count of a cell that points at another
-    into-count : (z k : ℕ) → into z k ≡ true → getD (countsOf rows cols dir) (nb z k) 0 ≡ countAt rows cols dir (nb z k)
-    into-count z k e = let v = flows-mapped rows cols dir (nb z k) (into-flows z k e .0) in counts-at (nb z k) (inside (nb z k) v) ∙ when-yes (countAt rows cols dir (nb z k)) v
-
-    -- and it stands higher
-    pub into-above : (z k : ℕ) → intoAt rows cols dir z k ≡ true → pot z < pot (neighbour rows cols z k)
-    into-above z k e = let w = into-flows z k e in omega (arith, falls .less (nb z k) (w .0), ap pot (w .1))
-
-    pub count-fix : (z : ℕ) → z < rows * cols → countOffer rows cols dir (countsOf rows cols dir) z ≡ getD (countsOf rows cols dir) z 0
-    unfolding countOffer
-    count-fix z h =
-        when-ext (cell z) (1 + sumTo 8 (λ k. when (into z k) (getD (countsOf rows cols dir) (nb z k) 0))) (countAt rows cols dir z) (λ v.
-        ap (λ (m : ℕ). 1 + m) (sum-ext 8 (λ k. when (into z k) (getD (countsOf rows cols dir) (nb z k) 0)) (λ k. when (into z k) (countAt rows cols dir (nb z k))) (λ k l. when-ext (into z k) _ _ (into-count z k)))
-        ∙ sym (count-local z v))
-        ∙ sym (counts-at z h)
-
-    pub offer-le : (l m : List ℕ) (z : ℕ) → ((k : ℕ) → intoAt rows cols dir z k ≡ true → getD l (neighbour rows cols z k) 0 ≤ getD m (neighbour rows cols z k) 0) → countOffer rows cols dir l z ≤ countOffer rows cols dir m z
-    unfolding countOffer
-    offer-le l m z h =
-        when-le (cell z) (1 + sumTo 8 (λ k. when (into z k) (getD l (nb z k) 0))) (1 + sumTo 8 (λ k. when (into z k) (getD m (nb z k) 0)))
-        (λ v. omega (arith, sum-le 8 (λ k. when (into z k) (getD l (nb z k) 0)) (λ k. when (into z k) (getD m (nb z k) 0)) (λ k lt. when-le (into z k) (getD l (nb z k) 0) (getD m (nb z k) 0) (h k))))
-
-    pub count-rule : Rule (countsOf rows cols dir) (countOffer rows cols dir) pot (rows * cols)
-    count-rule =
-        record {
-          bounded = bound;
-          mono = (λ l u x h. omega (arith, offer-le l (countsOf rows cols dir) x (λ j e. u .under (nb x j)), count-fix x (omega (arith, counts-long))));
-          exact = (λ l u x h q. omega (arith, offer-le l (countsOf rows cols dir) x (λ j e. u .under (nb x j)), offer-le (countsOf rows cols dir) l x (λ j e. omega (arith, q (nb x j) (into-above x j e))), count-fix x (omega (arith, counts-long))));
-        }
-
-    -- ---- the test that a program makes: the neighbour at the side k points across
-
-    pub into-code : (z k : ℕ) → z < rows * cols → k < 8 → neighbour rows cols z k < rows * cols → intoAt rows cols dir z k ≡ eqb (getD dir (neighbour rows cols z k) 255) (codeOf (across k))
-    into-code z k i h y = ⊎-elim (λ e. e ∙ sym (eq-eqb (getD dir (nb z k) 255) (codeOf (across k)) (points e))) (λ e. e ∙ sym (ne-eqb (getD dir (nb z k) 255) (codeOf (across k)) (λ q. true≢false (sym (back q) ∙ e)))) (two (into z k))
-      where
-        back : getD dir (nb z k) 255 ≡ codeOf (across k) → into z k ≡ true
-        back q = flows-into z k (code-flows rows cols dir (nb z k) (across k) (across-small k h) q) (code-next rows cols dir (nb z k) (across k) (across-small k h) q ∙ neighbour-back rows cols z k i h y)
-
-        points : into z k ≡ true → getD dir (nb z k) 255 ≡ codeOf (across k)
-        points e =
-            let w = into-flows z k e in
-            let c = flows-code rows cols dir (nb z k) (w .0) in
-            c .1 ∙ ap codeOf (neighbour-only rows cols (nb z k) (sideOf (getD dir (nb z k) 255)) (across k) (c .0) (across-small k h)
-            (omega (arith, sym (to-is (nb z k)) ∙ w .1)) (sym (to-is (nb z k)) ∙ w .1 ∙ sym (neighbour-back rows cols z k i h y)))
+  pub counts-at : (z : ℕ) → z < rows * cols → getD (countsOf rows cols dir) z 0 ≡ when (mappedAt rows cols dir z) (countAt rows cols dir z)
+  unfolding countsOf
+  counts-at z h = getD-tab (rows * cols) (λ y. when (mappedAt rows cols dir y) (countAt rows cols dir y)) 0 z h

@@ -8,7 +8,18 @@ use lib.ListN.{length, getD}
 use lib.IntN.{ℤ, pos, negsuc, subℕ}
 use lib.Dec.{ltb, eqb}
 use Rattle.laws.specs.First.{firstOf, someOf}
-use Rattle.terrain.specs.Quantities.{noData, Fine}
+use Rattle.text.specs.Quantities.{noDataHeight}
+
+-- ---- heights
+
+-- "-999,900 means NoData"
+abbrev pub noData : ℤ
+noData = noDataHeight
+
+-- from NoData to 900,000: every accepted height, and every filled one
+abbrev pub Fine : ℤ → Type 0
+Fine (pos n) = n ≤ 900000
+Fine (negsuc n) = n < 999900
 
 -- ---- neighbours: "the eight around"
 

@@ -1,11 +1,10 @@
 -- What the functions that follow trails assume of a grid of directions, and what they answer: no promise of a public call cites this file. Assumes nothing.
 use mathlib.Core.Path.{_≡_}
-use mathlib.Core.List.{List, [], _∷_}
+use mathlib.Core.List.{List}
 use mathlib.Core.Bool.{true, false, cond}
-use Prim.Native.Nat.{ℕ, _+_, _*_, _≤_, _<_}
+use Prim.Native.Nat.{ℕ, _*_, _<_}
 use lib.ListN.{length, getD}
-use Rattle.laws.specs.Sums.{when}
-use Rattle.terrain.specs.Trail.{mappedAt, flowsAt, nextAt, stepsIn, countOffer}
+use Rattle.terrain.specs.Trail.{mappedAt, flowsAt, nextAt, stepsIn}
 use Rattle.terrain.specs.Inside.{Sized}
 
 -- a grid of codes along which every trail stays on valid cells and ends
@@ -22,29 +21,3 @@ pub record Directed (rows cols : ℕ) (dir : List ℕ) : Type 0 where
 -- the cell that x points at; rows * cols, which is no cell, where it points at none
 unfoldable pub receiverOf : ℕ → ℕ → List ℕ → ℕ → ℕ
 receiverOf rows cols dir x = cond (flowsAt rows cols dir x) (nextAt rows cols dir x) (rows * cols)
-
--- ---- counts
-
--- the code by which the neighbour at the side k points back at the cell
-abbrev pub backOf : ℕ → ℕ
-backOf k = getD (16 ∷ 32 ∷ 64 ∷ 128 ∷ 1 ∷ 2 ∷ 4 ∷ 8 ∷ []) k 0
-
--- counts of which nine add up within 32 bits
-pub record Counts (rows cols : ℕ) (count : List ℕ) : Type 0 where
-  pub long : length count ≡ rows * cols
-  pub small : (y : ℕ) → getD count y 0 ≤ rows * cols
-
--- the cell x counts what its inflows bring
-abbrev pub Counted : ℕ → ℕ → List ℕ → List ℕ → ℕ → Type 0
-Counted rows cols dir count x = getD count x 0 ≡ countOffer rows cols dir count x
-
--- ---- the cells of trails
-
--- the cells of the trail from x; 0 for NoData
-unfoldable pub cellsOf : ℕ → ℕ → List ℕ → ℕ → ℕ
-cellsOf rows cols dir x = when (mappedAt rows cols dir x) (stepsIn rows cols dir (rows * cols) x + 1)
-
--- for some cells the cells of their trail, for the others 0
-pub record Known (rows cols : ℕ) (dir known : List ℕ) : Type 0 where
-  pub long : length known ≡ rows * cols
-  pub right : (x : ℕ) → 0 < getD known x 0 → getD known x 0 ≡ cellsOf rows cols dir x

@@ -7,8 +7,7 @@ use lib.IntN.{ℤ}
 use lib.Signed.{_≤ℤ_}
 use lib.Dec.{eqb}
 use Rattle.laws.specs.Sums.{sumTo, when}
-use Rattle.terrain.specs.Quantities.{noData}
-use Rattle.terrain.specs.Cells.{Valid, Rim}
+use Rattle.terrain.specs.Cells.{noData, Valid, Rim}
 use Rattle.terrain.specs.Surfaces.{Run, greatest, Drained}
 use Rattle.terrain.specs.Trail.{Trail, OnValid, NeverRises, NeverTwice, lastOf}
 

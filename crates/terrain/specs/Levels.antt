@@ -3,17 +3,17 @@
 use mathlib.Core.Path.{_≡_}
 use mathlib.Core.List.{List}
 use mathlib.Core.Bool.{Bool, cond, _&&_}
-use Prim.Native.Nat.{ℕ, _+_, _-_, _*_, _≤_, max}
+use Prim.Native.Nat.{ℕ, _+_, _-_, _*_, _/_, _%_, _≤_}
 use lib.ListN.{length, getD, set}
 use lib.Dec.{ltb, leb, eqb}
-use Rattle.laws.specs.Sums.{greatestTo}
-use Rattle.laws.specs.First.{firstOf}
+use Rattle.laws.specs.Lists.{Agrees}
 use Rattle.laws.specs.Settle.{Loose, relaxedOf}
-use Rattle.terrain.specs.Cells.{codeOf, validAt}
+use Rattle.terrain.specs.Cells.{neighbour, codeOf, validAt}
 use Rattle.terrain.specs.Inside.{Sized}
 use Rattle.terrain.specs.Filled.{top}
-use Rattle.terrain.specs.Flat.{farSteps, flatAt, nearestOf, flatStepping, StepsKept}
-use Rattle.terrain.specs.Direction.{steepOf, steepAt}
+use Rattle.terrain.specs.Flat.{farSteps, hasLower, flatAt, nearestOf, flatStepping, StepsKept}
+use Rattle.terrain.specs.Direction.{steepSide}
+use Rattle.terrain.specs.Falls.{noFall}
 use Rattle.terrain.specs.declared.direction.Fall.{Fall}
 
 pub record Levels (rows cols : ℕ) (lv : List ℕ) : Type 0 where
@@ -46,11 +46,6 @@ pub record Spread (rows cols : ℕ) (lv d : List ℕ) (room e : ℕ) : Type 0 wh
 abbrev pub StepsLoose : ℕ → ℕ → List ℕ → List ℕ → ℕ → ℕ → ℕ → Type 0
 StepsLoose rows cols lv = Loose (flatStepping rows cols lv)
 
--- a count m of a cell: if it is 0, its steps are no more than one more than the fewest beside it
-pub record LooseSteps (steps fewest m : ℕ) : Type 0 where
-  pub few : m ≤ 1
-  pub still : m ≡ 0 → steps ≤ fewest + 1
-
 -- the steps of the cell x were lowered, if they could be
 pub record LoweredSteps (rows cols : ℕ) (lv d₀ d : List ℕ) (x : ℕ) (lowered : Bool) : Type 0 where
   pub told : lowered ≡ ltb (nearestOf rows cols lv d₀ x 8 + 1) (getD d₀ x 0)
@@ -59,23 +54,54 @@ pub record LoweredSteps (rows cols : ℕ) (lv d₀ d : List ℕ) (x : ℕ) (lowe
 -- ---- direction
 
 -- the drop from the level v to the level w; 0 where w is not lower, or not valid
-abbrev pub dropOf : ℕ → ℕ → ℕ
+unfoldable pub dropOf : ℕ → ℕ → ℕ
 dropOf v w = cond (ltb 0 w && ltb w v) (v - w) 0
 
--- the steeper of a fall and that by a drop d at the side k; the first on a tie
-pub record Steeper (k d : ℕ) (a r : Fall) : Type 0 where
-  pub code : r .code ≡ cond (leb (steepOf k d) (a .steepness)) (a .code) (codeOf k)
-  pub steepness : r .steepness ≡ max (a .steepness) (steepOf k d)
+-- the key of that drop at the side k: greater for a greater drop, and of equal drops for an earlier side
+abbrev pub keyOf : ℕ → ℕ → ℕ → ℕ
+keyOf v w k = dropOf v w * 256 + (255 - codeOf k)
 
--- the code of the first of the first k sides of greatest steepness; 0 where no neighbour there is lower
-unfoldable pub fallIn : ℕ → ℕ → List ℕ → ℕ → ℕ → ℕ
-unfolding steepAt greatestTo firstOf
-fallIn rows cols lv x k =
-    cond (ltb 0 (greatestTo k (steepAt rows cols lv x)))
-    (codeOf (firstOf (λ j. eqb (steepAt rows cols lv x j) (greatestTo k (steepAt rows cols lv x))) k))
-    0
+-- the drop of the greatest cardinal key c is as steep as that of the greatest diagonal key d
+abbrev pub straight : ℕ → ℕ → Bool
+straight c d = leb (d / 256 * (d / 256)) (2 * (c / 256 * (c / 256)))
 
--- the code of the cell x but for flats
-unfoldable pub downAt : ℕ → ℕ → List ℕ → ℕ → ℕ
-unfolding fallIn
-downAt rows cols lv x = cond (validAt lv x) (fallIn rows cols lv x 8) 255
+-- the code and the fall of the steeper of the two
+pub record Chosen (c d : ℕ) (r : Fall) : Type 0 where
+  pub code : r .code ≡ 255 - cond (straight c d) c d % 256
+  pub fall : r .fall ≡ cond (straight c d) c d / 256 * 2 + cond (straight c d) 0 1
+
+module _ (rows cols : ℕ) (lv : List ℕ) where
+  -- the drop over the side k of x, its key and its fall
+  abbrev pub sideDrop : ℕ → ℕ → ℕ
+  sideDrop x k = dropOf (getD lv x 0) (getD lv (neighbour rows cols x k) 0)
+
+  abbrev pub sideKey : ℕ → ℕ → ℕ
+  sideKey x k = keyOf (getD lv x 0) (getD lv (neighbour rows cols x k) 0) k
+
+  abbrev pub sideFall : ℕ → ℕ → ℕ
+  sideFall x k = 2 * sideDrop x k + k % 2
+
+  -- what g has for the steepest side of x; 0 where no neighbour is lower
+  unfoldable pub steepestIn : (ℕ → ℕ) → ℕ → ℕ
+  unfolding hasLower steepSide
+  steepestIn g x = cond (hasLower rows cols lv x) (g (steepSide rows cols lv x)) 0
+
+  -- the code of the cell x but for flats
+  unfoldable pub downAt : ℕ → ℕ
+  unfolding steepestIn
+  downAt x = cond (validAt lv x) (steepestIn codeOf x) 255
+
+  -- and its fall
+  unfoldable pub fallDownAt : ℕ → ℕ
+  unfolding steepestIn
+  fallDownAt x = cond (validAt lv x) (steepestIn (sideFall x) x) noFall
+
+  -- both of the cell x
+  pub record FallTo (x : ℕ) (a : Fall) : Type 0 where
+    pub code : a .code ≡ downAt x
+    pub fall : a .fall ≡ fallDownAt x
+
+  -- the cells below x have their codes but for flats, and their falls
+  pub record Down (dir fall : List ℕ) (x : ℕ) : Type 0 where
+    pub codes : Agrees downAt 255 dir x
+    pub falls : Agrees fallDownAt 0 fall x

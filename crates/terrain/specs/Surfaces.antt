@@ -5,8 +5,7 @@ use Prim.Native.Nat.{ℕ, _<_}
 use lib.ListN.{getD}
 use lib.IntN.{ℤ}
 use lib.Signed.{_≤ℤ_, leZ}
-use Rattle.terrain.specs.Quantities.{noData}
-use Rattle.terrain.specs.Cells.{neighbour, Valid, Rim}
+use Rattle.terrain.specs.Cells.{noData, neighbour, Valid, Rim}
 
 -- the greater of two heights
 abbrev pub maxZ : ℤ → ℤ → ℤ

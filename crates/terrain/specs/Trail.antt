@@ -96,14 +96,9 @@ module _ (rows cols : ℕ) (dir : List ℕ) where
   unfolding greatestTo when mappedAt stepsIn
   longestOf = greatestTo (rows * cols) (λ x. when (mappedAt x) (stepsIn (rows * cols) x))
 
-  -- ---- counts by raising: what a cell may be raised to
+  -- ---- inflows
 
   -- the neighbour at the side k of z points at z
   unfoldable pub intoAt : ℕ → ℕ → Bool
   unfolding neighbour flowsAt nextAt
   intoAt z k = flowsAt (neighbour rows cols z k) && eqb (nextAt (neighbour rows cols z k)) z
-
-  -- a valid cell counts itself, and what the cells that point at it count
-  unfoldable pub countOffer : List ℕ → ℕ → ℕ
-  unfolding sumTo when mappedAt neighbour intoAt
-  countOffer l z = when (mappedAt z) (1 + sumTo 8 (λ k. when (intoAt z k) (getD l (neighbour rows cols z k) 0)))

@@ -5,15 +5,13 @@
 //     3 SW   2 S   1 SE
 ghost use mathlib.Core.Path.{_≡_};
 ghost use mathlib.Core.Bool.{true};
-ghost use Prim.Native.Nat.{_+_, _*_, _<_, min, max};
+ghost use Prim.Native.Nat.{_+_, _*_, _≤_, _<_, min, max};
 ghost use lib.ListN.{length, getD, replicate};
 ghost use Rattle.terrain.specs.Cells.{rowSteps, colSteps, cellAt, neighbour};
 ghost use Rattle.terrain.specs.Inside.{Sized, Inside, RunsTo, besideOf, Beside};
-ghost use Rattle.terrain.specs.Length.{largestOf};
 
 // Where the neighbour at side k lies, counted from the one at NW: four times its row, plus its column.
-fn place_of(k: usize) -> usize
-    requires { ⌜ k < 8 ⌝ }
+pub fn place_of(k: usize) -> usize
     ensures { λ r. ⌜ r ≡ getD rowSteps k 0 * 4 + getD colSteps k 0 ⌝ }
 {
     match k {
@@ -24,7 +22,8 @@ fn place_of(k: usize) -> usize
         4 => 4,
         5 => 0,
         6 => 1,
-        _ => 2,
+        7 => 2,
+        _ => 0,
     }
 }
 
@@ -101,6 +100,15 @@ pub(crate) fn beside(columns: usize, x: usize, k: usize) -> usize
     x + place / 4 * columns + place % 4 - columns - 1
 }
 
+// Where the neighbour at side k of a cell x lies, if it has one there; else any place.
+pub(crate) fn around(columns: usize, x: usize, k: usize) -> usize
+    requires { ⌜ (columns ≤ 1024) × (x < 1048576) × (k < 8) ⌝ }
+    ensures { λ r. ⌜ (Beside columns x k → r ≡ besideOf columns x k) ⌝ }
+{
+    let place = place_of(k);
+    std::num::wrapping_sub_usize(x + place / 4 * columns + place % 4, columns + 1)
+}
+
 // The number at an index; 0 where there is none.
 pub(crate) fn value_at(s: &[u32], i: usize) -> u32
     ensures { λ r. ⌜ r ≡ getD (now (s .entry)) i 0 ⌝ }
@@ -131,17 +139,4 @@ pub(crate) fn clear(s: &mut [u32])
         s[x] = 0;
         x += 1;
     }
-}
-
-// The largest flow count.
-pub(crate) fn largest(count: &[u32]) -> u32
-    ensures { λ r. ⌜ r ≡ largestOf (length (now (count .entry))) (now (count .entry)) ⌝ }
-{
-    let mut most: u32 = 0;
-    let mut x: usize = 0;
-    while x < count.len() {
-        most = larger(most, count[x]);
-        x += 1;
-    }
-    most
 }

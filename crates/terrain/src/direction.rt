@@ -5,20 +5,25 @@ ghost use mathlib.Core.Bool.{true, cond, _&&_};
 ghost use Prim.Native.Nat.{ℕ, _+_, _*_, _≤_, _<_};
 ghost use lib.ListN.{length, getD};
 ghost use lib.Dec.{ltb, eqb};
-ghost use Rattle.laws.specs.Lists.{tab, Agrees};
-ghost use Rattle.terrain.specs.Cells.{neighbour, codeOf, cardinal};
+ghost use Rattle.laws.specs.Lists.{tab};
+ghost use Rattle.terrain.specs.Cells.{neighbour, codeOf};
 ghost use Rattle.terrain.specs.Inside.{Sized, Inside, RunsTo};
 ghost use Rattle.terrain.specs.Flat.{flatSteps, farSteps};
 ghost use Rattle.terrain.specs.Direction.{directionsOf};
-ghost use Rattle.terrain.specs.Levels.{Levels, dropOf, Steeper, fallIn, downAt};
+ghost use Rattle.terrain.specs.Falls.{noFall, fallsOf};
+ghost use Rattle.terrain.specs.Filled.{top};
+ghost use Rattle.terrain.specs.Levels.{Levels, dropOf, keyOf, sideKey, Chosen, downAt, FallTo, Down};
 use crate::cells::beside;
 use crate::cells::is_inside;
+use crate::cells::larger;
 use crate::cells::near;
 use crate::cells::run_end;
 use crate::cells::value_at;
 
-// The code of a NoData cell.
+// The code of a NoData cell, and its fall.
 pub(crate) const NO_CODE: u8 = 255;
+
+const NO_FALL: u32 = 4294967295;
 
 // The code of side k.
 pub(crate) fn code_of(k: usize) -> u8
@@ -37,22 +42,8 @@ pub(crate) fn code_of(k: usize) -> u8
     }
 }
 
-// What the square of a drop counts at side k: 2 in a cardinal direction, 1 in a diagonal one.
-fn weight(k: usize) -> u64
-    requires { ⌜ k < 8 ⌝ }
-    ensures { λ r. ⌜ r ≡ cond (cardinal k) 2 1 ⌝ }
-{
-    match k {
-        0 => 2,
-        2 => 2,
-        4 => 2,
-        6 => 2,
-        _ => 1,
-    }
-}
-
 // The drop from level v to level w; 0 where w is not lower, or is no neighbour's.
-fn drop_of(v: u32, w: u32) -> u64
+fn drop_of(v: u32, w: u32) -> u32
     ensures { λ r. ⌜ r ≡ dropOf v w ⌝ }
 {
     if w < 1 {
@@ -61,98 +52,57 @@ fn drop_of(v: u32, w: u32) -> u64
     if v <= w {
         return 0;
     }
-    (v - w) as u64
+    v - w
 }
 
-// A code with the steepness there; 0 and 0 for none.
+// The key of the drop from level v to level w at side k: greater for a greater drop, and of equal drops for an earlier side.
+fn key_of(v: u32, w: u32, k: usize) -> u32
+    requires { ⌜ (v ≤ top) × (k < 8) ⌝ }
+    ensures { λ r. ⌜ r ≡ keyOf v w k ⌝ }
+{
+    drop_of(v, w) * 256 + (255 - code_of(k) as u32)
+}
+
+// The first number or the second, without a branch.
+fn pick(first: bool, a: u32, b: u32) -> u32
+    ensures { λ r. ⌜ r ≡ cond first a b ⌝ }
+{
+    if first { a } else { b }
+}
+
+// The code of a cell, but for flats, and its fall.
 struct Fall {
     code: u8,
-    steepness: u64,
+    fall: u32,
 }
 
 impl Fall {
-    // The steeper of this fall and that by a drop at side k; this one on a tie.
-    fn or(self, k: usize, drop: u64) -> Fall
-        requires { ⌜ (k < 8) × (drop < 2000000) ⌝ }
-        ensures { λ r. ⌜ Steeper k drop self r ⌝ }
+    // The steeper of the sides of the greatest cardinal and the greatest diagonal key.
+    fn chosen(cardinal: u32, diagonal: u32) -> Fall
+        requires { ⌜ (cardinal < 536870912) × (diagonal < 536870912) ⌝ }
+        ensures { λ r. ⌜ Chosen cardinal diagonal r ⌝ }
     {
-        let steepness = weight(k) * drop * drop;
-        if steepness <= self.steepness {
-            return self;
-        }
+        let c = (cardinal / 256) as u64;
+        let d = (diagonal / 256) as u64;
+        let straight = d * d <= 2 * (c * c);
+        let key = pick(straight, cardinal, diagonal);
         Fall {
-            code: code_of(k),
-            steepness: steepness,
+            code: (255 - key % 256) as u8,
+            fall: key / 256 * 2 + pick(straight, 0, 1),
         }
     }
-}
 
-// The code of the steepest lower neighbour of a cell x that is inside; 0 where there is none.
-fn steepest_inside(columns: usize, level: &[u32], x: usize) -> u8
-    requires { ⌜ ((rows : ℕ) × Levels rows columns (now level) × Inside rows columns x) ⌝ }
-    ensures { λ r. ⌜ ((rows : ℕ) → Inside rows columns x → r ≡ fallIn rows columns (now (level .entry)) x 8) ⌝ }
-{
-    let v = level[x];
-    let mut fall = Fall {
-        code: 0,
-        steepness: 0,
-    };
-    let mut k: usize = 0;
-    while k < 8 {
-        fall = fall.or(k, drop_of(v, level[beside(columns, x, k)]));
-        k += 1;
-    }
-    fall.code
-}
-
-// The same of any cell x.
-fn steepest_near(rows: usize, columns: usize, level: &[u32], x: usize) -> u8
-    requires { ⌜ Levels rows columns (now level) × (x < rows * columns) ⌝ }
-    ensures { λ r. ⌜ r ≡ fallIn rows columns (now (level .entry)) x 8 ⌝ }
-{
-    let v = level[x];
-    let mut fall = Fall {
-        code: 0,
-        steepness: 0,
-    };
-    let mut k: usize = 0;
-    while k < 8 {
-        fall = fall.or(k, drop_of(v, value_at(level, near(rows, columns, x, k))));
-        k += 1;
-    }
-    fall.code
-}
-
-// The code of a cell of level v but for flats, from that of its steepest lower neighbour.
-fn downhill(v: u32, code: u8) -> u8
-    ensures { λ r. ⌜ r ≡ cond (ltb 0 v) code 255 ⌝ }
-{
-    if v < 1 { NO_CODE } else { code }
-}
-
-// Writes the codes but for flats of a run of cells that are inside.
-fn point_run(columns: usize, level: &[u32], direction: &mut [u8], from: usize, to: usize)
-    requires { ⌜ ((rows : ℕ) × Levels rows columns (now level) × RunsTo rows columns from to × (length (now direction) ≡ rows * columns)) ⌝ }
-    ensures { λ r. ⌜ ((rows : ℕ) → RunsTo rows columns from to → Agrees (downAt rows columns (now (level .entry))) 255 (now (direction .entry)) from → Agrees (downAt rows columns (now (level .entry))) 255 (now (direction .exit)) to) ⌝ }
-{
-    let mut x = from;
-    while x < to {
-        direction[x] = downhill(level[x], steepest_inside(columns, level, x));
-        x += 1;
-    }
-}
-
-// Writes the code of every cell but for flats.
-fn point_down(rows: usize, columns: usize, level: &[u32], direction: &mut [u8])
-    requires { ⌜ Levels rows columns (now level) × (length (now direction) ≡ rows * columns) ⌝ }
-    ensures { λ r. ⌜ now (direction .exit) ≡ tab (rows * columns) (downAt rows columns (now (level .entry))) ⌝ }
-{
-    let mut x: usize = 0;
-    while x < direction.len() {
-        let end = run_end(rows, columns, x);
-        point_run(columns, level, direction, x, end);
-        direction[end] = downhill(level[end], steepest_near(rows, columns, level, end));
-        x = end + 1;
+    // This, or what stands for a NoData cell where the level v is that of one.
+    fn at(self, v: u32) -> Fall
+        ensures { λ r. ⌜ (r .code ≡ cond (ltb 0 v) (self .code) 255) × (r .fall ≡ cond (ltb 0 v) (self .fall) noFall) ⌝ }
+    {
+        if v < 1 {
+            return Fall {
+                code: NO_CODE,
+                fall: NO_FALL,
+            };
+        }
+        self
     }
 }
 
@@ -165,6 +115,73 @@ fn neighbour(rows: usize, columns: usize, x: usize, k: usize, inside: bool) -> u
         return beside(columns, x, k);
     }
     near(rows, columns, x, k)
+}
+
+// The key of side k of a cell x that is inside, or not.
+fn key_at(rows: usize, columns: usize, level: &[u32], x: usize, k: usize, inside: bool) -> u32
+    requires { ⌜ Levels rows columns (now level) × (x < rows * columns) × (k < 8) × (inside ≡ true → Inside rows columns x) ⌝ }
+    ensures { λ r. ⌜ r ≡ sideKey rows columns (now (level .entry)) x k ⌝ }
+{
+    let v = level[x];
+    let y = neighbour(rows, columns, x, k, inside);
+    if inside {
+        return key_of(v, level[y], k);
+    }
+    key_of(v, value_at(level, y), k)
+}
+
+// The code, but for flats, and the fall of a cell x that is inside, or not.
+fn fall_at(rows: usize, columns: usize, level: &[u32], x: usize, inside: bool) -> Fall
+    requires { ⌜ Levels rows columns (now level) × (x < rows * columns) × (inside ≡ true → Inside rows columns x) ⌝ }
+    ensures { λ r. ⌜ FallTo rows columns (now (level .entry)) x r ⌝ }
+{
+    let mut cardinal: u32 = 255;
+    let mut diagonal: u32 = 255;
+    let mut i: usize = 0;
+    while i < 4 {
+        cardinal = larger(cardinal, key_at(rows, columns, level, x, 2 * i, inside));
+        diagonal = larger(diagonal, key_at(rows, columns, level, x, 2 * i + 1, inside));
+        i += 1;
+    }
+    Fall::chosen(cardinal, diagonal).at(level[x])
+}
+
+// Writes the codes, but for flats, and the falls of a run of cells that are inside.
+fn point_run(
+    rows: usize,
+    columns: usize,
+    level: &[u32],
+    direction: &mut [u8],
+    falls: &mut [u32],
+    from: usize,
+    to: usize,
+)
+    requires { ⌜ Levels rows columns (now level) × RunsTo rows columns from to × (length (now direction) ≡ rows * columns) × (length (now falls) ≡ rows * columns) × Down rows columns (now level) (now direction) (now falls) from ⌝ }
+    ensures { λ r. ⌜ Down rows columns (now (level .entry)) (now (direction .exit)) (now (falls .exit)) to ⌝ }
+{
+    let mut x = from;
+    while x < to {
+        let fall = fall_at(rows, columns, level, x, true);
+        direction[x] = fall.code;
+        falls[x] = fall.fall;
+        x += 1;
+    }
+}
+
+// Writes the code of every cell, but for flats, and its fall.
+fn point_down(rows: usize, columns: usize, level: &[u32], direction: &mut [u8], falls: &mut [u32])
+    requires { ⌜ Levels rows columns (now level) × (length (now direction) ≡ rows * columns) × (length (now falls) ≡ rows * columns) ⌝ }
+    ensures { λ r. ⌜ Down rows columns (now (level .entry)) (now (direction .exit)) (now (falls .exit)) (rows * columns) ⌝ }
+{
+    let mut x: usize = 0;
+    while x < direction.len() {
+        let end = run_end(rows, columns, x);
+        point_run(rows, columns, level, direction, falls, x, end);
+        let fall = fall_at(rows, columns, level, end, false);
+        direction[end] = fall.code;
+        falls[end] = fall.fall;
+        x = end + 1;
+    }
 }
 
 // Whether the neighbour y of the cell x has the same level and is one step nearer.
@@ -203,11 +220,18 @@ fn point_flats(rows: usize, columns: usize, level: &[u32], steps: &[u32], direct
     }
 }
 
-// Writes the direction of every cell.
-pub(crate) fn point(rows: usize, columns: usize, level: &[u32], steps: &[u32], direction: &mut [u8])
-    requires { ⌜ Levels rows columns (now level) × (now steps ≡ flatSteps rows columns (now level)) × (length (now direction) ≡ rows * columns) ⌝ }
-    ensures { λ r. ⌜ now (direction .exit) ≡ directionsOf rows columns (now (level .entry)) ⌝ }
+// Writes the direction and the fall of every cell.
+pub(crate) fn point(
+    rows: usize,
+    columns: usize,
+    level: &[u32],
+    steps: &[u32],
+    direction: &mut [u8],
+    falls: &mut [u32],
+)
+    requires { ⌜ Levels rows columns (now level) × (now steps ≡ flatSteps rows columns (now level)) × (length (now direction) ≡ rows * columns) × (length (now falls) ≡ rows * columns) ⌝ }
+    ensures { λ r. ⌜ (now (direction .exit) ≡ directionsOf rows columns (now (level .entry))) × (now (falls .exit) ≡ fallsOf rows columns (now (level .entry)) (directionsOf rows columns (now (level .entry)))) ⌝ }
 {
-    point_down(rows, columns, level, direction);
+    point_down(rows, columns, level, direction, falls);
     point_flats(rows, columns, level, steps, direction);
 }

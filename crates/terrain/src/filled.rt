@@ -1,37 +1,32 @@
-// Filled heights: depression filling by priority flood with buckets (Barnes, Lehman and Mulla 2014). Every store lowers a
-// level to one that the cell's ground and a neighbour's level allow; a cell that nothing can lower any more has its filled level.
+// Filled heights: depression filling by priority flood with buckets (Barnes, Lehman and Mulla 2014), in one word for each cell.
+// The flood gives a cell a level that is not below its lowest neighbour's; if in the end no cell is below its ground, every level
+// can stand, and a cell that nothing can lower any more has its filled level. Sweeps start anew if that fails, which does not happen.
 // A level is a height plus 999,900, so NoData is 0, and a place off the grid reads as 0 too: a rim cell is one that sees a 0.
 ghost use mathlib.Core.Path.{_≡_};
-ghost use mathlib.Core.Bool.{cond};
 ghost use mathlib.Core.List.{map};
 ghost use Prim.Native.Nat.{ℕ, _*_, _≤_, _<_};
 ghost use lib.ListN.{length, getD};
 ghost use lib.IntN.{pos};
-ghost use lib.Dec.{ltb};
 ghost use Rattle.laws.specs.Settle.{startOf};
-ghost use Rattle.terrain.specs.Quantities.{Fine};
-ghost use Rattle.terrain.specs.Cells.{levelsOf, heightOf, Ready};
+ghost use Rattle.terrain.specs.Cells.{Fine, levelsOf, heightOf, Ready};
 ghost use Rattle.terrain.specs.Inside.{Sized, Inside, RunsTo};
 ghost use Rattle.terrain.specs.Filled.{top, lowestOf, filling, filledLevels};
-ghost use Rattle.terrain.specs.Trail.{validsOf};
-ghost use Rattle.terrain.specs.Flood.{Flooding, reachedOf, rimReachedOf, LooseCell, FillKept, FillStill, FillEased, FillSweeping, FillLoose, Lowered};
+ghost use Rattle.terrain.specs.Flood.{FaultyCell, Faulty, FillSweeping, Lowered, doneOf, Flooded};
 use crate::cells::beside;
-use crate::cells::is_inside;
 use crate::cells::larger;
 use crate::cells::near;
 use crate::cells::run_end;
 use crate::cells::smaller;
 use crate::cells::value_at;
-use crate::queue::list_of;
+use crate::queue::level_of;
 use crate::queue::open_band;
 use crate::queue::pop;
-use crate::queue::push;
+use crate::queue::reach_rims;
+use crate::queue::spread;
+use crate::queue::start_word;
 
 // Above every level: the flood has not come here yet.
 const UNREACHED: u32 = 1900000;
-
-// More than any band: no band is being emptied.
-const NO_BAND: usize = 1024;
 
 // The level of the ground at the cell x.
 fn ground_level(ground: &[i32], x: usize) -> u32
@@ -77,259 +72,107 @@ pub(crate) fn lowest_near(rows: usize, columns: usize, level: &[u32], x: usize) 
     low
 }
 
-// The level that a cell with this level of ground starts from.
-fn start_level(g: u32) -> u32
-    ensures { λ r. ⌜ r ≡ cond (ltb 0 g) top 0 ⌝ }
-{
-    if g < 1 { 0 } else { UNREACHED }
-}
-
-// Sets every level to where it starts from.
-fn start(ground: &[i32], level: &mut [u32])
-    requires { ⌜ ((rows : ℕ) × (columns : ℕ) × Ready rows columns (now ground) × (length (now level) ≡ rows * columns)) ⌝ }
-    ensures { λ r. ⌜ ((rows columns : ℕ) → length (now (level .entry)) ≡ rows * columns → now (level .exit) ≡ startOf (filling rows columns (levelsOf (now (ground .entry))))) ⌝ }
+// Sets every word to where it starts from.
+fn start(ground: &[i32], words: &mut [u32])
+    requires { ⌜ ((rows : ℕ) × (columns : ℕ) × Ready rows columns (now ground) × (length (now words) ≡ rows * columns)) ⌝ }
+    ensures { λ r. ⌜ ((rows columns : ℕ) → length (now (words .entry)) ≡ rows * columns → doneOf (now (words .exit)) ≡ startOf (filling rows columns (levelsOf (now (ground .entry))))) ⌝ }
 {
     let mut x: usize = 0;
-    while x < level.len() {
-        level[x] = start_level(ground_level(ground, x));
+    while x < words.len() {
+        words[x] = start_word(ground_level(ground, x));
         x += 1;
     }
 }
 
-// Lowers the cell y, if the flood has not come there, to what its ground and a neighbour of level h allow, and queues it.
-fn reach(
-    ground: &[i32],
-    level: &mut [u32],
-    heads: &mut [u32; 2048],
-    links: &mut [u32],
-    band: usize,
-    h: u32,
-    y: usize,
-)
-    requires { ⌜ ((rows : ℕ) × (columns : ℕ) × Flooding rows columns (now ground) (now level) (now links)) ⌝ }
-    ensures { λ r. ⌜ now (level .exit) ≡ reachedOf (levelsOf (now (ground .entry))) (now (level .entry)) h y ⌝ }
+// Gives the cell x, which waits, this level, if that is not below its lowest neighbour, which is not above `low`.
+// Only a cell of the edge, around which lie cells that are no neighbours, can be below `low`.
+fn finish(rows: usize, columns: usize, words: &mut [u32], level: u32, low: u32, x: usize)
+    requires { ⌜ Sized rows columns × (length (now words) ≡ rows * columns) × (x < rows * columns) × (top ≤ getD (now words) x 0) × (lowestOf rows columns (now words) x 8 ≤ low) ⌝ }
+    ensures { λ r. ⌜ Flooded rows columns (now (words .entry)) (now (words .exit)) ⌝ }
 {
-    if value_at(level, y) < UNREACHED {
-        return;
+    if level < low {
+        if level < lowest_near(rows, columns, words, x) {
+            return;
+        }
     }
-    let v = larger(ground_level(ground, y), h);
-    level[y] = v;
-    push(heads, links, list_of(v, band), y);
+    words[x] = level;
 }
 
-// Reaches the cell x, beside which `low` is the lowest level, if it is a rim cell.
-fn reach_rim(
-    ground: &[i32],
-    level: &mut [u32],
-    heads: &mut [u32; 2048],
-    links: &mut [u32],
-    low: u32,
-    x: usize,
-)
-    requires { ⌜ ((rows : ℕ) × (columns : ℕ) × Flooding rows columns (now ground) (now level) (now links)) ⌝ }
-    ensures { λ r. ⌜ now (level .exit) ≡ rimReachedOf (levelsOf (now (ground .entry))) (now (level .entry)) low x ⌝ }
-{
-    if 0 < low {
-        return;
-    }
-    reach(ground, level, heads, links, NO_BAND, 0, x);
-}
-
-// Reaches the rim cells of a run of cells that are inside.
-fn reach_rim_run(
-    columns: usize,
-    ground: &[i32],
-    level: &mut [u32],
-    heads: &mut [u32; 2048],
-    links: &mut [u32],
-    from: usize,
-    to: usize,
-)
-    requires { ⌜ ((rows : ℕ) × Flooding rows columns (now ground) (now level) (now links) × RunsTo rows columns from to) ⌝ }
-    ensures { λ r. ⌜ ((rows : ℕ) → Ready rows columns (now (ground .entry)) → RunsTo rows columns from to → FillEased rows columns (now (ground .entry)) (now (level .entry)) (now (level .exit))) ⌝ }
-{
-    let mut x = from;
-    while x < to {
-        let low = lowest_inside(columns, level, x);
-        reach_rim(ground, level, heads, links, low, x);
-        x += 1;
-    }
-}
-
-// Reaches every rim cell.
-fn reach_rims(
-    rows: usize,
-    columns: usize,
-    ground: &[i32],
-    level: &mut [u32],
-    heads: &mut [u32; 2048],
-    links: &mut [u32],
-)
-    requires { ⌜ Flooding rows columns (now ground) (now level) (now links) ⌝ }
-    ensures { λ r. ⌜ FillEased rows columns (now (ground .entry)) (now (level .entry)) (now (level .exit)) ⌝ }
-{
-    let mut x: usize = 0;
-    while x < level.len() {
-        let end = run_end(rows, columns, x);
-        reach_rim_run(columns, ground, level, heads, links, x, end);
-        let low = lowest_near(rows, columns, level, end);
-        reach_rim(ground, level, heads, links, low, end);
-        x = end + 1;
-    }
-}
-
-// Reaches the neighbours of a cell x of level h that is inside.
-fn spread_inside(
-    columns: usize,
-    ground: &[i32],
-    level: &mut [u32],
-    heads: &mut [u32; 2048],
-    links: &mut [u32],
-    band: usize,
-    h: u32,
-    x: usize,
-)
-    requires { ⌜ ((rows : ℕ) × Flooding rows columns (now ground) (now level) (now links) × Inside rows columns x × (h ≡ getD (now level) x 0)) ⌝ }
-    ensures { λ r. ⌜ ((rows : ℕ) → Ready rows columns (now (ground .entry)) → Inside rows columns x → FillEased rows columns (now (ground .entry)) (now (level .entry)) (now (level .exit))) ⌝ }
-{
-    let mut k: usize = 0;
-    while k < 8 {
-        reach(ground, level, heads, links, band, h, beside(columns, x, k));
-        k += 1;
-    }
-}
-
-// Reaches the neighbours of any cell x of level h.
-fn spread_near(
-    rows: usize,
-    columns: usize,
-    ground: &[i32],
-    level: &mut [u32],
-    heads: &mut [u32; 2048],
-    links: &mut [u32],
-    band: usize,
-    h: u32,
-    x: usize,
-)
-    requires { ⌜ Flooding rows columns (now ground) (now level) (now links) × (x < rows * columns) × (h ≡ getD (now level) x 0) ⌝ }
-    ensures { λ r. ⌜ FillEased rows columns (now (ground .entry)) (now (level .entry)) (now (level .exit)) ⌝ }
-{
-    let mut k: usize = 0;
-    while k < 8 {
-        reach(
-            ground,
-            level,
-            heads,
-            links,
-            band,
-            h,
-            near(rows, columns, x, k),
-        );
-        k += 1;
-    }
-}
-
-// Reaches the neighbours of the cell x.
-fn spread(
-    rows: usize,
-    columns: usize,
-    ground: &[i32],
-    level: &mut [u32],
-    heads: &mut [u32; 2048],
-    links: &mut [u32],
-    band: usize,
-    x: usize,
-)
-    requires { ⌜ Flooding rows columns (now ground) (now level) (now links) × (x < rows * columns) ⌝ }
-    ensures { λ r. ⌜ FillEased rows columns (now (ground .entry)) (now (level .entry)) (now (level .exit)) ⌝ }
-{
-    let h = level[x];
-    if is_inside(rows, columns, x) {
-        spread_inside(columns, ground, level, heads, links, band, h, x);
-        return;
-    }
-    spread_near(rows, columns, ground, level, heads, links, band, h, x);
-}
-
-// Spreads from the cells of a list until it is empty.
+// Takes the cells of the list of a level, until it is empty: each reaches its neighbours, and is done at this level.
 fn drain(
     rows: usize,
     columns: usize,
-    ground: &[i32],
-    level: &mut [u32],
     heads: &mut [u32; 2048],
-    links: &mut [u32],
+    words: &mut [u32],
     band: usize,
     list: usize,
 )
-    requires { ⌜ Flooding rows columns (now ground) (now level) (now links) × (list < 2048) ⌝ }
-    ensures { λ r. ⌜ FillEased rows columns (now (ground .entry)) (now (level .entry)) (now (level .exit)) ⌝ }
+    requires { ⌜ Sized rows columns × (length (now words) ≡ rows * columns) × (band < 1024) × (1024 ≤ list) × (list < 2048) ⌝ }
+    ensures { λ r. ⌜ Flooded rows columns (now (words .entry)) (now (words .exit)) ⌝ }
 {
+    let level = level_of(band, list);
     let mut turns: usize = 0;
-    while turns < level.len() {
-        let x = pop(heads, links, list);
-        if level.len() <= x {
+    while turns < words.len() {
+        let x = pop(heads, words, list);
+        if words.len() <= x {
             return;
         }
-        spread(rows, columns, ground, level, heads, links, band, x);
+        let low = spread(columns, heads, words, band, level, x);
+        finish(rows, columns, words, level, low, x);
         turns += 1;
     }
 }
 
-// Spreads from the cells of a band, the lowest first.
-fn flood_band(
-    rows: usize,
-    columns: usize,
-    ground: &[i32],
-    level: &mut [u32],
-    heads: &mut [u32; 2048],
-    links: &mut [u32],
-    band: usize,
-)
-    requires { ⌜ Flooding rows columns (now ground) (now level) (now links) × (band < 1024) ⌝ }
-    ensures { λ r. ⌜ FillEased rows columns (now (ground .entry)) (now (level .entry)) (now (level .exit)) ⌝ }
+// Takes the cells of a band, the lowest first.
+fn flood_band(rows: usize, columns: usize, heads: &mut [u32; 2048], words: &mut [u32], band: usize)
+    requires { ⌜ Sized rows columns × (length (now words) ≡ rows * columns) × (band < 1024) ⌝ }
+    ensures { λ r. ⌜ Flooded rows columns (now (words .entry)) (now (words .exit)) ⌝ }
 {
     if heads[band] < 1 {
         return;
     }
-    open_band(level, heads, links, band);
+    open_band(heads, words, band);
     let mut list: usize = 1024;
     while list < 2048 {
-        drain(rows, columns, ground, level, heads, links, band, list);
+        drain(rows, columns, heads, words, band, list);
         list += 1;
     }
 }
 
-// Spreads from the rim inwards, the lowest cells first.
-fn flood(rows: usize, columns: usize, ground: &[i32], level: &mut [u32], links: &mut [u32])
-    requires { ⌜ Flooding rows columns (now ground) (now level) (now links) ⌝ }
-    ensures { λ r. ⌜ FillEased rows columns (now (ground .entry)) (now (level .entry)) (now (level .exit)) ⌝ }
+// Goes from the rim inwards, the lowest cells first.
+fn flood(rows: usize, columns: usize, words: &mut [u32])
+    requires { ⌜ Sized rows columns × (length (now words) ≡ rows * columns) ⌝ }
+    ensures { λ r. ⌜ Flooded rows columns (now (words .entry)) (now (words .exit)) ⌝ }
 {
     let mut heads: [u32; 2048] = [0; 2048];
-    reach_rims(rows, columns, ground, level, &mut heads, links);
+    reach_rims(columns, &mut heads, words);
     let mut band: usize = 0;
     while band < 1024 {
-        flood_band(rows, columns, ground, level, &mut heads, links, band);
+        flood_band(rows, columns, &mut heads, words, band);
         band += 1;
     }
 }
 
-// 1 if a level can be lowered to what the ground and the lowest level beside it allow; else 0.
-fn loose(v: u32, ground: u32, low: u32) -> u32
-    ensures { λ r. ⌜ LooseCell v ground low r ⌝ }
+// 1 if a level is below its ground, or above what the ground and the lowest level beside it allow; else 0.
+fn faulty(v: u32, ground: u32, low: u32) -> u32
+    ensures { λ r. ⌜ FaultyCell v ground low r ⌝ }
 {
-    if larger(ground, low) < v { 1 } else { 0 }
+    if larger(ground, smaller(v, low)) == v {
+        0
+    } else {
+        1
+    }
 }
 
-// How many cells can be lowered in a run of cells that are inside.
-fn loose_run(columns: usize, ground: &[i32], level: &[u32], from: usize, to: usize) -> u32
+// How many cells are at fault in a run of cells that are inside.
+fn faulty_run(columns: usize, ground: &[i32], level: &[u32], from: usize, to: usize) -> u32
     requires { ⌜ ((rows : ℕ) × Ready rows columns (now ground) × (length (now level) ≡ rows * columns) × RunsTo rows columns from to) ⌝ }
-    ensures { λ r. ⌜ ((rows : ℕ) → RunsTo rows columns from to → FillLoose rows columns (now (ground .entry)) (now (level .entry)) from to r) ⌝ }
+    ensures { λ r. ⌜ ((rows : ℕ) → RunsTo rows columns from to → Faulty rows columns (now (ground .entry)) (now (level .entry)) from to r) ⌝ }
 {
     let mut sum: u32 = 0;
     let mut x = from;
     while x < to {
-        sum += loose(
+        sum += faulty(
             level[x],
             ground_level(ground, x),
             lowest_inside(columns, level, x),
@@ -339,17 +182,17 @@ fn loose_run(columns: usize, ground: &[i32], level: &[u32], from: usize, to: usi
     sum
 }
 
-// How many cells can be lowered.
-fn loose_cells(rows: usize, columns: usize, ground: &[i32], level: &[u32]) -> u32
+// How many cells are at fault.
+fn faulty_cells(rows: usize, columns: usize, ground: &[i32], level: &[u32]) -> u32
     requires { ⌜ Ready rows columns (now ground) × (length (now level) ≡ rows * columns) ⌝ }
-    ensures { λ r. ⌜ (r ≡ 0 → FillStill rows columns (now (ground .entry)) (now (level .entry))) ⌝ }
+    ensures { λ r. ⌜ Faulty rows columns (now (ground .entry)) (now (level .entry)) 0 (rows * columns) r ⌝ }
 {
     let mut sum: u32 = 0;
     let mut x: usize = 0;
     while x < level.len() {
         let end = run_end(rows, columns, x);
-        sum += loose_run(columns, ground, level, x, end);
-        sum += loose(
+        sum += faulty_run(columns, ground, level, x, end);
+        sum += faulty(
             level[end],
             ground_level(ground, end),
             lowest_near(rows, columns, level, end),
@@ -391,31 +234,40 @@ fn sweep(rows: usize, columns: usize, ground: &[i32], level: &mut [u32]) -> bool
     lowered
 }
 
-// Lowers until no cell can be lowered.
+// Sets every level to where sweeps start from.
+fn restart(ground: &[i32], level: &mut [u32])
+    requires { ⌜ ((rows : ℕ) × (columns : ℕ) × Ready rows columns (now ground) × (length (now level) ≡ rows * columns)) ⌝ }
+    ensures { λ r. ⌜ ((rows columns : ℕ) → length (now (level .entry)) ≡ rows * columns → now (level .exit) ≡ startOf (filling rows columns (levelsOf (now (ground .entry))))) ⌝ }
+{
+    let mut x: usize = 0;
+    while x < level.len() {
+        level[x] = smaller(start_word(ground_level(ground, x)), UNREACHED);
+        x += 1;
+    }
+}
+
+// The levels of the filled heights, by sweeps alone until no cell can be lowered.
 fn settle(rows: usize, columns: usize, ground: &[i32], level: &mut [u32])
-    requires { ⌜ Ready rows columns (now ground) × FillKept rows columns (now ground) (now level) ⌝ }
+    requires { ⌜ Ready rows columns (now ground) × (length (now level) ≡ rows * columns) ⌝ }
     ensures { λ r. ⌜ now (level .exit) ≡ filledLevels rows columns (now (ground .entry)) ⌝ }
 {
-    let mut again = 0 < loose_cells(rows, columns, ground, level);
+    restart(ground, level);
+    let mut again = true;
     while again {
         again = sweep(rows, columns, ground, level);
     }
 }
 
-// The levels of the filled heights. The links are scratch.
-pub(crate) fn fill(
-    rows: usize,
-    columns: usize,
-    ground: &[i32],
-    level: &mut [u32],
-    links: &mut [u32],
-)
-    requires { ⌜ Flooding rows columns (now ground) (now level) (now links) ⌝ }
+// The levels of the filled heights.
+pub(crate) fn fill(rows: usize, columns: usize, ground: &[i32], level: &mut [u32])
+    requires { ⌜ Ready rows columns (now ground) × (length (now level) ≡ rows * columns) ⌝ }
     ensures { λ r. ⌜ now (level .exit) ≡ filledLevels rows columns (now (ground .entry)) ⌝ }
 {
     start(ground, level);
-    flood(rows, columns, ground, level, links);
-    settle(rows, columns, ground, level);
+    flood(rows, columns, level);
+    if 0 < faulty_cells(rows, columns, ground, level) {
+        settle(rows, columns, ground, level);
+    }
 }
 
 // Writes the height of each level.
@@ -428,18 +280,4 @@ pub(crate) fn write_heights(level: &[u32], filled: &mut [i32])
         filled[x] = height_of(level[x]);
         x += 1;
     }
-}
-
-// The number of cells that have data.
-pub(crate) fn valid_cells(level: &[u32]) -> u32
-    requires { ⌜ length (now level) ≤ 1048576 ⌝ }
-    ensures { λ r. ⌜ ((rows columns : ℕ) → length (now (level .entry)) ≡ rows * columns → r ≡ validsOf rows columns (now (level .entry))) ⌝ }
-{
-    let mut valid: u32 = 0;
-    let mut x: usize = 0;
-    while x < level.len() {
-        valid += smaller(level[x], 1);
-        x += 1;
-    }
-    valid
 }

@@ -10,7 +10,7 @@ ghost use Rattle.laws.specs.Lists.{Agrees};
 ghost use Rattle.laws.specs.Settle.{startOf, Sweeping};
 ghost use Rattle.terrain.specs.Inside.{Inside, RunsTo};
 ghost use Rattle.terrain.specs.Flat.{farSteps, nearestOf, flatStepping, flatSteps, Within, StepsKept, StepsStill};
-ghost use Rattle.terrain.specs.Levels.{Levels, startOn, startAt, Reached, Spread, StepsLoose, LooseSteps, LoweredSteps};
+ghost use Rattle.terrain.specs.Levels.{Levels, startOn, startAt, Reached, Spread, StepsLoose, LoweredSteps};
 use crate::cells::beside;
 use crate::cells::is_inside;
 use crate::cells::near;
@@ -286,7 +286,7 @@ fn wade(rows: usize, columns: usize, level: &[u32], steps: &mut [u32], queue: &m
 // 1 if a cell's steps can be lowered to one more than the fewest beside it; else 0.
 fn loose(steps: u32, fewest: u32) -> u32
     requires { ⌜ fewest ≤ farSteps ⌝ }
-    ensures { λ r. ⌜ LooseSteps steps fewest r ⌝ }
+    ensures { λ r. ⌜ (r ≤ 1) × (r ≡ 0 → steps ≤ fewest + 1) ⌝ }
 {
     if fewest + 1 < steps { 1 } else { 0 }
 }

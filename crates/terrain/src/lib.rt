@@ -1,92 +1,47 @@
-// The terrain layer: from ground heights to filled heights, directions, flow counts and slope lengths. Document 01, "Filling
-// and directions" and "Length".
+// The terrain layer, where the water goes: from ground heights to filled heights, directions, falls and flow counts, and an
+// order of the cells from the ridges down. Document 01, "Filling and directions". No settings and no cell side come in here.
 //
 // Every input gets an answer: the call has no `requires`. The modules follow document 01: cells, filled heights, steps over
-// flats, directions, trails, drops, lengths.
+// flats, directions, the order from the ridges down, trails.
 mod cells;
 mod direction;
-mod drops;
+mod downhill;
 mod filled;
 mod flat;
-mod length;
 mod queue;
 mod trail;
 
+pub use cells::place_of;
 ghost use mathlib.Core.Path.{_≡_};
-ghost use Prim.Native.Nat.{_*_};
+ghost use mathlib.Core.Bool.{true};
+ghost use Prim.Native.Nat.{ℕ, _*_};
 ghost use lib.ListN.{length};
-ghost use Rattle.terrain.specs.Quantities.{sizeAccepted, sideAccepted, heightAccepted};
-ghost use Rattle.terrain.specs.Cells.{Ready};
+ghost use Rattle.laws.specs.Tests.{passed, failed};
+ghost use Rattle.text.specs.Ranges.{allLong};
+ghost use Rattle.terrain.specs.Filled.{filledLevels, filledOf};
+ghost use Rattle.terrain.specs.Trail.{countsOf, longestOf};
+ghost use Rattle.terrain.specs.Falls.{fallsOf};
+ghost use Rattle.terrain.specs.Directed.{Directed};
+ghost use Rattle.terrain.specs.Downhill.{Downhill};
 ghost use Rattle.terrain.specs.Drainage.{Drainage};
-ghost use Rattle.terrain.specs.Relief.{Relief, Room};
-ghost use Rattle.terrain.specs.Answers.{told, lent, refused, accepted, found, allLong, Long, firstBad, judge, answerOf, gridsOf, answer, after};
-use settings::Judged;
-use settings::Rules;
-use settings::Settings;
-use text::NO_DATA;
+ghost use Rattle.terrain.specs.Answers.{lent, placesOf, found, judged, validOf, directionOf, After, answer, accepts};
+ghost use Rattle.terrain.specs.declared.Answer.the-variants.{Accepted};
 use text::Refusal;
 
-// The answer of the map call: the number of valid cells and the steps of the longest trail, or why there is no map.
+// The answer of the call: the number of valid cells and the steps of the longest trail, or why there is no map.
 pub enum Answer {
     Accepted { valid: u32, longest: u32 },
     Refused(Refusal),
 }
 
-// What is found of a call: the rules of its settings, or why it is refused.
+// What is found of a call: that its tests pass, or why it is refused.
 enum Judgement {
-    Sound(Rules),
+    Sound,
     Unsound(Refusal),
 }
 
-// Whether a number of rows or columns is accepted.
-fn is_size(n: usize) -> bool
-    ensures { λ r. ⌜ r ≡ sizeAccepted n ⌝ }
-{
-    if n < 1 {
-        return false;
-    }
-    n <= 1024
-}
-
-// Whether a cell side, in cm, is accepted.
-fn is_side(side: u32) -> bool
-    ensures { λ r. ⌜ r ≡ sideAccepted side ⌝ }
-{
-    if side < 1 {
-        return false;
-    }
-    side <= 100000
-}
-
-// Whether a height is accepted.
-fn is_height(h: i32) -> bool
-    ensures { λ r. ⌜ r ≡ heightAccepted h ⌝ }
-{
-    if h == NO_DATA {
-        return true;
-    }
-    if h < -50000 {
-        return false;
-    }
-    h <= 900000
-}
-
-// The first cell whose height is not accepted; the number of cells where there is none.
-fn first_bad(ground: &[i32]) -> usize
-    ensures { λ r. ⌜ r ≡ firstBad (length (now (ground .entry))) (now (ground .entry)) ⌝ }
-{
-    let mut x: usize = 0;
-    while x < ground.len() {
-        if !is_height(ground[x]) {
-            return x;
-        }
-        x += 1;
-    }
-    x
-}
-
 fn unsound(number: u32, place: usize) -> Judgement
-    ensures { λ r. ⌜ found r ≡ refused number place ⌝ }
+    ensures { λ r. ⌜ found r ≡ failed number place ⌝ }
 {
     Judgement::Unsound(Refusal {
         number: number,
@@ -101,72 +56,50 @@ fn are_long(
     filled: &[i32],
     direction: &[u8],
     count: &[u32],
-    lengths: &[u64],
-    drops: &[u32],
+    falls: &[u32],
     workspace: &[u32],
 ) -> bool
-    ensures { λ r. ⌜ r ≡ allLong cells (now (ground .entry)) (lent (now (filled .entry)) (now (direction .entry)) (now (count .entry)) (now (lengths .entry)) (now (drops .entry)) (now (workspace .entry))) ⌝ }
+    ensures { λ r. ⌜ r ≡ allLong cells (placesOf (now (ground .entry)) (lent (now (filled .entry)) (now (direction .entry)) (now (count .entry)) (now (falls .entry)) (now (workspace .entry)))) ⌝ }
 {
     (ground.len() == cells)
         & (filled.len() == cells)
         & (direction.len() == cells)
         & (count.len() == cells)
-        & (lengths.len() == cells)
-        & (drops.len() == cells)
+        & (falls.len() == cells)
         & (workspace.len() == cells)
 }
 
-// Makes the tests of refusals 1 to 5, in that order.
+// Makes the tests of refusals 1, 2 and 5, in that order.
 fn judge(
     rows: usize,
     columns: usize,
-    side: u32,
-    settings: Settings,
     ground: &[i32],
     filled: &[i32],
     direction: &[u8],
     count: &[u32],
-    lengths: &[u64],
-    drops: &[u32],
+    falls: &[u32],
     workspace: &[u32],
 ) -> Judgement
-    ensures { λ r. ⌜ found r ≡ judge rows columns side settings (now (ground .entry)) (lent (now (filled .entry)) (now (direction .entry)) (now (count .entry)) (now (lengths .entry)) (now (drops .entry)) (now (workspace .entry))) ⌝ }
+    ensures { λ r. ⌜ found r ≡ judged rows columns (now (ground .entry)) (lent (now (filled .entry)) (now (direction .entry)) (now (count .entry)) (now (falls .entry)) (now (workspace .entry))) ⌝ }
 {
-    if !is_size(rows) {
+    if !text::is_size(rows) {
         return unsound(1, 0);
     }
-    if !is_size(columns) {
+    if !text::is_size(columns) {
         return unsound(1, 0);
     }
     let cells = rows * columns;
-    if !are_long(
-        cells,
-        ground,
-        filled,
-        direction,
-        count,
-        lengths,
-        drops,
-        workspace,
-    ) {
+    if !are_long(cells, ground, filled, direction, count, falls, workspace) {
         return unsound(2, 0);
     }
-    if !is_side(side) {
-        return unsound(3, 0);
-    }
-    let judged = settings::judge(settings);
-    let rules = match judged {
-        Judged::Accepted(rules) => rules,
-        Judged::Refused(place) => return unsound(4, place),
-    };
-    let bad = first_bad(ground);
+    let bad = text::first_bad(ground);
     if bad < cells {
         return unsound(5, bad);
     }
-    Judgement::Sound(rules)
+    Judgement::Sound
 }
 
-// Works out filled heights and directions, and the number of valid cells; `count` and `workspace` are scratch.
+// Works out filled heights, directions and falls; `count` and `workspace` are scratch.
 fn shape(
     rows: usize,
     columns: usize,
@@ -174,104 +107,76 @@ fn shape(
     filled: &mut [i32],
     direction: &mut [u8],
     count: &mut [u32],
+    falls: &mut [u32],
     workspace: &mut [u32],
-) -> u32
-    requires { ⌜ Ready rows columns (now ground) × Room (rows * columns) (now filled) (now direction) (now count) (now workspace) ⌝ }
-    ensures { λ r. ⌜ Relief rows columns (now (ground .entry)) (now (filled .exit)) (now (direction .exit)) r ⌝ }
+)
+    requires { ⌜ judged rows columns (now ground) (lent (now filled) (now direction) (now count) (now falls) (now workspace)) ≡ passed ⌝ }
+    ensures { λ _. ⌜ (now (filled .exit) ≡ filledOf rows columns (now (ground .entry))) × (now (direction .exit) ≡ directionOf rows columns (now (ground .entry))) × (now (falls .exit) ≡ fallsOf rows columns (filledLevels rows columns (now (ground .entry))) (directionOf rows columns (now (ground .entry)))) ⌝ }
 {
-    filled::fill(rows, columns, ground, workspace, count);
+    filled::fill(rows, columns, ground, workspace);
     flat::measure(rows, columns, workspace, count, filled);
-    direction::point(rows, columns, workspace, count, direction);
+    direction::point(rows, columns, workspace, count, direction, falls);
     filled::write_heights(workspace, filled);
-    filled::valid_cells(workspace)
 }
 
-// Works out every grid from a good ground.
-fn survey(
+// Works out the order of the cells, the longest trail and the flow counts.
+fn route(
     rows: usize,
     columns: usize,
-    side: u32,
-    rules: Rules,
-    ground: &[i32],
-    filled: &mut [i32],
-    direction: &mut [u8],
+    direction: &[u8],
     count: &mut [u32],
-    lengths: &mut [u64],
-    drops: &mut [u32],
     workspace: &mut [u32],
 ) -> Answer
-    requires { ⌜ Ready rows columns (now ground) × Long (rows * columns) (now ground) (lent (now filled) (now direction) (now count) (now lengths) (now drops) (now workspace)) ⌝ }
-    ensures { λ r. ⌜ (told r ≡ answerOf rows columns (now (ground .entry)) (accepted rules)) × (lent (now (filled .exit)) (now (direction .exit)) (now (count .exit)) (now (lengths .exit)) (now (drops .exit)) (now (workspace .exit)) ≡ gridsOf rows columns side (now (ground .entry)) (lent (now (filled .entry)) (now (direction .entry)) (now (count .entry)) (now (lengths .entry)) (now (drops .entry)) (now (workspace .entry))) (accepted rules)) ⌝ }
+    requires { ⌜ Directed rows columns (now direction) × (length (now count) ≡ rows * columns) × (length (now workspace) ≡ rows * columns) ⌝ }
+    ensures { λ r. ⌜ (now (count .exit) ≡ countsOf rows columns (now (direction .entry))) × ((places : ℕ) × Downhill rows columns (now (direction .entry)) (now (workspace .exit)) places × (r ≡ Accepted places (longestOf rows columns (now (direction .entry))))) ⌝ }
 {
-    let valid = shape(rows, columns, ground, filled, direction, count, workspace);
-    let noted = trail::count_flow(rows, columns, direction, count, drops, workspace);
-    let longest = trail::longest_trail(rows, columns, direction, drops, noted, workspace);
-    drops::measure(rows, columns, filled, direction, drops);
-    length::measure(
-        rows,
-        columns,
-        side,
-        rules,
-        filled,
-        direction,
-        count,
-        lengths,
-        workspace,
-    );
-    cells::clear(workspace);
+    let places = downhill::descend(rows, columns, direction, count, workspace);
+    let longest = trail::longest_trail(rows, columns, direction, workspace, places, count);
+    trail::count_flow(rows, columns, direction, workspace, places, count);
     Answer::Accepted {
-        valid: valid,
+        valid: places as u32,
         longest: longest,
     }
 }
 
-// Maps a ground of rows times columns heights with cells of the given side in cm, each lent grid and the workspace having
-// one place per cell. A refusal changes nothing that is lent; after success the workspace holds zeros.
+// Maps a ground of rows times columns heights, each lent grid and the workspace having one place per cell. A refusal changes
+// nothing that is lent; after success the workspace holds the valid cells in an order from the ridges down.
 pub fn map(
     rows: usize,
     columns: usize,
-    side: u32,
-    settings: Settings,
     ground: &[i32],
     filled: &mut [i32],
     direction: &mut [u8],
     count: &mut [u32],
-    lengths: &mut [u64],
-    drops: &mut [u32],
+    falls: &mut [u32],
     workspace: &mut [u32],
 ) -> Answer
-    ensures answers { λ r. ⌜ told r ≡ answer rows columns side settings (now (ground .entry)) (lent (now (filled .entry)) (now (direction .entry)) (now (count .entry)) (now (lengths .entry)) (now (drops .entry)) (now (workspace .entry))) ⌝ }
-    ensures leaves { λ _. ⌜ lent (now (filled .exit)) (now (direction .exit)) (now (count .exit)) (now (lengths .exit)) (now (drops .exit)) (now (workspace .exit)) ≡ after rows columns side settings (now (ground .entry)) (lent (now (filled .entry)) (now (direction .entry)) (now (count .entry)) (now (lengths .entry)) (now (drops .entry)) (now (workspace .entry))) ⌝ }
-    ensures drains { λ r. ⌜ (told r .number ≡ 0 → Drainage rows columns (now (ground .entry)) (now (filled .exit)) (now (direction .exit)) (now (count .exit)) (told r .valids)) ⌝ }
+    ensures answers { λ r. ⌜ r ≡ answer rows columns (now (ground .entry)) (lent (now (filled .entry)) (now (direction .entry)) (now (count .entry)) (now (falls .entry)) (now (workspace .entry))) ⌝ }
+    ensures leaves { λ _. ⌜ After rows columns (now (ground .entry)) (lent (now (filled .entry)) (now (direction .entry)) (now (count .entry)) (now (falls .entry)) (now (workspace .entry))) (lent (now (filled .exit)) (now (direction .exit)) (now (count .exit)) (now (falls .exit)) (now (workspace .exit))) (judged rows columns (now (ground .entry)) (lent (now (filled .entry)) (now (direction .entry)) (now (count .entry)) (now (falls .entry)) (now (workspace .entry)))) ⌝ }
+    ensures drains { λ r. ⌜ (accepts r ≡ true → Drainage rows columns (now (ground .entry)) (now (filled .exit)) (now (direction .exit)) (now (count .exit)) (validOf rows columns (now (ground .entry)))) ⌝ }
 {
     let judgement = judge(
         rows,
         columns,
-        side,
-        settings,
         ground,
         filled,
         direction,
         count,
-        lengths,
-        drops,
+        falls,
         workspace,
     );
-    let rules = match judgement {
-        Judgement::Sound(rules) => rules,
-        Judgement::Unsound(refusal) => return Answer::Refused(refusal),
-    };
-    survey(
+    if let Judgement::Unsound(refusal) = judgement {
+        return Answer::Refused(refusal);
+    }
+    shape(
         rows,
         columns,
-        side,
-        rules,
         ground,
         filled,
         direction,
         count,
-        lengths,
-        drops,
+        falls,
         workspace,
-    )
+    );
+    route(rows, columns, direction, count, workspace)
 }

@@ -1,6 +1,6 @@
-// Maps fields of every kind with the call of `terrain` and writes its answers and grids, for document 01's headings
-// "Filling and directions" and "Numbers of refusal". What must be written, the file `stdout`, is worked out from that
-// document.
+// Maps fields of every kind with the map call and writes its answers and its grids up to the counts, for document 01's
+// headings "Filling and directions" and "Numbers of refusal". What must be written, the file `stdout`, is worked out from
+// that document.
 mod drawn;
 mod land;
 mod listed;

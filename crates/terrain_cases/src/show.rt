@@ -1,10 +1,10 @@
 // Maps one field and writes its name, rows and columns; its answer: number, place, valid cells and longest trail; ground,
 // filled heights, directions and counts row by row; and what became of the workspace.
 ghost use Prim.Native.Nat.{_≤_};
+use factor::Answer;
 use libc::STDOUT_FILENO;
 use settings::Channel;
 use settings::Settings;
-use terrain::Answer;
 
 // A field with one place per height in every lent grid.
 pub(crate) fn field(name: &[u8], rows: usize, columns: usize, ground: &[i32]) {
@@ -12,7 +12,7 @@ pub(crate) fn field(name: &[u8], rows: usize, columns: usize, ground: &[i32]) {
     lent(name, rows, columns, ground, cells, cells, cells, cells);
 }
 
-// A field with the given numbers of places in the lent grids, each at most 1,600; lengths and drops have as many as the counts.
+// A field with the given numbers of places in the lent grids, each at most 1,600; lengths and factors have as many as the counts.
 // Every place holds 77 beforehand, so that an untouched grid shows.
 pub(crate) fn lent(
     name: &[u8],
@@ -32,7 +32,7 @@ pub(crate) fn lent(
     let mut direction = [77u8; 1600];
     let mut count = [77u32; 1600];
     let mut lengths = [77u64; 1600];
-    let mut drops = [77u32; 1600];
+    let mut factors = [77u32; 1600];
     let mut workspace = [77u32; 1600];
     write(name);
     write_natural(rows as u64);
@@ -45,7 +45,7 @@ pub(crate) fn lent(
         &mut direction[0..direction_end],
         &mut count[0..count_end],
         &mut lengths[0..count_end],
-        &mut drops[0..count_end],
+        &mut factors[0..count_end],
         &mut workspace[0..workspace_end],
     );
 }
@@ -65,7 +65,7 @@ fn write_map(
     direction: &mut [u8],
     count: &mut [u32],
     lengths: &mut [u64],
-    drops: &mut [u32],
+    factors: &mut [u32],
     workspace: &mut [u32],
 ) {
     map(
@@ -76,7 +76,7 @@ fn write_map(
         direction,
         count,
         lengths,
-        drops,
+        factors,
         workspace,
     );
     write_heights(b"\nground", columns, ground);
@@ -95,7 +95,7 @@ fn map(
     direction: &mut [u8],
     count: &mut [u32],
     lengths: &mut [u64],
-    drops: &mut [u32],
+    factors: &mut [u32],
     workspace: &mut [u32],
 ) {
     let settings = Settings {
@@ -103,7 +103,7 @@ fn map(
         high: 0.5,
         channel: Channel::NoChannel,
     };
-    write_answer(terrain::map(
+    write_answer(factor::map(
         rows,
         columns,
         1000,
@@ -113,7 +113,7 @@ fn map(
         direction,
         count,
         lengths,
-        drops,
+        factors,
         workspace,
     ));
 }

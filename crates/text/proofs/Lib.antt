@@ -8,3 +8,5 @@ pub mod Names
 pub mod Fields
 pub mod Grids
 pub mod Examples
+pub mod Accepted
+pub mod Tested

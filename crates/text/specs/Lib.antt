@@ -7,3 +7,4 @@ pub mod Headers
 pub mod Heights
 pub mod Answers
 pub mod Inner
+pub mod Ranges

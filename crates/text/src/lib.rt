@@ -1,14 +1,20 @@
 // The text layer: an Esri ASCII grid is read into heights in cm, or refused. Document 01, "The text".
 //
-// Every text gets an answer: neither call has a `requires`. The modules follow document 01: words, numbers, the header, the heights.
+// Every text gets an answer: no call has a `requires`. The modules follow document 01: words, numbers, the header, the heights. The
+// ranges are tested here for the calls of the layers above too.
 mod headers;
 mod heights;
 mod numbers;
+mod ranges;
 mod words;
 
 ghost use mathlib.Core.Path.{_≡_};
 ghost use Rattle.text.specs.Answers.{outcomeOf, gridOutcomeOf, headerAnswer, gridAnswer};
 use headers::Headed;
+pub use ranges::first_bad;
+pub use ranges::is_height;
+pub use ranges::is_side;
+pub use ranges::is_size;
 use words::Cursor;
 
 // Document 01, "Quantities": a NoData cell's height, in cm.

@@ -1,9 +1,28 @@
 -- `fullsize::lsmap_map` meets its contract: what it hands out is the answer of the map call with the settings of the five numbers, and the grids are those that it left.
 -- Assumes nothing.
+use denote.Ref.{now}
 use borrow.Author.Needs.{needs}
-use Rattle.fullsize.proofs.Maps.{answers-of, leaves-of, number-of, valids-of}
+use Rattle.factor.specs.Answers.{Grids, lent}
+use Rattle.fullsize.proofs.Maps.{answers-of, leaves-of, accepts-of, valids-of}
 use Rattle.fullsize.proofs.lsmap_map.Statement.{statement}
 use Rattle.fullsize.proofs.lsmap_map.Tie as tie
+
+-- the map call, from the numbers handed out on; the settings, from the map call on; and the arguments, from the settings on
+abbrev mapped : tie.After-hand-out-mapping → tie.After-map
+mapped c =
+    let a = c .before .before .before .before .before in
+    let b = a .before .before .before .before .before in
+    b .before .before .before .before .before
+
+abbrev made : tie.After-map → tie.After-settings-of
+made c = c .before .before .before .before .before .before .before
+
+abbrev start : tie.After-settings-of → tie.Start
+start c = c .before .before .before .before .before .before
+
+-- the lent grids
+abbrev grids : tie.Start → Grids
+grids s = lent (now (s .args .filled)) (now (s .args .direction)) (now (s .args .count)) (now (s .args .lengths)) (now (s .args .factors)) (now (s .args .workspace))
 
 settings-of-requires : tie.Need-settings-of-requires
 settings-of-requires c κs = search needs
@@ -34,10 +53,19 @@ same-length-6 c = search needs
 
 returns : tie.Need-returns
 returns c =
-    let m = c .before .before .before .before .before .before .before .before .before .before .before .before .before .before .before .map .ensures in
-    let same = c .before .before .before .before .before .before .before .before .before .before .before .before .before .before .before .before .before .before .before .before .before .before .settings-of .ensures in
+    let m = mapped c in
+    let p = m .map .ensures in
+    let t = made m .settings-of in
+    let s = start (made m) in
+    let a = s .args in
     let e = c .hand-out-mapping .ensures in
-    (answers-of _ _ _ _ _ same e (m .0), (leaves-of _ _ _ _ _ same (m .1 .0), ((λ z. m .1 .1 .0 (number-of e z)), ((λ z. valids-of e (m .1 .1 .1 .0 (number-of e z))), (λ z. m .1 .1 .1 .1 (number-of e z))))))
+    let accepted = accepts-of (a .rows) (a .columns) (a .side) (t .result) (now (a .ground)) (grids s) e (p .0) in (
+      answers-of (a .rows) (a .columns) (a .side) (now (a .ground)) (grids s) (t .ensures) e (p .0),
+      (
+        leaves-of (a .rows) (a .columns) (a .side) (now (a .ground)) (grids s) (t .ensures) (p .1 .0),
+        ((λ z. p .1 .1 .0 (accepted z)), ((λ z. valids-of (a .rows) (a .columns) (a .side) (t .result) (now (a .ground)) (grids s) e (p .0) z (p .1 .1 .1 .0 (accepted z))), (λ z. p .1 .1 .1 .1 (accepted z)))),
+      ),
+    )
 
 pub lsmap-map-spec : {M : Type 1} → statement M
 lsmap-map-spec =

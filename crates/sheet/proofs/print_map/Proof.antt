@@ -1,12 +1,23 @@
 -- `sheet::print_map` meets its contract. Assumes nothing.
 use native.Mathlib.Omega.{arith}
 use denote.Ref.{now}
-use Rattle.factor.specs.Answers.{lent}
+use Rattle.factor.specs.Answers.{Grids, lent}
 use Rattle.sheet.proofs.Writing.{wrote-as}
 use Rattle.sheet.proofs.Sheets.{map-refused, map-printed, map-columns}
 use borrow.Author.Needs.{needs}
 use Rattle.sheet.proofs.print_map.Statement.{statement}
 use Rattle.sheet.proofs.print_map.Tie as tie
+
+-- the map call, from its survey on; and the arguments, from the map call on
+abbrev mapped : tie.After-survey-of → tie.After-map
+mapped c = let a = c .before .before .before .before .before .before in a .before .before .before .before .before .before
+
+abbrev start : tie.After-map → tie.Start
+start c = let a = c .before .before .before .before .before .before in a .before .before .before .before .before .before .before
+
+-- the lent grids
+abbrev grids : tie.Start → Grids
+grids s = lent (now (s .args .filled)) (now (s .args .direction)) (now (s .args .count)) (now (s .args .lengths)) (now (s .args .factors)) (now (s .args .workspace))
 
 map-requires : tie.Need-map-requires
 map-requires c κs = search needs
@@ -40,21 +51,23 @@ same-length-7 c = search needs
 
 returns : tie.Need-returns
 returns c =
-    let a = c .before .before .before .before .before .before .before .before .before .before .before .before .before .before .before .before .before .before .before .before .before .before .before .before .before .before .before .before .before .before .before .args in
+    let v = c .before .before .before .before .before .before in
+    let m = mapped v in
+    let s = start m in
+    let a = s .args in
     let put = c .before .before .put-refusal .ensures in
-    let survey = c .before .before .before .before .before .before .survey-of in
-    let map = c .before .before .before .before .before .before .before .before .before .before .before .before .before .before .before .before .before .before .map in
-    (wrote-as (map-refused (a .head .rows) (a .head .columns) (a .head .side) (a .settings) (now (a .ground)) (lent (now (a .filled)) (now (a .direction)) (now (a .count)) (now (a .lengths)) (now (a .factors)) (now (a .workspace))) (survey .ensures) (map .ensures .0) (c .before .before .before .before .if1 .taken)) (put .0), omega (arith, put .1))
+    (wrote-as (map-refused (a .head .rows) (a .head .columns) (a .head .side) (a .settings) (now (a .ground)) (grids s) (v .survey-of .ensures) (m .map .ensures .0) (c .before .before .before .before .if1 .taken)) (put .0), omega (arith, put .1))
 
 put-map-requires : tie.Need-put-map-requires
 put-map-requires c κs =
-    let s = c .before .before .before .before .before .before .before .before .before .before .before .before .before .before .before .before .before .before .before .before .before .before .before .before .before .before .before .before .before .before .before .before .before in
+    let e = c .before .before .before .before .before .before in
+    let v = e .before .before in
+    let m = mapped v in
+    let s = start m in
     let a = s .args in
     let p = s .pre in
-    let k = c .before .before .before .before .before .before .before .before .before .before .before .before .before .before .before .before .before .before .before .before .map .kept .1 .1 .1 .1 .1 in
-    let survey = c .before .before .before .before .before .before .before .before .survey-of in
-    let map = c .before .before .before .before .before .before .before .before .before .before .before .before .before .before .before .before .before .before .before .before .map in (
-      map-columns (a .head .rows) (a .head .columns) (a .head .side) (a .settings) (now (a .ground)) (lent (now (a .filled)) (now (a .direction)) (now (a .count)) (now (a .lengths)) (now (a .factors)) (now (a .workspace))) (survey .ensures) (map .ensures .0) (c .before .before .before .before .before .before .if1 .left),
+    let k = m .map .kept .1 .1 .1 .1 .1 in (
+      map-columns (a .head .rows) (a .head .columns) (a .head .side) (a .settings) (now (a .ground)) (grids s) (v .survey-of .ensures) (m .map .ensures .0) (e .if1 .left),
       record {
         few = omega (arith, p .few);
         ground-long = p .ground-long;
@@ -89,13 +102,15 @@ same-length-14 c = search needs
 
 returns-2 : tie.Need-returns-2
 returns-2 c =
-    let s = c .before .before .before .before .before .before .before .before .before .before .before .before .before .before .before .before .before .before .before .before .before .before .before .before .before .before .before .before .before .before .before .before .before .before .before .before in
+    let p = c .before .before in
+    let e = p .before .before .before .before .before .before .before in
+    let v = e .before .before in
+    let m = mapped v in
+    let s = start m in
     let a = s .args in
-    let put = c .before .before .put-map .ensures in
-    let l = c .before .before .before .before .before .before .before .before .before .before .before .before .before .before .before .before .before .before .before .before .before .before .before .map .last .1 .1 .1 .1 .1 in
-    let survey = c .before .before .before .before .before .before .before .before .before .before .before .survey-of in
-    let map = c .before .before .before .before .before .before .before .before .before .before .before .before .before .before .before .before .before .before .before .before .before .before .before .map in (
-      wrote-as (map-printed (a .head .rows) (a .head .columns) (a .head .side) (a .settings) (now (a .ground)) (lent (now (a .filled)) (now (a .direction)) (now (a .count)) (now (a .lengths)) (now (a .factors)) (now (a .workspace))) (survey .ensures) (map .ensures .0) (lent (l .0) (l .1 .0) (l .1 .1 .0) (l .1 .1 .1 .0) (l .1 .1 .1 .1 .0) (l .1 .1 .1 .1 .1 .0)) (c .before .before .before .before .before .before .before .before .before .before .before .before .before .before .before .before .before .before .before .before .before .before .before .map .ensures .1 .0) (c .before .before .before .before .before .before .before .before .before .if1 .left)) (put .0),
+    let put = p .put-map .ensures in
+    let l = m .map .last .1 .1 .1 .1 .1 in (
+      wrote-as (map-printed (a .head .rows) (a .head .columns) (a .head .side) (a .settings) (now (a .ground)) (grids s) (v .survey-of .ensures) (m .map .ensures .0) (lent (l .0) (l .1 .0) (l .1 .1 .0) (l .1 .1 .1 .0) (l .1 .1 .1 .1 .0) (l .1 .1 .1 .1 .1 .0)) (m .map .ensures .1 .0) (e .if1 .left)) (put .0),
       omega (arith, put .1, s .pre .few),
     )
 

@@ -1,32 +1,34 @@
 -- `terrain::judge` meets its contract. Assumes nothing.
-use mathlib.Core.Path.{_≡_, sym, ap, _∙_}
+use mathlib.Core.Path.{_≡_, sym, _∙_}
 use mathlib.Core.Bool.{true}
 use Prim.Native.Nat.{_*_}
 use native.Mathlib.Omega.{arith}
 use borrow.Author.Tests.{not-true, not-false}
+use Rattle.text.specs.Ranges.{sizeAccepted, allLong}
+use Rattle.text.proofs.Accepted.{area-few}
+use Rattle.terrain.specs.Answers.{Grids, lent, placesOf}
+use Rattle.terrain.proofs.Answers.{judged-rows, judged-columns, judged-long, judged-height, judged-passes}
 use borrow.Author.Needs.{needs}
-use Rattle.terrain.specs.Quantities.{sizeAccepted, sideAccepted}
-use Rattle.terrain.specs.Answers.{Grids, lent, accepted, allLong}
-use Rattle.terrain.proofs.Answers.{area-few, judge-rows, judge-cols, judge-long, judge-side, judge-settings, judge-height, judge-accepts}
 use Rattle.terrain.proofs.judge.Statement.{statement}
 use Rattle.terrain.proofs.judge.Tie as tie
 
+-- the arguments
+abbrev start : tie.After-is-size → tie.Start
+start c = c .before .before .before .before .before
+
 -- the lent grids
 abbrev grids : tie.Start → Grids
-grids s = lent (s .args .filled .now) (s .args .direction .now) (s .args .count .now) (s .args .lengths .now) (s .args .drops .now) (s .args .workspace .now)
+grids s = lent (s .args .filled .now) (s .args .direction .now) (s .args .count .now) (s .args .falls .now) (s .args .workspace .now)
 
 -- what each test that was passed tells
-rows-are : (c : tie.Else1) → sizeAccepted (c .before .before .before .before .before .before .before .args .rows) ≡ true
+rows-are : (c : tie.Else1) → sizeAccepted (start (c .before) .args .rows) ≡ true
 rows-are c = sym (c .before .is-size .ensures) ∙ not-false (c .before .is-size .result) (c .if1 .left)
 
-columns-are : (c : tie.Else2) → sizeAccepted (c .before .before .before .before .before .before .before .before .before .args .columns) ≡ true
+columns-are : (c : tie.Else2) → sizeAccepted (start (c .before .before .before) .args .columns) ≡ true
 columns-are c = sym (c .before .is-size2 .ensures) ∙ not-false (c .before .is-size2 .result) (c .if2 .left)
 
-long-are : (c : tie.Else3) → let s = c .before .before .before .before .before .before .before .before .before .before .before in allLong (s .args .rows * s .args .columns) (s .args .ground .now) (grids s) ≡ true
+long-are : (c : tie.Else3) → let s = start (c .before .before .before .before .before) in allLong (s .args .rows * s .args .columns) (placesOf (s .args .ground .now) (grids s)) ≡ true
 long-are c = sym (c .before .are-long .ensures) ∙ not-false (c .before .are-long .result) (c .if3 .left)
-
-side-is : (c : tie.Else4) → sideAccepted (c .before .before .before .before .before .before .before .before .before .before .before .before .before .args .side) ≡ true
-side-is c = sym (c .before .is-side .ensures) ∙ not-false (c .before .is-side .result) (c .if4 .left)
 
 is-size-requires : tie.Need-is-size-requires
 is-size-requires c κs = search needs
@@ -36,8 +38,8 @@ unsound-requires c κs = search needs
 
 returns : tie.Need-returns
 returns c =
-    let s = c .before .before .before .before .before .before .before .before in
-    c .unsound .ensures ∙ sym (judge-rows (s .args .rows) (s .args .columns) (s .args .side) (s .args .settings) (s .args .ground .now) (grids s) (sym (c .before .before .is-size .ensures) ∙ not-true (c .before .before .is-size .result) (c .before .if1 .taken)))
+    let s = start (c .before .before) in
+    c .unsound .ensures ∙ sym (judged-rows (s .args .rows) (s .args .columns) (s .args .ground .now) (grids s) (sym (c .before .before .is-size .ensures) ∙ not-true (c .before .before .is-size .result) (c .before .if1 .taken)))
 
 is-size-requires-2 : tie.Need-is-size-requires-2
 is-size-requires-2 c κs = search needs
@@ -47,11 +49,11 @@ unsound-requires-2 c κs = search needs
 
 returns-2 : tie.Need-returns-2
 returns-2 c =
-    let s = c .before .before .before .before .before .before .before .before .before .before in
-    c .unsound2 .ensures ∙ sym (judge-cols (s .args .rows) (s .args .columns) (s .args .side) (s .args .settings) (s .args .ground .now) (grids s) (sym (c .before .before .is-size2 .ensures) ∙ not-true (c .before .before .is-size2 .result) (c .before .if2 .taken)))
+    let s = start (c .before .before .before .before) in
+    c .unsound2 .ensures ∙ sym (judged-columns (s .args .rows) (s .args .columns) (s .args .ground .now) (grids s) (sym (c .before .before .is-size2 .ensures) ∙ not-true (c .before .before .is-size2 .result) (c .before .if2 .taken)))
 
 mul-cells : tie.Need-mul-cells
-mul-cells c = let s = c .before .before .before .before .before .before .before .before .before in omega (arith, area-few (s .args .rows) (s .args .columns) (s .args .side) (s .args .settings) (s .args .ground .now) (grids s) (rows-are (c .before .before)) (columns-are c))
+mul-cells c = let s = start (c .before .before .before) in omega (arith, area-few (s .args .rows) (s .args .columns) (rows-are (c .before .before)) (columns-are c))
 
 are-long-requires : tie.Need-are-long-requires
 are-long-requires c κs = search needs
@@ -61,69 +63,29 @@ unsound-requires-3 c κs = search needs
 
 returns-3 : tie.Need-returns-3
 returns-3 c =
-    let s = c .before .before .before .before .before .before .before .before .before .before .before .before in
     let w = c .before .before .before in
-    c .unsound3 .ensures ∙ sym (judge-long (s .args .rows) (s .args .columns) (s .args .side) (s .args .settings) (s .args .ground .now) (grids s) (rows-are (w .before .before)) (columns-are w) (sym (c .before .before .are-long .ensures) ∙ not-true (c .before .before .are-long .result) (c .before .if3 .taken)))
+    let s = start (w .before .before .before) in
+    c .unsound3 .ensures ∙ sym (judged-long (s .args .rows) (s .args .columns) (s .args .ground .now) (grids s) (rows-are (w .before .before)) (columns-are w) (sym (c .before .before .are-long .ensures) ∙ not-true (c .before .before .are-long .result) (c .before .if3 .taken)))
 
-is-side-requires : tie.Need-is-side-requires
-is-side-requires c κs = search needs
+first-bad-requires : tie.Need-first-bad-requires
+first-bad-requires c κs = search needs
 
 unsound-requires-4 : tie.Need-unsound-requires-4
 unsound-requires-4 c κs = search needs
 
 returns-4 : tie.Need-returns-4
 returns-4 c =
-    let s = c .before .before .before .before .before .before .before .before .before .before .before .before .before .before in
     let l = c .before .before .before in
     let w = l .before .before in
-    c .unsound4 .ensures ∙ sym (judge-side (s .args .rows) (s .args .columns) (s .args .side) (s .args .settings) (s .args .ground .now) (grids s) (rows-are (w .before .before)) (columns-are w) (long-are l) (sym (c .before .before .is-side .ensures) ∙ not-true (c .before .before .is-side .result) (c .before .if4 .taken)))
-
-judge-requires : tie.Need-judge-requires
-judge-requires c κs = search needs
-
-enum-known-judged : tie.Need-enum-known-judged
-enum-known-judged c = search needs
-
-enum-known-judged-2 : tie.Need-enum-known-judged-2
-enum-known-judged-2 c = search needs
-
-unsound-requires-5 : tie.Need-unsound-requires-5
-unsound-requires-5 c κs = search needs
+    let s = start (w .before .before .before) in
+    c .unsound4 .ensures ∙ sym (judged-height (s .args .rows) (s .args .columns) (s .args .ground .now) (grids s) (rows-are (w .before .before)) (columns-are w) (long-are l) (c .before .before .first-bad .ensures) (c .before .if4 .taken))
 
 returns-5 : tie.Need-returns-5
 returns-5 c =
-    let s = c .before .before .before .before .before .before .before .before .before .before .before .before .before .before .before .before .before .before in
-    let d = c .before .before .before .before .before in
-    let l = d .before .before in
+    let l = c .before .before in
     let w = l .before .before in
-    let given = c .before .before .judged2 .given in
-    c .unsound5 .ensures ∙ sym (judge-settings (s .args .rows) (s .args .columns) (s .args .side) (s .args .settings) (s .args .ground .now) (grids s) (rows-are (w .before .before)) (columns-are w) (long-are l) (side-is d) (given .0 .0) (sym (given .1) ∙ c .before .before .before .before .judge .ensures))
-
-first-bad-requires : tie.Need-first-bad-requires
-first-bad-requires c κs = search needs
-
-unsound-requires-6 : tie.Need-unsound-requires-6
-unsound-requires-6 c κs = search needs
-
-returns-6 : tie.Need-returns-6
-returns-6 c =
-    let s = c .before .before .before .before .before .before .before .before .before .before .before .before .before .before .before .before .before .before .before .before in
-    let d = c .before .before .before .before .before .before .before in
-    let l = d .before .before in
-    let w = l .before .before in
-    let given = c .before .before .before .before .judged .given in
-    let first = c .before .before .first-bad in
-    c .unsound6 .ensures ∙ sym (judge-height (s .args .rows) (s .args .columns) (s .args .side) (s .args .settings) (s .args .ground .now) (grids s) (rows-are (w .before .before)) (columns-are w) (long-are l) (side-is d) (given .0 .0) (sym (given .1) ∙ c .before .before .before .before .before .before .judge .ensures) (first .result) (first .ensures) (c .before .if5 .taken))
-
-returns-7 : tie.Need-returns-7
-returns-7 c =
-    let s = c .before .before .before .before .before .before .before .before .before .before .before .before .before .before .before .before .before .before .before in
-    let d = c .before .before .before .before .before .before in
-    let l = d .before .before in
-    let w = l .before .before in
-    let given = c .before .before .before .judged .given in
-    let first = c .before .first-bad in
-    sym (judge-accepts (s .args .rows) (s .args .columns) (s .args .side) (s .args .settings) (s .args .ground .now) (grids s) (rows-are (w .before .before)) (columns-are w) (long-are l) (side-is d) (given .0 .0) (sym (given .1) ∙ c .before .before .before .before .before .judge .ensures) (first .result) (first .ensures) (c .if5 .left))
+    let s = start (w .before .before .before) in
+    sym (judged-passes (s .args .rows) (s .args .columns) (s .args .ground .now) (grids s) (rows-are (w .before .before)) (columns-are w) (long-are l) (c .before .first-bad .ensures) (c .if4 .left))
 
 pub judge-spec : {M : Type 1} → statement M
 judge-spec =
@@ -139,15 +101,7 @@ judge-spec =
     are-long-requires
     unsound-requires-3
     returns-3
-    is-side-requires
+    first-bad-requires
     unsound-requires-4
     returns-4
-    judge-requires
-    enum-known-judged
-    enum-known-judged-2
-    unsound-requires-5
-    returns-5
-    first-bad-requires
-    unsound-requires-6
-    returns-6
-    returns-7)
+    returns-5)

@@ -1,32 +1,53 @@
 -- `terrain::shape` meets its contract. Assumes nothing.
 use mathlib.Core.Path.{sym, _∙_}
 use borrow.Author.Needs.{needs}
+use Prim.Native.Nat.{_*_}
+use Rattle.terrain.specs.Cells.{Ready}
 use Rattle.terrain.specs.Levels.{Levels}
+use Rattle.terrain.specs.Answers.{lent}
+use Rattle.terrain.proofs.Answers.{Room, passed-ready, passed-room}
 use Rattle.terrain.proofs.Surveying.{relief-levels, relief-small, relief}
 use Rattle.terrain.proofs.shape.Statement.{statement}
 use Rattle.terrain.proofs.shape.Tie as tie
 
+-- the arguments, from the filling on; the filling, from the steps over flats on; and those, from the directions on
+abbrev start : tie.After-fill → tie.Start
+start c = c .before .before .before .before .before .before
+
+abbrev flooded : tie.After-measure → tie.After-fill
+flooded c = c .before .before .before .before .before .before
+
+abbrev measured : tie.After-point → tie.After-measure
+measured c = let a = c .before .before .before .before in a .before .before .before .before
+
+-- the ground is accepted, and the grids have their places
+ready : (s : tie.Start) → Ready (s .args .rows) (s .args .columns) (s .args .ground .now)
+ready s = passed-ready (s .args .rows) (s .args .columns) (s .args .ground .now) (lent (s .args .filled .now) (s .args .direction .now) (s .args .count .now) (s .args .falls .now) (s .args .workspace .now)) (s .pre)
+
+room : (s : tie.Start) → Room (s .args .rows * s .args .columns) (lent (s .args .filled .now) (s .args .direction .now) (s .args .count .now) (s .args .falls .now) (s .args .workspace .now))
+room s = passed-room (s .args .rows) (s .args .columns) (s .args .ground .now) (lent (s .args .filled .now) (s .args .direction .now) (s .args .count .now) (s .args .falls .now) (s .args .workspace .now)) (s .pre)
+
 -- the levels after the filling
-levels : (c : tie.After-fill) → Levels (c .before .before .before .before .before .before .args .rows) (c .before .before .before .before .before .before .args .columns) (c .fill .last .1 .1 .1 .0)
-levels c = let s = c .before .before .before .before .before .before in relief-levels (s .pre .0) (c .fill .ensures)
+levels : (c : tie.After-fill) → Levels (start c .args .rows) (start c .args .columns) (c .fill .last .1 .1 .1 .0)
+levels c = relief-levels (ready (start c)) (c .fill .ensures)
 
 fill-requires : tie.Need-fill-requires
-fill-requires c κs = search needs
+fill-requires c κs = let s = c .before .before .before .before .before in (ready s, room s .workspace-long)
 
 measure-requires : tie.Need-measure-requires
-measure-requires c κs = (levels (c .before .before .before .before .before .before .before), c .before .before .before .before .count .given ∙ c .before .before .before .before .before .before .before .before .before .before .before .before .before .pre .1 .count-long)
+measure-requires c κs = let f = c .before .before .before .before .before in (levels f, room (start f) .count-long)
 
 point-requires : tie.Need-point-requires
-point-requires c κs = (levels (c .before .before .before .before .before .before .before .before .before .before .before .before .before .before), c .before .before .before .before .before .before .measure .ensures, c .before .before .before .before .before .before .before .before .before .before .before .before .before .before .before .before .before .before .before .before .pre .1 .direction-long)
+point-requires c κs =
+    let m = c .before .before .before .before .before .before .before in
+    let f = flooded m in
+    (levels f, m .measure .ensures, room (start f) .direction-long, room (start f) .falls-long)
 
 write-heights-requires : tie.Need-write-heights-requires
 write-heights-requires c κs =
-    let s = c .before .before .before .before .before .before .before .before .before .before .before .before .before .before .before .before .before .before .before .before .before .before .before .before .before in
-    let f = c .before .before .before .before .before .before .before .before .before .before .before .before .before .before .before .before .before .before .before in
-    (levels f .long ∙ sym (c .before .before .before .before .before .before .before .before .filled .given ∙ s .pre .1 .filled-long), relief-small (s .pre .0) (f .fill .ensures))
-
-valid-cells-requires : tie.Need-valid-cells-requires
-valid-cells-requires c κs = search needs
+    let m = measured (c .before .before .before .before .before .before) in
+    let f = flooded m in
+    (levels f .long ∙ sym (m .measure .kept .1 .1 .1 .1 .0 ∙ room (start f) .filled-long), relief-small (ready (start f)) (f .fill .ensures))
 
 same-length : tie.Need-same-length
 same-length c = search needs
@@ -40,11 +61,15 @@ same-length-3 c = search needs
 same-length-4 : tie.Need-same-length-4
 same-length-4 c = search needs
 
+same-length-5 : tie.Need-same-length-5
+same-length-5 c = search needs
+
 returns : tie.Need-returns
 returns c =
-    let s = c .before .before .before .before .before .before .before .before .before .before .before .before .before .before .before .before .before .before .before .before .before .before .before .before .before .before .before .before .before in
-    let f = c .before .before .before .before .before .before .before .before .before .before .before .before .before .before .before .before .before .before .before .before .before .before .before in
-    relief (s .pre .0) (f .fill .ensures) (c .before .before .before .write-heights .ensures) (c .before .before .before .before .before .before .before .before .point .ensures) (c .valid-cells .ensures (s .args .rows) (s .args .columns) (levels f .long))
+    let p = c .before .before .before .before in
+    let q = p .before .before .before .before in
+    let f = flooded (measured q) in
+    relief (ready (start f)) (f .fill .ensures) (c .before .write-heights .ensures) (q .point .ensures)
 
 pub shape-spec : {M : Type 1} → statement M
 shape-spec =
@@ -54,9 +79,9 @@ shape-spec =
     measure-requires
     point-requires
     write-heights-requires
-    valid-cells-requires
     same-length
     same-length-2
     same-length-3
     same-length-4
+    same-length-5
     returns)

@@ -32,12 +32,7 @@ length-factor-requires : tie.Need-length-factor-requires
 length-factor-requires c κs =
     let start = c .before .before .before .before .before .before .before in
     let in-range = exponent-in (start .args .side) (start .args .q) in
-    record {
-      least = omega (arith, c .exponent-of .ensures, in-range);
-      most = omega (arith, c .exponent-of .ensures, in-range);
-      length-in = search needs;
-      listed = start .pre .listed;
-    }
+    (omega (arith, c .exponent-of .ensures, in-range), omega (arith, c .exponent-of .ensures, in-range), search needs, start .pre .listed)
 
 steepness-factor-requires : tie.Need-steepness-factor-requires
 steepness-factor-requires c κs = search needs

@@ -3,7 +3,7 @@ use mathlib.Core.Path.{sym}
 use native.Mathlib.Omega.{arith}
 use lib.ListN.{length}
 use Rattle.factor.specs.Inner.{upTo}
-use Rattle.factor.proofs.Greatest.{Among, among-all, among-half, among-one}
+use Rattle.laws.proofs.Greatest.{Among, among-all, among-half, among-one}
 use Rattle.factor.proofs.Power.{up-to-falling}
 use Rattle.factor.proofs.length_factor.count_up_to.Statement.{statement}
 use Rattle.factor.proofs.length_factor.count_up_to.Tie as tie

@@ -1,7 +1,7 @@
 -- `sheet::answers::survey_of` meets its contract. Assumes nothing.
 use mathlib.Core.Path.{sym, ap}
-use Rattle.terrain.specs.declared.Answer.{Answer}
-use Rattle.terrain.specs.Answers.{told}
+use Rattle.factor.specs.declared.Answer.{Answer}
+use Rattle.factor.specs.Answers.{told}
 use Rattle.sheet.specs.Answers.{surveyNumbers}
 use borrow.Author.Needs.{needs}
 use Rattle.sheet.proofs.answers.survey_of.Statement.{statement}

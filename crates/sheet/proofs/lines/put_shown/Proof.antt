@@ -6,7 +6,7 @@ use lib.IntN.{ℤ}
 use Rattle.text.specs.Bytes.{bytes}
 use Rattle.text.specs.Heights.{same}
 use Rattle.text.specs.Quantities.{noDataHeight}
-use Rattle.terrain.proofs.Accepted.{bits-none, none-bits}
+use Rattle.text.proofs.Accepted.{bits-none, none-bits}
 use Rattle.sheet.specs.Words.{line}
 use Rattle.sheet.proofs.Writing.{wrote-as}
 use Rattle.sheet.proofs.Shown.{shown-none, shown-values, same-not}
@@ -25,9 +25,10 @@ same-length c = search needs
 returns : tie.Need-returns
 unfolding line bytes
 returns c =
-    let cell = c .before .before .before .before .before .before .before .before .before .args .cell in
+    let t = c .before .before .before .before .before in
+    let cell = t .before .before .before .before .args .cell in
     let put = c .before .before .put-all .ensures in
-    (wrote-as (ap line (sym (shown-none cell (ap (λ (z : ℤ). same z noDataHeight) (bits-none (cell .ground) (search needs) (c .before .before .before .before .before .if1 .taken)))))) put, omega (arith, put .ends))
+    (wrote-as (ap line (sym (shown-none cell (ap (λ (z : ℤ). same z noDataHeight) (bits-none (cell .ground) (search needs) (t .if1 .taken)))))) put, omega (arith, put .ends))
 
 put-values-requires : tie.Need-put-values-requires
 put-values-requires c κs = search needs
@@ -37,9 +38,10 @@ same-length-2 c = search needs
 
 returns-2 : tie.Need-returns-2
 returns-2 c =
-    let cell = c .before .before .before .before .before .before .before .before .args .cell in
+    let e = c .before .before .before .before in
+    let cell = e .before .before .before .before .args .cell in
     let put = c .before .before .put-values .ensures in
-    (wrote-as (ap line (sym (shown-values cell (same-not (cell .ground) (none-bits (cell .ground) (c .before .before .before .before .if1 .left)))))) (put .0), put .1)
+    (wrote-as (ap line (sym (shown-values cell (same-not (cell .ground) (none-bits (cell .ground) (e .if1 .left)))))) (put .0), put .1)
 
 pub put-shown-spec : {M : Type 1} → statement M
 put-shown-spec =

@@ -1,7 +1,7 @@
 -- `terrain::cells::place_of` meets its contract. Assumes nothing.
 use mathlib.Core.Path.{_≡_, refl}
-use Prim.Native.Nat.{_+_, _*_}
-use lib.ListN.{getD}
+use lib.ListN.{List·getD-eq-default}
+use native.Mathlib.Decide.{decLt}
 use Rattle.terrain.specs.Cells.{rowSteps, colSteps}
 use Rattle.terrain.proofs.Neighbours.{each-side}
 use native.Mathlib.Omega.{arith}
@@ -30,11 +30,18 @@ returns-7 : tie.Need-returns-7
 returns-7 c = let e : c .before .args .k ≡ 6 = omega arith in rw e
 
 returns-8 : tie.Need-returns-8
-returns-8 c =
+returns-8 c = let e : c .before .args .k ≡ 7 = omega arith in rw e
+
+returns-9 : tie.Need-returns-9
+returns-9 c =
+    let k = c .before .args .k in
     let r = c .match .rest in
-    each-side (λ j. c .before .args .k ≡ j → 2 ≡ getD rowSteps j 0 * 4 + getD colSteps j 0) (λ e. absurd (r .0 .0 .0 .0 .0 .0 .1 e)) (λ e. absurd (r .0 .0 .0 .0 .0 .1 e)) (λ e. absurd (r .0 .0 .0 .0 .1 e)) (λ e. absurd (r .0 .0 .0 .1 e)) (λ e. absurd (r .0 .0 .1 e)) (λ e. absurd (r .0 .1 e)) (λ e. absurd (r .1 e)) (λ e. refl) (c .before .args .k) (c .before .pre) refl
+    elim (decLt k 8) [
+      | yes h ↦ absurd (each-side (λ j. k ≡ j → ⊥) (r .0 .0 .0 .0 .0 .0 .0 .1) (r .0 .0 .0 .0 .0 .0 .1) (r .0 .0 .0 .0 .0 .1) (r .0 .0 .0 .0 .1) (r .0 .0 .0 .1) (r .0 .0 .1) (r .0 .1) (r .1) k h refl)
+      | no f ↦ omega (arith, List·getD-eq-default rowSteps 0 {n = k} (omega arith), List·getD-eq-default colSteps 0 {n = k} (omega arith))
+    ]
 
 pub place-of-spec : {M : Type 1} → statement M
 place-of-spec =
     tie.close
-    (tie.spec returns returns-2 returns-3 returns-4 returns-5 returns-6 returns-7 returns-8)
+    (tie.spec returns returns-2 returns-3 returns-4 returns-5 returns-6 returns-7 returns-8 returns-9)

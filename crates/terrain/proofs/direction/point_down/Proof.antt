@@ -1,45 +1,63 @@
--- `terrain::direction::point_down` meets its contract: the cells passed have their codes but for flats. Assumes nothing.
-use mathlib.Core.Path.{_≡_, refl, _∙_}
+-- `terrain::direction::point_down` meets its contract: the cells passed have their codes but for flats, and their falls. Assumes nothing.
+use mathlib.Core.Path.{_≡_, refl, sym, _∙_}
+use mathlib.Core.Bool.{true≢false}
 use Prim.Native.Nat.{_≤_, _*_, _-_}
 use native.Mathlib.Omega.{arith}
 use lib.ListN.{length, length-set}
-use Rattle.laws.specs.Lists.{Agrees}
-use Rattle.laws.proofs.Lists.{agrees-none, agrees-more, agrees-tab}
-use Rattle.terrain.specs.Levels.{downAt}
-use Rattle.terrain.proofs.Falls.{down-is}
+use Rattle.terrain.specs.Levels.{Down}
+use Rattle.terrain.proofs.Falls.{down-none, down-more}
 use borrow.Author.Needs.{needs}
 use Rattle.terrain.proofs.direction.point_down.Statement.{statement}
 use Rattle.terrain.proofs.direction.point_down.Tie as tie
 
 abbrev Inv-loop : tie.InvT-loop
-Inv-loop rows columns level direction₀ x₀ direction x = (length direction ≡ length direction₀) × (x ≤ rows * columns) × Agrees (downAt rows columns level) 255 direction x
+Inv-loop rows columns level direction₀ falls₀ x₀ direction falls x =
+    (length direction ≡ length direction₀) × (length falls ≡ length falls₀) × (x ≤ rows * columns) × Down rows columns level direction falls x
 
 abbrev μ-loop : tie.MeasureT-loop
-μ-loop rows columns level direction₀ x₀ direction x = rows * columns - x
+μ-loop rows columns level direction₀ falls₀ x₀ direction falls x = rows * columns - x
+
+-- the arguments
+abbrev start : tie.At-loop Inv-loop μ-loop → tie.Start Inv-loop μ-loop
+start c = c .before .before .before .before
+
+-- the run before a cell
+abbrev run : tie.After-fall-at Inv-loop μ-loop → tie.After-point-run Inv-loop μ-loop
+run c = c .before .before .before .before .before
 
 loop-holds : tie.Need-loop-holds Inv-loop μ-loop
-loop-holds c = let a = c .before .before .args in (refl, omega arith, agrees-none (downAt (a .rows) (a .columns) (a .level .now)) 255 (a .direction .now))
+loop-holds c = let a = c .before .before .before .args in (refl, refl, omega arith, down-none (a .direction .now) (a .falls .now))
 
 run-end-requires : tie.Need-run-end-requires Inv-loop μ-loop
 run-end-requires c κs = search needs
 
 point-run-requires : tie.Need-point-run-requires Inv-loop μ-loop
-point-run-requires c κs = let s = c .before .before .before .before .before .before in (s .args .rows, s .pre .0, c .before .run-end .ensures, c .before .before .before .loop .inv .0 ∙ s .pre .1)
+point-run-requires c κs =
+    let l = c .before .before .before .before in
+    let s = start l in
+    (s .pre .0, c .before .before .run-end .ensures, l .loop .inv .0 ∙ s .pre .1, l .loop .inv .1 ∙ s .pre .2, l .loop .inv .3)
 
-mul-downhill : tie.Need-mul-downhill Inv-loop μ-loop
-mul-downhill c = search needs
-
-shared-slice-read-downhill : tie.Need-shared-slice-read-downhill Inv-loop μ-loop
-shared-slice-read-downhill c = search needs
-
-steepest-near-requires : tie.Need-steepest-near-requires Inv-loop μ-loop
-steepest-near-requires c κs = search needs
-
-downhill-requires : tie.Need-downhill-requires Inv-loop μ-loop
-downhill-requires c κs = search needs
+fall-at-requires : tie.Need-fall-at-requires Inv-loop μ-loop
+fall-at-requires c κs =
+    let e = c .before .before .before .before .before .before .before in
+    (start (e .before .before) .pre .0, e .run-end .ensures .within, λ b. absurd (true≢false (sym b)))
 
 slice-write-direction : tie.Need-slice-write-direction Inv-loop μ-loop
-slice-write-direction c = search needs
+slice-write-direction c =
+    let r = run c in
+    let e = r .before .before .before in
+    let l = e .before .before in
+    omega (arith, e .run-end .ensures .within, r .point-run .kept .1 .1 .1 .0 ∙ l .loop .inv .0, start l .pre .1)
+
+mul-falls : tie.Need-mul-falls Inv-loop μ-loop
+mul-falls c = search needs
+
+slice-write-falls : tie.Need-slice-write-falls Inv-loop μ-loop
+slice-write-falls c =
+    let r = run c in
+    let e = r .before .before .before in
+    let l = e .before .before in
+    omega (arith, e .run-end .ensures .within, r .point-run .kept .1 .1 .1 .1 .0 ∙ l .loop .inv .1, start l .pre .2)
 
 add-x : tie.Need-add-x Inv-loop μ-loop
 add-x c = search needs
@@ -49,25 +67,31 @@ loop-less c = search needs
 
 loop-again : tie.Need-loop-again Inv-loop μ-loop
 loop-again c =
-    let s = c .before .before .before .before .before .before .before .before .before .before .before .before in
-    let p = c .before .before .before .before .before .before .before .before .before .loop in
-    let e = c .before .before .before .before .before .before .before .run-end in
-    let r = c .before .before .before .before .before .point-run in (
-      simp length-set (r .kept .1 .1 .0 ∙ p .inv .0),
-      omega (arith, e .ensures .within),
-      agrees-more (downAt (s .args .rows) (s .args .columns) (s .args .level .now)) 255 (r .last .1 .1 .0) (e .result) (c .downhill .result) (omega (arith, e .ensures .within, r .kept .1 .1 .0, p .inv .0, s .pre .1)) (r .ensures (s .args .rows) (e .ensures) (p .inv .2))
-          (down-is (s .args .rows) (s .args .columns) (s .args .level .now) (e .result) (c .before .steepest-near .ensures) (c .downhill .ensures)),
+    let r = run c in
+    let e = r .before .before .before in
+    let l = e .before .before in
+    let s = start l in
+    let within = e .run-end .ensures .within in
+    let long = r .point-run .kept .1 .1 .1 .0 ∙ l .loop .inv .0 in
+    let falls-long = r .point-run .kept .1 .1 .1 .1 .0 ∙ l .loop .inv .1 in (
+      rw length-set long,
+      rw length-set falls-long,
+      omega (arith, within),
+      down-more (omega (arith, within, long, s .pre .1)) (omega (arith, within, falls-long, s .pre .2)) (r .point-run .ensures) (c .fall-at .ensures) refl refl,
     )
 
 same-length : tie.Need-same-length Inv-loop μ-loop
-same-length c = search needs
+same-length c = c .before .loop .inv .0
+
+same-length-2 : tie.Need-same-length-2 Inv-loop μ-loop
+same-length-2 c = c .before .loop .inv .1
 
 returns : tie.Need-returns Inv-loop μ-loop
 returns c =
-    let s = c .before .before .before .before in
-    let p = c .before .loop in
-    let e : p .x ≡ s .args .rows * s .args .columns = omega (arith, p .inv .0, s .pre .1) in
-    agrees-tab (downAt (s .args .rows) (s .args .columns) (s .args .level .now)) 255 (p .direction) (s .args .rows * s .args .columns) (p .inv .0 ∙ s .pre .1) (rw e at (p .inv .2))
+    let l = c .before in
+    let s = start l in
+    let e : l .loop .x ≡ s .args .rows * s .args .columns = omega (arith, l .loop .inv .0, s .pre .1) in
+    rw e at (l .loop .inv .3)
 
 pub point-down-spec : {M : Type 1} → statement M
 point-down-spec =
@@ -78,13 +102,13 @@ point-down-spec =
     loop-holds
     run-end-requires
     point-run-requires
-    mul-downhill
-    shared-slice-read-downhill
-    steepest-near-requires
-    downhill-requires
+    fall-at-requires
     slice-write-direction
+    mul-falls
+    slice-write-falls
     add-x
     loop-less
     loop-again
     same-length
+    same-length-2
     returns)

@@ -1,40 +1,35 @@
--- `terrain::direction::point_run` meets its contract: the cells passed have their codes but for flats. Assumes nothing.
+-- `terrain::direction::point_run` meets its contract: the cells passed have their codes but for flats, and their falls. Assumes nothing.
 use mathlib.Core.Path.{_≡_, refl}
-use Prim.Native.Nat.{ℕ, _≤_, _-_}
+use Prim.Native.Nat.{_≤_, _-_}
 use native.Mathlib.Omega.{arith}
 use lib.ListN.{length, length-set}
-use Rattle.laws.specs.Lists.{Agrees}
-use Rattle.laws.proofs.Lists.{agrees-more}
-use Rattle.terrain.specs.Inside.{RunsTo}
-use Rattle.terrain.specs.Levels.{downAt}
-use Rattle.terrain.proofs.Falls.{down-is}
+use Rattle.terrain.specs.Levels.{Down}
+use Rattle.terrain.proofs.Falls.{down-more}
 use borrow.Author.Needs.{needs}
 use Rattle.terrain.proofs.direction.point_run.Statement.{statement}
 use Rattle.terrain.proofs.direction.point_run.Tie as tie
 
 abbrev Inv-loop : tie.InvT-loop
-Inv-loop columns level direction₀ from to x₀ direction x = (length direction ≡ length direction₀) × (from ≤ x) × (x ≤ to) × ((rows : ℕ) → RunsTo rows columns from to → Agrees (downAt rows columns level) 255 direction₀ from → Agrees (downAt rows columns level) 255 direction x)
+Inv-loop rows columns level direction₀ falls₀ from to x₀ direction falls x =
+    (length direction ≡ length direction₀) × (length falls ≡ length falls₀) × (from ≤ x) × (x ≤ to) × Down rows columns level direction falls x
 
 abbrev μ-loop : tie.MeasureT-loop
-μ-loop columns level direction₀ from to x₀ direction x = to - x
+μ-loop rows columns level direction₀ falls₀ from to x₀ direction falls x = to - x
 
 loop-holds : tie.Need-loop-holds Inv-loop μ-loop
-loop-holds c = (refl, omega arith, omega (arith, c .before .before .pre .2 .from), λ rows r g. g)
+loop-holds c = let t = c .before .before .before .pre in (refl, refl, omega arith, omega (arith, t .1 .from), t .4)
 
-mul-downhill : tie.Need-mul-downhill Inv-loop μ-loop
-mul-downhill c = search needs
-
-shared-slice-read-downhill : tie.Need-shared-slice-read-downhill Inv-loop μ-loop
-shared-slice-read-downhill c = search needs
-
-steepest-inside-requires : tie.Need-steepest-inside-requires Inv-loop μ-loop
-steepest-inside-requires c κs = let s = c .before .before .before .before .before in let p = c .before .before .loop in (s .pre .0, s .pre .1, s .pre .2 .inside (p .x) (omega arith) (omega arith))
-
-downhill-requires : tie.Need-downhill-requires Inv-loop μ-loop
-downhill-requires c κs = search needs
+fall-at-requires : tie.Need-fall-at-requires Inv-loop μ-loop
+fall-at-requires c κs = let t = c .before .before .before .before .before .pre in (t .0, omega (arith, t .1 .within), λ _. t .1 .inside (c .before .loop .x) (omega arith) (omega arith))
 
 slice-write-direction : tie.Need-slice-write-direction Inv-loop μ-loop
-slice-write-direction c = search needs
+slice-write-direction c = let t = c .before .before .before .before .before .before .pre in omega (arith, t .2, t .1 .within)
+
+mul-falls : tie.Need-mul-falls Inv-loop μ-loop
+mul-falls c = search needs
+
+slice-write-falls : tie.Need-slice-write-falls Inv-loop μ-loop
+slice-write-falls c = let t = c .before .before .before .before .before .before .pre in omega (arith, t .3, t .1 .within)
 
 add-x : tie.Need-add-x Inv-loop μ-loop
 add-x c = search needs
@@ -44,22 +39,26 @@ loop-less c = search needs
 
 loop-again : tie.Need-loop-again Inv-loop μ-loop
 loop-again c =
-    let s = c .before .before .before .before .before .before .before in
-    let p = c .before .before .before .before .loop in (
-      simp length-set (p .inv .0),
+    let p = c .before .before .loop in
+    let t = c .before .before .before .before .before .before .pre in (
+      rw length-set (p .inv .0),
+      rw length-set (p .inv .1),
       omega arith,
       omega arith,
-      λ rows r g. agrees-more (downAt rows (s .args .columns) (s .args .level .now)) 255 (p .direction) (p .x) (c .downhill .result) (omega (arith, s .pre .2 .within, s .pre .3, p .inv .0)) (p .inv .3 rows r g)
-          (down-is rows (s .args .columns) (s .args .level .now) (p .x) (c .before .steepest-inside .ensures rows (r .inside (p .x) (omega arith) (omega arith))) (c .downhill .ensures)),
+      down-more (omega (arith, p .inv .0, t .2, t .1 .within)) (omega (arith, p .inv .1, t .3, t .1 .within)) (p .inv .4) (c .fall-at .ensures) refl refl,
     )
 
 same-length : tie.Need-same-length Inv-loop μ-loop
-same-length c = search needs
+same-length c = c .before .loop .inv .0
+
+same-length-2 : tie.Need-same-length-2 Inv-loop μ-loop
+same-length-2 c = c .before .loop .inv .1
 
 returns : tie.Need-returns Inv-loop μ-loop
 returns c =
-    let e : c .before .loop .x ≡ c .before .before .before .before .args .to = omega arith in
-    λ rows r g. rw e at (c .before .loop .inv .3 rows r g)
+    let p = c .before .loop in
+    let e : p .x ≡ c .before .before .before .before .before .args .to = omega arith in
+    rw e at (p .inv .4)
 
 pub point-run-spec : {M : Type 1} → statement M
 point-run-spec =
@@ -68,13 +67,13 @@ point-run-spec =
     Inv-loop
     μ-loop
     loop-holds
-    mul-downhill
-    shared-slice-read-downhill
-    steepest-inside-requires
-    downhill-requires
+    fall-at-requires
     slice-write-direction
+    mul-falls
+    slice-write-falls
     add-x
     loop-less
     loop-again
     same-length
+    same-length-2
     returns)

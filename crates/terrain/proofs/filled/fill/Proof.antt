@@ -1,5 +1,6 @@
 -- `terrain::filled::fill` meets its contract. Assumes nothing.
-use Rattle.terrain.proofs.Flooding.{starts-kept}
+use native.Mathlib.Omega.{arith}
+use Rattle.terrain.proofs.Words.{flood-filled}
 use borrow.Author.Needs.{needs}
 use Rattle.terrain.proofs.filled.fill.Statement.{statement}
 use Rattle.terrain.proofs.filled.fill.Tie as tie
@@ -10,21 +11,36 @@ start-requires c κs = search needs
 flood-requires : tie.Need-flood-requires
 flood-requires c κs = search needs
 
+faulty-cells-requires : tie.Need-faulty-cells-requires
+faulty-cells-requires c κs = search needs
+
 settle-requires : tie.Need-settle-requires
-settle-requires c κs =
-    let s = c .before .before .before .before .before .before .before .before .before .before .before .before .before .before in
-    (s .pre .ready, c .before .before .before .before .before .flood .ensures .kept (starts-kept (s .pre .ready) _ (c .before .before .before .before .before .before .before .before .before .before .start .ensures (s .args .rows) (s .args .columns) (s .pre .level-long))))
+settle-requires c κs = search needs
 
 same-length : tie.Need-same-length
 same-length c = search needs
 
+returns : tie.Need-returns
+returns c = search needs
+
 same-length-2 : tie.Need-same-length-2
 same-length-2 c = search needs
 
-returns : tie.Need-returns
-returns c = search needs
+returns-2 : tie.Need-returns-2
+returns-2 c =
+    let s = c .before .before .before .before .before .before .before .before .before .before .before .before in
+    let e = c .before .before .before .before .before .before .before .before .before .start .ensures (s .args .rows) (s .args .columns) (s .pre .1) in
+    flood-filled (s .pre .0) _ _ e (c .before .before .before .before .before .flood .ensures) (λ x h. c .before .faulty-cells .ensures .all (omega arith) x (omega arith) h)
 
 pub fill-spec : {M : Type 1} → statement M
 fill-spec =
     tie.close
-    (tie.spec start-requires flood-requires settle-requires same-length same-length-2 returns)
+    (tie.spec
+    start-requires
+    flood-requires
+    faulty-cells-requires
+    settle-requires
+    same-length
+    returns
+    same-length-2
+    returns-2)

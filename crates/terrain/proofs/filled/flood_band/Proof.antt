@@ -1,17 +1,17 @@
 -- `terrain::filled::flood_band` meets its contract. Assumes nothing.
-use Prim.Native.Nat.{_-_, _≤_}
+use Rattle.terrain.proofs.Words.{flooded-none, flooded-then, flooded-same}
+use Rattle.terrain.specs.Flood.{Flooded}
 use native.Mathlib.Omega.{arith}
-use Rattle.laws.proofs.Settle.{eased-none}
-use Rattle.terrain.proofs.Flooding.{Flooded, flooded-none, flooded-then, flooded-on}
+use Prim.Native.Nat.{_-_, _≤_}
 use borrow.Author.Needs.{needs}
 use Rattle.terrain.proofs.filled.flood_band.Statement.{statement}
 use Rattle.terrain.proofs.filled.flood_band.Tie as tie
 
 abbrev Inv-loop : tie.InvT-loop
-Inv-loop rows columns ground level₀ heads₀ links₀ band list₀ level heads links list = Flooded rows columns ground level₀ links₀ level links × (list ≤ 2048)
+Inv-loop rows columns heads₀ words₀ band list₀ heads words list = Flooded rows columns words₀ words × (1024 ≤ list) × (list ≤ 2048)
 
 abbrev μ-loop : tie.MeasureT-loop
-μ-loop rows columns ground level₀ heads₀ links₀ band list₀ level heads links list = 2048 - list
+μ-loop rows columns heads₀ words₀ band list₀ heads words list = 2048 - list
 
 mul-if1 : tie.Need-mul-if1 Inv-loop μ-loop
 mul-if1 c = search needs
@@ -20,19 +20,16 @@ element-copy-out-if1 : tie.Need-element-copy-out-if1 Inv-loop μ-loop
 element-copy-out-if1 c = search needs
 
 returns : tie.Need-returns Inv-loop μ-loop
-returns c = eased-none _ _ _
+returns c = flooded-none
 
 open-band-requires : tie.Need-open-band-requires Inv-loop μ-loop
-open-band-requires c κs = let f = c .before .before .before .before .before .before .before .pre .0 in (omega (arith, f .ready .small, f .links-long), omega (arith, f .level-long, f .links-long), omega arith)
+open-band-requires c κs = let s = c .before .before .before .before .before in (omega (arith, s .pre .0 .small, s .pre .1), s .pre .2)
 
 loop-holds : tie.Need-loop-holds Inv-loop μ-loop
-loop-holds c = (flooded-none, omega arith)
+loop-holds c = (flooded-none, omega arith, omega arith)
 
 drain-requires : tie.Need-drain-requires Inv-loop μ-loop
-drain-requires c κs =
-    let s = c .before .before .before .before .before .before .before .before .before .before .before .before .before .before .before in
-    let p = c .before .before .before .before .loop in
-    (flooded-on (s .pre .0) (record { eased = p .inv .0 .eased; links-long = omega (arith, p .inv .0 .links-long) }), omega arith)
+drain-requires c κs = let s = c .before .before .before .before .before .before .before .before .before .before .before .before in (s .pre .0, omega (arith, s .pre .1, c .before .before .before .loop .inv .0 .long), s .pre .2, omega arith, omega arith)
 
 add-list : tie.Need-add-list Inv-loop μ-loop
 add-list c = search needs
@@ -41,16 +38,13 @@ loop-less : tie.Need-loop-less Inv-loop μ-loop
 loop-less c = search needs
 
 loop-again : tie.Need-loop-again Inv-loop μ-loop
-loop-again c = (flooded-then _ (c .before .before .before .before .before .before .before .before .before .loop .inv .0) (c .before .before .before .before .drain .ensures) (search needs), omega arith)
+loop-again c = (flooded-then (c .before .before .before .before .before .before .loop .inv .0) (c .before .before .drain .ensures), omega arith, omega arith)
 
 same-length : tie.Need-same-length Inv-loop μ-loop
 same-length c = search needs
 
-same-length-2 : tie.Need-same-length-2 Inv-loop μ-loop
-same-length-2 c = search needs
-
 returns-2 : tie.Need-returns-2 Inv-loop μ-loop
-returns-2 c = c .before .loop .inv .0 .eased
+returns-2 c = flooded-then (flooded-same (c .before .before .before .before .open-band .ensures)) (c .before .loop .inv .0)
 
 pub flood-band-spec : {M : Type 1} → statement M
 flood-band-spec =
@@ -68,5 +62,4 @@ flood-band-spec =
     loop-less
     loop-again
     same-length
-    same-length-2
     returns-2)

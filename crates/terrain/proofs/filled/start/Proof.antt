@@ -1,38 +1,41 @@
 -- `terrain::filled::start` meets its contract. Assumes nothing.
-use mathlib.Core.Path.{_≡_, refl, _∙_}
-use mathlib.Core.Bool.{cond}
-use Prim.Native.Nat.{ℕ, _-_, _*_, _≤_}
-use native.Mathlib.Omega.{arith}
-use lib.ListN.{length, length-set}
-use Rattle.laws.specs.Lists.{Agrees}
-use Rattle.laws.proofs.Lists.{agrees-none, agrees-more, agrees-tab}
-use Rattle.terrain.specs.Cells.{levelsOf, validAt}
-use Rattle.terrain.specs.Filled.{top}
+use Rattle.terrain.proofs.Words.{done-long, done-set}
 use Rattle.terrain.proofs.Flooding.{ground-read}
+use Rattle.terrain.proofs.Neighbours.{level-top}
+use Rattle.terrain.specs.Flood.{doneOf}
+use Rattle.terrain.specs.Filled.{top}
+use Rattle.terrain.specs.Cells.{levelsOf, validAt}
+use Rattle.laws.proofs.Lists.{agrees-none, agrees-more, agrees-tab}
+use Rattle.laws.specs.Lists.{Agrees}
+use lib.ListN.{length, length-set}
+use native.Mathlib.Omega.{arith}
+use Prim.Native.Nat.{ℕ, _-_, _*_, _≤_}
+use mathlib.Core.Bool.{cond}
+use mathlib.Core.Path.{_≡_, refl, _∙_}
 use borrow.Author.Needs.{needs}
 use Rattle.terrain.proofs.filled.start.Statement.{statement}
 use Rattle.terrain.proofs.filled.start.Tie as tie
 
 abbrev Inv-loop : tie.InvT-loop
-Inv-loop ground level₀ x₀ level x = (length level ≡ length level₀) × (x ≤ length level₀) × Agrees (λ (i : ℕ). cond (validAt (levelsOf ground) i) top 0) 0 level x
+Inv-loop ground words₀ x₀ words x = (length words ≡ length words₀) × (x ≤ length words₀) × Agrees (λ (i : ℕ). cond (validAt (levelsOf ground) i) top 0) 0 (doneOf words) x
 
 abbrev μ-loop : tie.MeasureT-loop
-μ-loop ground level₀ x₀ level x = length level₀ - x
+μ-loop ground words₀ x₀ words x = length words₀ - x
 
 loop-holds : tie.Need-loop-holds Inv-loop μ-loop
-loop-holds c = (refl, omega arith, agrees-none (λ (i : ℕ). cond (validAt (levelsOf (c .before .args .ground .now)) i) top 0) 0 (c .before .args .level .now))
+loop-holds c = (refl, omega arith, agrees-none (λ (i : ℕ). cond (validAt (levelsOf (c .before .args .ground .now)) i) top 0) 0 (doneOf (c .before .args .words .now)))
 
 ground-level-requires : tie.Need-ground-level-requires Inv-loop μ-loop
 ground-level-requires c κs = let s = c .before .before .before in ground-read (s .pre .2) (c .before .loop .x) (omega (arith, s .pre .3))
 
-start-level-requires : tie.Need-start-level-requires Inv-loop μ-loop
-start-level-requires c κs = search needs
+start-word-requires : tie.Need-start-word-requires Inv-loop μ-loop
+start-word-requires c κs = omega (arith, c .ground-level .ensures, level-top (c .before .before .before .before .pre .2) (c .before .before .loop .x))
 
-mul-level : tie.Need-mul-level Inv-loop μ-loop
-mul-level c = search needs
+mul-words : tie.Need-mul-words Inv-loop μ-loop
+mul-words c = search needs
 
-slice-write-level : tie.Need-slice-write-level Inv-loop μ-loop
-slice-write-level c = search needs
+slice-write-words : tie.Need-slice-write-words Inv-loop μ-loop
+slice-write-words c = search needs
 
 add-x : tie.Need-add-x Inv-loop μ-loop
 add-x c = search needs
@@ -44,7 +47,7 @@ loop-again : tie.Need-loop-again Inv-loop μ-loop
 loop-again c =
     let s = c .before .before .before .before .before .args in
     let p = c .before .before .before .loop in
-    (simp length-set (p .inv .0), omega arith, agrees-more (λ (i : ℕ). cond (validAt (levelsOf (s .ground .now)) i) top 0) 0 (p .level) (p .x) (c .start-level .result) (omega arith) (p .inv .2) (cc))
+    (simp length-set (p .inv .0), omega arith, rw (done-set (p .words) (p .x) (c .start-word .result)) (agrees-more (λ (i : ℕ). cond (validAt (levelsOf (s .ground .now)) i) top 0) 0 (doneOf (p .words)) (p .x) _ (omega (arith, done-long (p .words))) (p .inv .2) (cc)))
 
 same-length : tie.Need-same-length Inv-loop μ-loop
 same-length c = c .before .loop .inv .0
@@ -52,7 +55,7 @@ same-length c = c .before .loop .inv .0
 returns : tie.Need-returns Inv-loop μ-loop
 returns c =
     let p = c .before .loop in
-    λ rows columns e. agrees-tab (λ (i : ℕ). cond (validAt (levelsOf (c .before .before .before .args .ground .now)) i) top 0) 0 (p .level) (rows * columns) (p .inv .0 ∙ e) (λ j h. p .inv .2 j (omega arith))
+    λ rows columns e. agrees-tab (λ (i : ℕ). cond (validAt (levelsOf (c .before .before .before .args .ground .now)) i) top 0) 0 (doneOf (p .words)) (rows * columns) (done-long (p .words) ∙ p .inv .0 ∙ e) (λ j h. p .inv .2 j (omega arith))
 
 pub start-spec : {M : Type 1} → statement M
 start-spec =
@@ -62,9 +65,9 @@ start-spec =
     μ-loop
     loop-holds
     ground-level-requires
-    start-level-requires
-    mul-level
-    slice-write-level
+    start-word-requires
+    mul-words
+    slice-write-words
     add-x
     loop-less
     loop-again

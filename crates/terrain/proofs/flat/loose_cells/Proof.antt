@@ -45,7 +45,7 @@ loose-requires c κs = let a = c .before .before .before .before .before .before
 add-sum-2 : tie.Need-add-sum-2 Inv-loop μ-loop
 add-sum-2 c =
     let s = c .before .before .before .before .before .before .before .before .before in let e = c .before .before .before .before .run-end in
-    omega (arith, c .before .before .before .before .before .before .loop .inv .1 .few, c .before .before .before .loose-run .ensures (s .args .rows) (e .ensures) .few, c .loose .ensures .few, e .ensures .within, s .pre .0 .sized .small)
+    omega (arith, c .before .before .before .before .before .before .loop .inv .1 .few, c .before .before .before .loose-run .ensures (s .args .rows) (e .ensures) .few, c .loose .ensures .0, e .ensures .within, s .pre .0 .sized .small)
 
 add-x : tie.Need-add-x Inv-loop μ-loop
 add-x c = search needs

@@ -35,7 +35,7 @@ loose-requires c κs =
     omega (arith, c .nearest-inside .ensures (s .pre .0) (s .pre .2 .inside (p .x) (omega arith) (omega arith)), nearest-far (s .pre .0) (s .args .columns) (s .args .level .now) (s .args .steps .now) (p .x) 8)
 
 add-sum : tie.Need-add-sum Inv-loop μ-loop
-add-sum c = let s = c .before .before .before .before .before .before .before in omega (arith, c .before .before .before .before .loop .inv .2 (s .pre .0) (s .pre .2) .few, c .loose .ensures .few, s .pre .2 .within, s .pre .1 .sized .small)
+add-sum c = let s = c .before .before .before .before .before .before .before in omega (arith, c .before .before .before .before .loop .inv .2 (s .pre .0) (s .pre .2) .few, c .loose .ensures .0, s .pre .2 .within, s .pre .1 .sized .small)
 
 add-x : tie.Need-add-x Inv-loop μ-loop
 add-x c = search needs

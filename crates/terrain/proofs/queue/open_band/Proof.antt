@@ -1,16 +1,18 @@
 -- `terrain::queue::open_band` meets its contract. Assumes nothing.
-use mathlib.Core.Path.{_≡_}
-use Prim.Native.Nat.{_-_}
+use native.Mathlib.Omega.{arith}
+use Rattle.terrain.specs.Flood.{doneOf}
 use lib.ListN.{length}
+use Prim.Native.Nat.{_-_}
+use mathlib.Core.Path.{_≡_, _∙_}
 use borrow.Author.Needs.{needs}
 use Rattle.terrain.proofs.queue.open_band.Statement.{statement}
 use Rattle.terrain.proofs.queue.open_band.Tie as tie
 
 abbrev Inv-loop : tie.InvT-loop
-Inv-loop level heads₀ links₀ band turns₀ heads links turns = length links ≡ length links₀
+Inv-loop heads₀ words₀ band turns₀ heads words turns = (doneOf words ≡ doneOf words₀) × (length words ≡ length words₀)
 
 abbrev μ-loop : tie.MeasureT-loop
-μ-loop level heads₀ links₀ band turns₀ heads links turns = length links₀ - turns
+μ-loop heads₀ words₀ band turns₀ heads words turns = length words₀ - turns
 
 loop-holds : tie.Need-loop-holds Inv-loop μ-loop
 loop-holds c = search needs
@@ -24,17 +26,20 @@ same-length c = search needs
 returns : tie.Need-returns Inv-loop μ-loop
 returns c = search needs
 
-mul-list-of : tie.Need-mul-list-of Inv-loop μ-loop
-mul-list-of c = search needs
+mul-low : tie.Need-mul-low Inv-loop μ-loop
+mul-low c = search needs
 
-shared-slice-read-list-of : tie.Need-shared-slice-read-list-of Inv-loop μ-loop
-shared-slice-read-list-of c = search needs
+slice-read-low : tie.Need-slice-read-low Inv-loop μ-loop
+slice-read-low c = search needs
 
-list-of-requires : tie.Need-list-of-requires Inv-loop μ-loop
-list-of-requires c κs = search needs
+wide-requires : tie.Need-wide-requires Inv-loop μ-loop
+wide-requires c κs = search needs
+
+add-push : tie.Need-add-push Inv-loop μ-loop
+add-push c = search needs
 
 push-requires : tie.Need-push-requires Inv-loop μ-loop
-push-requires c κs = search needs
+push-requires c κs = (omega arith, omega arith, c .before .before .before .before .before .pop .ensures .waits (omega arith))
 
 add-turns : tie.Need-add-turns Inv-loop μ-loop
 add-turns c = search needs
@@ -43,7 +48,7 @@ loop-less : tie.Need-loop-less Inv-loop μ-loop
 loop-less c = search needs
 
 loop-again : tie.Need-loop-again Inv-loop μ-loop
-loop-again c = search needs
+loop-again c = (c .before .before .push .ensures ∙ c .before .before .before .before .before .before .before .before .before .before .before .before .loop .inv .0, (cc))
 
 same-length-2 : tie.Need-same-length-2 Inv-loop μ-loop
 same-length-2 c = search needs
@@ -61,9 +66,10 @@ open-band-spec =
     pop-requires
     same-length
     returns
-    mul-list-of
-    shared-slice-read-list-of
-    list-of-requires
+    mul-low
+    slice-read-low
+    wide-requires
+    add-push
     push-requires
     add-turns
     loop-less

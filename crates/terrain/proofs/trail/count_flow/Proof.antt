@@ -1,65 +1,75 @@
 -- `terrain::trail::count_flow` meets its contract. Assumes nothing.
+use Rattle.terrain.proofs.Descending.{place-cell}
+use Rattle.terrain.proofs.Passing.{Passing, pass-start, pass-step, pass-fits, pass-all}
+use Prim.Native.Nat.{ℕ, _≤_, _+_, _-_}
+use mathlib.Core.List.{List}
+use mathlib.Core.Path.{refl, sym, subst, _∙_}
 use borrow.Author.Needs.{needs}
+use native.Mathlib.Omega.{arith}
 use Rattle.terrain.proofs.trail.count_flow.Statement.{statement}
 use Rattle.terrain.proofs.trail.count_flow.Tie as tie
 
-clear-requires : tie.Need-clear-requires
-clear-requires c κs = search needs
+abbrev Inv-loop : tie.InvT-loop
+Inv-loop rows columns direction order places count₀ place₀ count place = Passing rows columns direction order count place × (place ≤ places)
 
-start-requires : tie.Need-start-requires
+abbrev μ-loop : tie.MeasureT-loop
+μ-loop rows columns direction order places count₀ place₀ count place = places - place
+
+start-requires : tie.Need-start-requires Inv-loop μ-loop
 start-requires c κs = search needs
 
-await-all-requires : tie.Need-await-all-requires
-await-all-requires c κs = search needs
+loop-holds : tie.Need-loop-holds Inv-loop μ-loop
+loop-holds c = let s = c .before .before .before .before .before .before .before in (pass-start (s .pre .0) (s .args .order .now) (c .before .before .start .ensures), omega arith)
 
-descend-requires : tie.Need-descend-requires
-descend-requires c κs = search needs
+mul-x : tie.Need-mul-x Inv-loop μ-loop
+mul-x c = search needs
 
-is-counted-requires : tie.Need-is-counted-requires
-is-counted-requires c κs = search needs
+shared-slice-read-x : tie.Need-shared-slice-read-x Inv-loop μ-loop
+shared-slice-read-x c = let s = c .before .before .before .before .before .before .before .before .before .before in omega (arith, s .pre .1 .room)
 
-same-length : tie.Need-same-length
-same-length c = search needs
+cast-x : tie.Need-cast-x Inv-loop μ-loop
+cast-x c = let s = c .before .before .before .before .before .before .before .before .before .before in let p = c .before .before .loop in omega (arith, place-cell (s .pre .0) {p = p .place} (s .pre .1) (omega arith) refl, s .pre .0 .sized .small)
 
-same-length-2 : tie.Need-same-length-2
-same-length-2 c = search needs
+receiver-requires : tie.Need-receiver-requires Inv-loop μ-loop
+receiver-requires c κs = let s = c .before .before .before .before .before .before .before .before .before .before in (s .pre .0, place-cell (s .pre .0) (s .pre .1) (omega arith) refl)
 
-same-length-3 : tie.Need-same-length-3
-same-length-3 c = search needs
+hand-on-requires : tie.Need-hand-on-requires Inv-loop μ-loop
+hand-on-requires c κs = let s = c .before .before .before .before .before .before .before .before .before .before .before .before in let p = c .before .before .before .before .loop in (omega (arith, place-cell (s .pre .0) {p = p .place} (s .pre .1) (omega arith) refl, p .inv .0 .long), (λ h. omega (arith, pass-fits (s .pre .0) (s .pre .1) (p .inv .0) (omega arith) refl (c .before .receiver .ensures) (omega (arith, p .inv .0 .long)), s .pre .0 .sized .small)))
 
-returns : tie.Need-returns
-returns c = c .before .is-counted .ensures (c .if1 .taken)
+add-place : tie.Need-add-place Inv-loop μ-loop
+add-place c = omega arith
 
-recount-requires : tie.Need-recount-requires
-recount-requires c κs = search needs
+loop-less : tie.Need-loop-less Inv-loop μ-loop
+loop-less c = omega arith
 
-same-length-4 : tie.Need-same-length-4
-same-length-4 c = search needs
+loop-again : tie.Need-loop-again Inv-loop μ-loop
+loop-again c =
+    let s = c .before .before .before .before .before .before .before .before .before .before .before .before .before .before .before in
+    let p = c .before .before .before .before .before .before .before .loop in
+    let on = pass-step (s .pre .0) (s .pre .1) (p .inv .0) (omega arith) refl (c .before .before .before .before .receiver .ensures) in
+    (subst (λ (l : List ℕ). Passing (s .args .rows) (s .args .columns) (s .args .direction .now) (s .args .order .now) l (p .place + 1)) (sym (c .before .before .hand-on .ensures)) on, omega arith)
 
-same-length-5 : tie.Need-same-length-5
-same-length-5 c = search needs
+same-length : tie.Need-same-length Inv-loop μ-loop
+same-length c = c .before .loop .inv .0 .long ∙ sym (c .before .before .before .before .before .before .before .before .before .pre .2)
 
-same-length-6 : tie.Need-same-length-6
-same-length-6 c = search needs
-
-returns-2 : tie.Need-returns-2
-returns-2 c = search needs
+returns : tie.Need-returns Inv-loop μ-loop
+returns c = let s = c .before .before .before .before .before .before .before .before .before in let p = c .before .loop in pass-all (s .pre .0) (s .pre .1) (omega (arith, p .inv .1)) (p .inv .0)
 
 pub count-flow-spec : {M : Type 1} → statement M
 count-flow-spec =
     tie.close
     (tie.spec
-    clear-requires
+    Inv-loop
+    μ-loop
     start-requires
-    await-all-requires
-    descend-requires
-    is-counted-requires
+    loop-holds
+    mul-x
+    shared-slice-read-x
+    cast-x
+    receiver-requires
+    hand-on-requires
+    add-place
+    loop-less
+    loop-again
     same-length
-    same-length-2
-    same-length-3
-    returns
-    recount-requires
-    same-length-4
-    same-length-5
-    same-length-6
-    returns-2)
+    returns)

@@ -1,42 +1,89 @@
 -- `terrain::trail::longest_trail` meets its contract. Assumes nothing.
-use mathlib.Core.Path.{sym, subst}
-use native.Mathlib.Omega.{arith}
+use Rattle.terrain.proofs.Descending.{place-cell}
+use Rattle.terrain.proofs.Following.{Backing, back-start, back-small, back-more, back-all}
+use Prim.Native.Nat.{_≤_, _-_}
+use mathlib.Core.Path.{refl, sym, _∙_}
 use borrow.Author.Needs.{needs}
-use Rattle.terrain.specs.Directed.{Known}
-use Rattle.terrain.proofs.Following.{known-none, longest-cells}
+use native.Mathlib.Omega.{arith}
 use Rattle.terrain.proofs.trail.longest_trail.Statement.{statement}
 use Rattle.terrain.proofs.trail.longest_trail.Tie as tie
 
-clear-requires : tie.Need-clear-requires
-clear-requires c κs = search needs
+abbrev Inv-loop : tie.InvT-loop
+Inv-loop rows columns direction order places workspace₀ most₀ place₀ workspace most place = Backing rows columns direction order places workspace place most × (place ≤ places)
 
-note-back-requires : tie.Need-note-back-requires
-note-back-requires c κs =
-    let s = c .before .before .before .before .before .before .before .before in
-    (s .pre .0, subst (Known (s .args .rows) (s .args .columns) (s .args .direction .now)) (sym (c .before .before .before .clear .ensures)) (known-none (s .pre .0) _ (s .pre .1)))
+abbrev μ-loop : tie.MeasureT-loop
+μ-loop rows columns direction order places workspace₀ most₀ place₀ workspace most place = place
 
-longest-cells-requires : tie.Need-longest-cells-requires
-longest-cells-requires c κs = (c .before .before .before .before .before .before .before .before .before .before .before .before .pre .0, c .before .before .before .note-back .ensures)
+loop-holds : tie.Need-loop-holds Inv-loop μ-loop
+loop-holds c = let s = c .before .before .before in (back-start (s .pre .0) (s .pre .1) (s .pre .2), omega arith)
 
-same-length : tie.Need-same-length
-same-length c = search needs
+sub-place : tie.Need-sub-place Inv-loop μ-loop
+sub-place c = omega arith
 
-returns : tie.Need-returns
-returns c = let s = c .before .before .before .before .before .before .before .before .before .before .before .before .before .before .before .before in omega (arith, longest-cells (s .args .rows) (s .args .columns) (s .args .direction .now), c .before .before .before .longest-cells .ensures)
+mul-x : tie.Need-mul-x Inv-loop μ-loop
+mul-x c = search needs
 
-same-length-2 : tie.Need-same-length-2
-same-length-2 c = search needs
+shared-slice-read-x : tie.Need-shared-slice-read-x Inv-loop μ-loop
+shared-slice-read-x c = let s = c .before .before .before .before .before .before in omega (arith, s .pre .1 .room)
 
-returns-2 : tie.Need-returns-2
-returns-2 c = let s = c .before .before .before .before .before .before .before .before .before .before .before .before .before .before .before .before in omega (arith, longest-cells (s .args .rows) (s .args .columns) (s .args .direction .now), c .before .before .before .longest-cells .ensures)
+cast-x : tie.Need-cast-x Inv-loop μ-loop
+cast-x c = let s = c .before .before .before .before .before .before in let p = c .before .before .loop in omega (arith, place-cell (s .pre .0) {p = p .place - 1} (s .pre .1) (omega arith) refl, s .pre .0 .sized .small)
+
+receiver-requires : tie.Need-receiver-requires Inv-loop μ-loop
+receiver-requires c κs = let s = c .before .before .before .before .before .before in (s .pre .0, place-cell (s .pre .0) (s .pre .1) (omega arith) refl)
+
+value-at-requires : tie.Need-value-at-requires Inv-loop μ-loop
+value-at-requires c κs = search needs
+
+add-cells : tie.Need-add-cells Inv-loop μ-loop
+add-cells c = let s = c .before .before .before .before .before .before .before .before .before in let p = c .before .before .before .before .before .loop in omega (arith, back-small (s .pre .0) (s .pre .1) (p .inv .0) (omega arith) (p .inv .1) refl (c .before .before .receiver .ensures) (c .value-at .ensures), s .pre .0 .sized .small)
+
+mul-workspace : tie.Need-mul-workspace Inv-loop μ-loop
+mul-workspace c = let s = c .before .before .before .before .before .before .before .before .before in let p = c .before .before .before .before .before .loop in omega (arith, place-cell (s .pre .0) {p = p .place - 1} (s .pre .1) (omega arith) refl, s .pre .0 .sized .small)
+
+slice-write-workspace : tie.Need-slice-write-workspace Inv-loop μ-loop
+slice-write-workspace c = let s = c .before .before .before .before .before .before .before .before .before in let p = c .before .before .before .before .before .loop in omega (arith, place-cell (s .pre .0) {p = p .place - 1} (s .pre .1) (omega arith) refl, p .inv .0 .long)
+
+larger-requires : tie.Need-larger-requires Inv-loop μ-loop
+larger-requires c κs = search needs
+
+loop-less : tie.Need-loop-less Inv-loop μ-loop
+loop-less c = omega arith
+
+loop-again : tie.Need-loop-again Inv-loop μ-loop
+loop-again c = let s = c .before .before .before .before .before .before .before .before .before .before in let p = c .before .before .before .before .before .before .loop in (back-more (s .pre .0) (s .pre .1) (p .inv .0) (omega arith) (p .inv .1) refl (c .before .before .before .receiver .ensures) (c .before .value-at .ensures) (c .larger .ensures), omega arith)
+
+same-length : tie.Need-same-length Inv-loop μ-loop
+same-length c = c .before .before .loop .inv .0 .long ∙ sym (c .before .before .before .before .before .before .pre .2)
+
+returns : tie.Need-returns Inv-loop μ-loop
+returns c = let s = c .before .before .before .before .before .before in omega (arith, back-all (s .pre .0) (s .pre .1) (omega arith) (c .before .before .loop .inv .0))
+
+same-length-2 : tie.Need-same-length-2 Inv-loop μ-loop
+same-length-2 c = c .before .before .loop .inv .0 .long ∙ sym (c .before .before .before .before .before .before .pre .2)
+
+returns-2 : tie.Need-returns-2 Inv-loop μ-loop
+returns-2 c = let s = c .before .before .before .before .before .before in omega (arith, back-all (s .pre .0) (s .pre .1) (omega arith) (c .before .before .loop .inv .0))
 
 pub longest-trail-spec : {M : Type 1} → statement M
 longest-trail-spec =
     tie.close
     (tie.spec
-    clear-requires
-    note-back-requires
-    longest-cells-requires
+    Inv-loop
+    μ-loop
+    loop-holds
+    sub-place
+    mul-x
+    shared-slice-read-x
+    cast-x
+    receiver-requires
+    value-at-requires
+    add-cells
+    mul-workspace
+    slice-write-workspace
+    larger-requires
+    loop-less
+    loop-again
     same-length
     returns
     same-length-2

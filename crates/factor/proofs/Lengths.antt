@@ -1,0 +1,145 @@
+-- Laws of slope lengths: a cell's length comes from those of its inflows, and none is greater than 15,000,000,000. Assumes nothing.
+use mathlib.Core.Path.{_≡_, refl, sym, ap, _∙_}
+use mathlib.Core.List.{List}
+use mathlib.Core.Bool.{Bool, true, false, cond, _&&_}
+use Prim.Native.Nat.{ℕ, zero, suc, _+_, _-_, _*_, _≤_, _<_}
+use native.Mathlib.Omega.{arith}
+use lib.ListN.{length, getD}
+use lib.Dec.{eqb}
+use Rattle.laws.specs.First.{someOf}
+use Rattle.laws.specs.Sums.{greatestTo, when}
+use Rattle.laws.proofs.Lists.{length-tab, getD-tab}
+use Rattle.laws.proofs.Sums.{when-ext, when-under, greatest-ext, greatest-le}
+use Rattle.settings.specs.declared.Rules.{Rules}
+use Rattle.terrain.specs.Cells.{neighbour, sideOf, cardinal}
+use Rattle.terrain.specs.Trail.{mappedAt, stepsIn, intoAt}
+use Rattle.terrain.specs.Directed.{Directed}
+use Rattle.terrain.proofs.Public.{steps-le}
+use Rattle.terrain.proofs.Public.{into-above}
+use Rattle.factor.specs.Slope.{steepnessAt}
+use Rattle.factor.specs.Channel.{channelAt}
+use Rattle.factor.specs.Inflow.{isCut, startLength, stepOver, amountOf}
+use Rattle.factor.specs.Length.{cutoffAt, broughtTo, lengthFrom, lengthIn, lengthsOf}
+
+-- ---- what one inflow brings
+
+-- a step is at most a diagonal
+pub step-le : (k : ℕ) → stepOver k ≤ 14142
+unfolding stepOver
+step-le k = go (cardinal k)
+  where
+    go : (c : Bool) → cond c 10000 14142 ≤ 14142
+    go true = omega arith
+    go false = omega arith
+
+-- at most one step more than a bound of the inflow's length
+pub amount-le : (n q p s a b : ℕ) → s ≤ 14142 → startLength ≤ b → a ≤ b → amountOf n q p s a ≤ b + 14142
+unfolding amountOf
+amount-le n q p s a b h l g = go (eqb q 0 && eqb p 0) (isCut n q p)
+  where
+    go : (flat cut : Bool) → cond flat startLength (cond cut 0 (a + s)) ≤ b + 14142
+    go true cut = omega arith
+    go false true = omega arith
+    go false false = omega arith
+
+module _ (rows cols side : ℕ) (rules : Rules) (lv dir : List ℕ) where
+  pub brought-le : (z x a b : ℕ) → startLength ≤ b → a ≤ b → broughtTo rows cols side rules lv dir z x a ≤ b + 14142
+  unfolding broughtTo
+  brought-le z x a b l h =
+      amount-le (cutoffAt rows cols side rules lv dir z) (steepnessAt rows cols lv dir z) (steepnessAt rows cols lv dir x) (stepOver (sideOf (getD dir x 255))) a b (step-le (sideOf (getD dir x 255))) l h
+
+module _ {rows cols : ℕ} {dir : List ℕ} (d : Directed rows cols dir) (side : ℕ) (rules : Rules) (lv count : List ℕ) where
+  abbrev size : ℕ
+  size = rows * cols
+
+  abbrev rank : ℕ → ℕ
+  rank = stepsIn rows cols dir (rows * cols)
+
+  abbrev nb : ℕ → ℕ → ℕ
+  nb = neighbour rows cols
+
+  abbrev into : ℕ → ℕ → Bool
+  into = intoAt rows cols dir
+
+  abbrev brings : (ℕ → ℕ) → ℕ → ℕ → ℕ
+  brings f z k = broughtTo rows cols side rules lv dir z (nb z k) (f (nb z k))
+
+  abbrev from : (ℕ → ℕ) → ℕ → ℕ
+  from = lengthFrom rows cols side rules lv dir count
+
+  abbrev inSteps : ℕ → ℕ → ℕ
+  inSteps = lengthIn rows cols side rules lv dir count
+
+  rank-le : (x : ℕ) → rank x ≤ size
+  rank-le x = steps-le rows cols dir size x
+
+  -- ---- the rule of a cell's length
+
+  abbrev pub most : (ℕ → ℕ) → ℕ → ℕ
+  most f z = greatestTo 8 (λ k. when (intoAt rows cols dir z k) (broughtTo rows cols side rules lv dir z (neighbour rows cols z k) (f (neighbour rows cols z k))))
+
+  abbrev lengthBy : ℕ → ℕ → ℕ
+  lengthBy z g = cond (mappedAt rows cols dir z) (cond (channelAt rows cols rules count z) 0 (cond (someOf (into z) 8) g startLength)) 0
+
+  pub from-is : (f : ℕ → ℕ) (z : ℕ) → lengthFrom rows cols side rules lv dir count f z ≡ cond (mappedAt rows cols dir z) (cond (channelAt rows cols rules count z) 0 (cond (someOf (intoAt rows cols dir z) 8) (most f z) startLength)) 0
+  unfolding lengthFrom
+  from-is f z = refl
+
+  by-le : (a b c : Bool) (g h : ℕ) → g ≤ h → startLength ≤ h → cond a (cond b 0 (cond c g startLength)) 0 ≤ h
+  by-le true true c g h l k = omega arith
+  by-le true false true g h l k = omega arith
+  by-le true false false g h l k = omega arith
+  by-le false b c g h l k = omega arith
+
+  -- it depends on the inflows alone, and is at most one step more than a bound of theirs
+  from-ext : (f g : ℕ → ℕ) (z : ℕ) → ((k : ℕ) → into z k ≡ true → f (nb z k) ≡ g (nb z k)) → from f z ≡ from g z
+  from-ext f g z h =
+      from-is f z
+      ∙ ap (lengthBy z) (greatest-ext 8 (λ k. when (into z k) (brings f z k)) (λ k. when (into z k) (brings g z k)) (λ k l. when-ext (into z k) (brings f z k) (brings g z k) (λ e. ap (broughtTo rows cols side rules lv dir z (nb z k)) (h k e))))
+      ∙ sym (from-is g z)
+
+  from-le : (f : ℕ → ℕ) (z b : ℕ) → startLength ≤ b → ((y : ℕ) → f y ≤ b) → from f z ≤ b + 14142
+  from-le f z b l h =
+      omega (
+        arith,
+        from-is f z,
+        by-le (mappedAt rows cols dir z) (channelAt rows cols rules count z) (someOf (into z) 8) (most f z) (b + 14142)
+            (greatest-le 8 (λ k. when (into z k) (brings f z k)) (b + 14142) (λ k i. omega (arith, when-under (into z k) (brings f z k), brought-le rows cols side rules lv dir z (nb z k) (f (nb z k)) b l (h (nb z k))))) (omega arith),
+      )
+
+  -- ---- the length of a cell from its inflows' lengths
+
+  length-none : (z : ℕ) → inSteps 0 z ≡ from (λ y. 0) z
+  unfolding lengthIn
+  length-none z = refl
+
+  length-more : (m z : ℕ) → inSteps (suc m) z ≡ from (inSteps m) z
+  unfolding lengthIn
+  length-more m z = refl
+
+  -- as many steps as there are ranks above a cell's are enough
+  length-stay : (m z : ℕ) → size - rank z ≤ m → inSteps (suc m) z ≡ inSteps m z
+  length-stay zero z h = length-more 0 z ∙ from-ext (inSteps 0) (λ y. 0) z (λ k e. absurd (omega (arith, into-above d z k e, rank-le (nb z k)))) ∙ sym (length-none z)
+  length-stay (suc m) z h =
+      length-more (suc m) z ∙ from-ext (inSteps (suc m)) (inSteps m) z (λ k e. length-stay m (nb z k) (omega (arith, into-above d z k e, rank-le (nb z k)))) ∙ sym (length-more m z)
+
+  pub length-local : (z : ℕ) → lengthIn rows cols side rules lv dir count (rows * cols) z ≡ lengthFrom rows cols side rules lv dir count (lengthIn rows cols side rules lv dir count (rows * cols)) z
+  length-local z = sym (length-stay size z (omega arith)) ∙ length-more size z
+
+  length-le : (m z : ℕ) → inSteps m z ≤ startLength + (m + 1) * 14142
+  length-le zero z = omega (arith, length-none z, from-le (λ y. 0) z startLength (omega arith) (λ y. omega arith))
+  length-le (suc m) z = omega (arith, length-more m z, from-le (inSteps m) z (startLength + (m + 1) * 14142) (omega arith) (length-le m))
+
+  -- even one step more is below 15,000,000,000
+  pub length-small : (z : ℕ) → lengthIn rows cols side rules lv dir count (rows * cols) z ≤ 14900000000
+  length-small z = omega (arith, length-le size z, d .sized .small)
+
+  -- ---- the grid of lengths
+
+  pub lengths-long : length (lengthsOf rows cols side rules lv dir count) ≡ rows * cols
+  unfolding lengthsOf
+  lengths-long = length-tab (rows * cols) _
+
+  pub lengths-at : (z : ℕ) → z < rows * cols → getD (lengthsOf rows cols side rules lv dir count) z 0 ≡ lengthIn rows cols side rules lv dir count (rows * cols) z
+  unfolding lengthsOf
+  lengths-at z h = getD-tab (rows * cols) (inSteps size) 0 z h

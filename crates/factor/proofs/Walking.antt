@@ -1,0 +1,263 @@
+-- The pass along the order: when a cell's turn comes, its length and its LS are those of the definitions, and it hands on what it brings. Assumes nothing.
+use mathlib.Core.Path.{_≡_, refl, sym, ap, ap₂, subst, _∙_}
+use mathlib.Core.List.{List}
+use mathlib.Core.Logic.{⊎-elim}
+use mathlib.Core.Bool.{Bool, true, false, cond}
+use Prim.Native.Nat.{ℕ, _+_, _-_, _*_, _≤_, _<_, max}
+use native.Mathlib.Omega.{arith}
+use native.Mathlib.Decide.{decLt, ℕ-discrete}
+use lib.Dec.{ltb, eqb}
+use lib.ListN.{length, getD, set, replicate, length-set, length-replicate, getD-replicate}
+use lib.Seq.{ext-getD, getD-set-same, getD-set-other}
+use borrow.Author.Tests.{eq-eqb, ne-eqb}
+use Rattle.laws.specs.Sums.{greatestTo, when}
+use Rattle.laws.specs.Orders.{standsIn}
+use Rattle.laws.specs.Handing.{Handing, Handed, Turn}
+use Rattle.laws.proofs.Tests.{two}
+use Rattle.laws.proofs.Lists.{getD-tab, length-tab}
+use Rattle.laws.proofs.Sums.{when-yes, when-no}
+use Rattle.laws.proofs.Orders.{stands-none, stands-more, order-cell, order-new}
+use Rattle.laws.proofs.Handing.{hand-start, hand-next, turn-off, turn-on, turn-stored, next-whole, next-turn, hand-all, hand-rest}
+use Rattle.settings.specs.declared.Rules.{Rules}
+use Rattle.terrain.specs.Cells.{sideOf}
+use Rattle.terrain.specs.Trail.{mappedAt, flowsAt, nextAt}
+use Rattle.terrain.specs.Inside.{besideOf}
+use Rattle.terrain.specs.Falls.{noFall, fallOf, dropAt, fallAt, fallsOf}
+use Rattle.terrain.specs.Directed.{Directed, receiverOf}
+use Rattle.terrain.specs.Downhill.{Downhill}
+use Rattle.terrain.proofs.Public.{beside-is, beside-room, mapped-is, pointing, code-read, receiver-leaves, receiver-beside, receiver-side, receiver-near}
+use Rattle.factor.specs.Slope.{steepnessAt}
+use Rattle.factor.specs.Channel.{channelAt}
+use Rattle.factor.specs.Length.{cutoffAt, broughtTo, lengthsOf}
+use Rattle.factor.specs.Cell.{factorOf}
+use Rattle.factor.specs.Grid.{factorAt, factorsOf}
+use Rattle.factor.specs.Inner.{greatestFall, steepnessOf, settledOf, broughtBy}
+use Rattle.factor.specs.Pass.{sideAt, Turning, lengthNow, amountNow, Turned, Measuring}
+use Rattle.factor.specs.declared.pass.Terms.{Terms}
+use Rattle.factor.proofs.Slopes.{fall-steepness, fall-small}
+use Rattle.factor.proofs.Lengths.{lengths-long, lengths-at}
+use Rattle.factor.proofs.Gathering.{lengthAt, gatheredAt, settledAt, givenBy, settled-is, length-none, gathered-none, gathered-small, lengths-handed}
+
+module _ (rows cols side : ℕ) (rules : Rules) (lv dir count : List ℕ) where
+  -- the cells at the first p places have their length and LS, and have handed on
+  pub record Walking (order lengths factors : List ℕ) (p : ℕ) : Type 0 where
+    pub handing : Handing max greatestTo (rows * cols) (receiverOf rows cols dir) (givenBy rows cols side rules lv dir count) (λ z. 0) (gatheredAt rows cols side rules lv dir count) (settledAt rows cols side rules lv dir count) order lengths p
+    pub factors-long : length factors ≡ rows * cols
+    pub falls : (z : ℕ) → z < rows * cols → standsIn order p z ≡ 0 → getD factors z 0 ≡ fallAt rows cols lv dir z
+    pub done : (z : ℕ) → 0 < standsIn order p z → getD factors z 0 ≡ factorOf side (steepnessAt rows cols lv dir z) (lengthAt rows cols side rules lv dir count z)
+
+-- what the pass assumes of a map: its levels lv, directions, counts, and an order of its cells
+pub record Charted (rows : ℕ) (lv : List ℕ) (terms : Terms) (dir count order : List ℕ) (places : ℕ) : Type 0 where
+  pub directed : Directed rows (terms .columns) dir
+  pub capped : (x : ℕ) → getD lv x 0 ≤ 1900000
+  pub side-some : 1 ≤ terms .side
+  pub side-small : terms .side ≤ 100000
+  pub count-long : length count ≡ rows * terms .columns
+  pub channel : (x : ℕ) → x < rows * terms .columns → ltb (terms .most) (getD count x 0) ≡ channelAt rows (terms .columns) (terms .rules) count x
+  pub order-is : Downhill rows (terms .columns) dir order places
+
+-- ---- the map as the code reads it
+
+module _ (rows cols : ℕ) (lv dir : List ℕ) (capped : (x : ℕ) → getD lv x 0 ≤ 1900000) where
+  drop-le : (x : ℕ) → dropAt rows cols lv dir x ≤ 1900000
+  unfolding dropAt
+  drop-le x = go (flowsAt rows cols dir x)
+    where
+      go : (b : Bool) → cond b (getD lv x 0 - getD lv (nextAt rows cols dir x) 0) 0 ≤ 1900000
+      go true = omega (arith, capped x)
+      go false = omega arith
+
+  fall-valid : (x : ℕ) → mappedAt rows cols dir x ≡ true → fallAt rows cols lv dir x ≡ fallOf (sideOf (getD dir x 255)) (dropAt rows cols lv dir x)
+  unfolding fallAt
+  fall-valid x v = rw v
+
+  fall-none : (x : ℕ) → mappedAt rows cols dir x ≡ false → fallAt rows cols lv dir x ≡ noFall
+  unfolding fallAt
+  fall-none x v = rw v
+
+  pub valid-fall : {f : ℕ} (x : ℕ) → mappedAt rows cols dir x ≡ true → f ≡ fallAt rows cols lv dir x → (f ≤ greatestFall) × (steepnessOf f ≡ steepnessAt rows cols lv dir x)
+  unfolding steepnessAt
+  valid-fall {f} x v e =
+      let k = sideOf (getD dir x 255) in
+      let q = e ∙ fall-valid x v in
+      (omega (arith, q, fall-small k (dropAt rows cols lv dir x) (drop-le x)), ap steepnessOf q ∙ fall-steepness k (dropAt rows cols lv dir x))
+
+-- ---- the turn of one cell
+
+module _ {rows : ℕ} {lv dir count order : List ℕ} {places : ℕ} {terms : Terms} (c : Charted rows lv terms dir count order places) where
+  abbrev cols : ℕ
+  cols = terms .columns
+
+  abbrev size : ℕ
+  size = rows * terms .columns
+
+  abbrev to : ℕ → ℕ
+  to = receiverOf rows cols dir
+
+  abbrev whole : ℕ → ℕ
+  whole = gatheredAt rows cols (terms .side) (terms .rules) lv dir count
+
+  abbrev final : ℕ → ℕ
+  final = lengthAt rows cols (terms .side) (terms .rules) lv dir count
+
+  abbrev Walks : List ℕ → List ℕ → ℕ → Type 0
+  Walks lengths factors p = Walking rows cols (terms .side) (terms .rules) lv dir count order lengths factors p
+
+  abbrev handed : Handed max greatestTo size (mappedAt rows cols dir) to (givenBy rows cols (terms .side) (terms .rules) lv dir count) (λ z. 0) whole
+  handed = lengths-handed (c .directed) (terms .side) (terms .rules) lv count
+
+  module _ {lengths factors : List ℕ} {p x : ℕ} (w : Walks lengths factors p) (h : p < places) (e : x ≡ getD order p 0) where
+    here-valid : mappedAt rows cols dir x ≡ true
+    here-valid = ap (mappedAt rows cols dir) e ∙ order-cell (c .order-is .cells) p h
+
+    here-in : x < size
+    here-in = pointing (c .directed) .within x here-valid
+
+    here-new : standsIn order p x ≡ 0
+    here-new = ap (standsIn order p) e ∙ order-new (c .order-is .cells) p h
+
+    -- the gathered amount is whole
+    here-whole : getD lengths x 0 ≡ whole x
+    here-whole = ap (λ (z : ℕ). getD lengths z 0) e ∙ next-whole handed (c .order-is .cells) (w .handing) h ∙ ap whole (sym e)
+
+    here-fall : (getD factors x 0 ≤ greatestFall) × (steepnessOf (getD factors x 0) ≡ steepnessAt rows cols lv dir x)
+    here-fall = valid-fall rows cols lv dir (c .capped) x here-valid (w .falls x here-in here-new)
+
+    code-some : getD dir x 0 ≡ 255 → ⊥
+    code-some q = mapped-is rows cols dir x here-valid (code-read (c .directed) x here-in ∙ q)
+
+    -- its length
+    here-length : lengthNow terms dir count lengths factors x ≡ settledAt rows cols (terms .side) (terms .rules) lv dir count x (whole x)
+    unfolding settledAt
+    here-length = ap₂ settledOf (c .channel x here-in) here-whole
+
+    here-final : lengthNow terms dir count lengths factors x ≡ final x
+    here-final = here-length ∙ settled-is (c .directed) (terms .side) (terms .rules) lv count x here-valid
+
+    module _ (k : sideAt dir x < 8) where
+      -- the cell that it points at
+      next-is : besideOf cols x (sideAt dir x) ≡ to x
+      next-is = beside-is rows cols x (sideAt dir x) (receiver-near (c .directed) x here-in code-some k) ∙ receiver-beside (c .directed) x here-in code-some k
+
+      next-in : to x < size
+      next-in = omega (arith, receiver-near (c .directed) x here-in code-some k, receiver-beside (c .directed) x here-in code-some k)
+
+      next-fall : (getD factors (to x) 0 ≤ greatestFall) × (steepnessOf (getD factors (to x) 0) ≡ steepnessAt rows cols lv dir (to x))
+      next-fall = valid-fall rows cols lv dir (c .capped) (to x) (pointing (c .directed) .stays x next-in) (w .falls (to x) next-in (hand-next handed (w .handing) x here-new))
+
+      -- what it hands on
+      here-given : amountNow terms dir count lengths factors x (to x) + 1 ≡ givenBy rows cols (terms .side) (terms .rules) lv dir count x (whole x)
+      unfolding givenBy broughtTo broughtBy cutoffAt
+      here-given = rw (here-fall .1, next-fall .1, receiver-side (c .directed) x here-in code-some k, here-length)
+
+    pub walk-turning : Turning terms dir count lengths factors x
+    walk-turning =
+        record {
+          side-some = c .side-some;
+          side-small = c .side-small;
+          dir-in = omega (arith, here-in, c .directed .long);
+          count-in = omega (arith, here-in, c .count-long);
+          lengths-in = omega (arith, here-in, w .handing .long);
+          factors-in = omega (arith, here-in, w .factors-long);
+          lengths-few = omega (arith, w .handing .long, c .directed .sized .small);
+          factors-few = omega (arith, w .factors-long, c .directed .sized .small);
+          fall-small = here-fall .0;
+          gathered-small = omega (arith, here-whole, gathered-small (c .directed) (terms .side) (terms .rules) lv count x);
+          beside-room = (λ k. beside-room rows cols x (sideAt dir x) (c .directed .sized) (omega (arith, here-in, c .directed .sized .small)) k (receiver-near (c .directed) x here-in code-some k));
+          next-other = (λ k q. pointing (c .directed) .apart x (next-in k) (sym (next-is k) ∙ q));
+          next-lengths = (λ k. omega (arith, next-is k, next-in k, w .handing .long));
+          next-factors = (λ k. omega (arith, next-is k, next-in k, w .factors-long));
+          next-small = (λ k. omega (arith, ap (λ (z : ℕ). getD factors z 0) (next-is k), next-fall k .0));
+        }
+
+    module _ {lengths′ factors′ : List ℕ} (t : Turned terms dir count lengths factors x lengths′ factors′) where
+      abbrev now : ℕ
+      now = lengthNow terms dir count lengths factors x
+
+      stored : getD (set lengths x now) x 0 ≡ settledAt rows cols (terms .side) (terms .rules) lv dir count x (whole x)
+      stored = getD-set-same lengths x now 0 (omega (arith, here-in, w .handing .long)) ∙ here-length
+
+      turn-of : Turn max size to (givenBy rows cols (terms .side) (terms .rules) lv dir count) whole (settledAt rows cols (terms .side) (terms .rules) lv dir count) lengths lengths′ x
+      turn-of =
+          turn-stored handed now
+          (elim (decLt (sideAt dir x) 8) [
+            | yes k ↦ subst (λ (l : List ℕ). Turn max size to (givenBy rows cols (terms .side) (terms .rules) lv dir count) whole (settledAt rows cols (terms .side) (terms .rules) lv dir count) (set lengths x now) l x) (sym (on k))
+                (turn-on handed (length-set lengths x now ∙ w .handing .long) (next-in k) stored (ap₂ max (sym (getD-set-other lengths x (to x) now 0 (pointing (c .directed) .apart x (next-in k)))) (here-given k)))
+            | no f ↦ subst (λ (l : List ℕ). Turn max size to (givenBy rows cols (terms .side) (terms .rules) lv dir count) whole (settledAt rows cols (terms .side) (terms .rules) lv dir count) (set lengths x now) l x) (sym (t .leaves (omega arith)))
+                (turn-off handed (omega (arith, receiver-leaves (c .directed) x here-in (omega arith))) stored)
+          ])
+        where
+          on : (k : sideAt dir x < 8) → lengths′ ≡ set (set lengths x now) (to x) (max (getD lengths (to x) 0) (amountNow terms dir count lengths factors x (to x) + 1))
+          on k = t .hands-on k ∙ ap (λ (y : ℕ). set (set lengths x now) y (max (getD lengths y 0) (amountNow terms dir count lengths factors x y + 1))) (next-is k)
+
+      stands : (z : ℕ) → standsIn order (p + 1) z ≡ standsIn order p z + when (eqb x z) 1
+      stands z = stands-more order p z ∙ ap (λ (y : ℕ). standsIn order p z + when (eqb y z) 1) (sym e)
+
+      abbrev made : ℕ
+      made = factorOf (terms .side) (steepnessOf (getD factors x 0)) now
+
+      other : (z : ℕ) → (z ≡ x → ⊥) → getD factors′ z 0 ≡ getD factors z 0
+      other z q = ap (λ (l : List ℕ). getD l z 0) (t .factors-are) ∙ getD-set-other factors x z made 0 q
+
+      same : getD factors′ x 0 ≡ factorOf (terms .side) (steepnessAt rows cols lv dir x) (final x)
+      same = ap (λ (l : List ℕ). getD l x 0) (t .factors-are) ∙ getD-set-same factors x made 0 (omega (arith, here-in, w .factors-long)) ∙ ap₂ (factorOf (terms .side)) (here-fall .1) here-final
+
+      pub walk-turn : Walking rows (terms .columns) (terms .side) (terms .rules) lv dir count order lengths′ factors′ (p + 1)
+      walk-turn =
+          record {
+            handing = next-turn handed (c .order-is .cells) (w .handing) h (subst (Turn max size to (givenBy rows cols (terms .side) (terms .rules) lv dir count) whole (settledAt rows cols (terms .side) (terms .rules) lv dir count) lengths lengths′) e turn-of);
+            factors-long = ap length (t .factors-are) ∙ length-set factors x made ∙ w .factors-long;
+            falls = (λ z l q. let f : z ≡ x → ⊥ = λ g. omega (arith, stands z, when-yes 1 (eq-eqb x z (sym g))) in other z f ∙ w .falls z l (omega (arith, stands z)));
+            done = (λ z q. elim (ℕ-discrete z x) [ yes g ↦ ap (λ (y : ℕ). getD factors′ y 0) g ∙ same ∙ ap (λ (y : ℕ). factorOf (terms .side) (steepnessAt rows cols lv dir y) (final y)) (sym g) | no f ↦ other z f ∙ w .done z (omega (arith, stands z, when-no 1 (ne-eqb x z (λ g. f (sym g))))) ]);
+          }
+
+-- ---- the start and the end
+
+module _ {rows cols side : ℕ} {lv dir count order lengths factors : List ℕ} {places : ℕ} (m : Measuring rows cols side lv dir count order places lengths factors) (rules : Rules) where
+  abbrev cells : ℕ
+  cells = rows * cols
+
+  pub measure-charted : {most : ℕ} → ((x : ℕ) → x < rows * cols → ltb most (getD count x 0) ≡ channelAt rows cols rules count x) → Charted rows lv (record { columns = cols; side = side; rules = rules; most = most }) dir count order places
+  measure-charted q = record { directed = m .directed; capped = m .capped; side-some = m .side-some; side-small = m .side-small; count-long = m .count-long; channel = q; order-is = m .order-is }
+
+  falls-long : length (fallsOf rows cols lv dir) ≡ cells
+  unfolding fallsOf
+  falls-long = length-tab cells (fallAt rows cols lv dir)
+
+  falls-at : (z : ℕ) → z < cells → getD (fallsOf rows cols lv dir) z 0 ≡ fallAt rows cols lv dir z
+  unfolding fallsOf
+  falls-at z h = getD-tab cells (fallAt rows cols lv dir) 0 z h
+
+  pub walk-start : {zeros : List ℕ} → zeros ≡ replicate (length lengths) 0 → Walking rows cols side rules lv dir count order zeros factors 0
+  walk-start {zeros} e =
+      record {
+        handing = hand-start (lengths-handed (m .directed) side rules lv count) order (ap length e ∙ length-replicate (length lengths) 0 ∙ m .lengths-long) (λ z h. ap (λ (l : List ℕ). getD l z 0) e ∙ getD-replicate (length lengths) z 0 0 (omega (arith, m .lengths-long)));
+        factors-long = ap length (m .falls-are) ∙ falls-long;
+        falls = (λ z h q. ap (λ (l : List ℕ). getD l z 0) (m .falls-are) ∙ falls-at z h);
+        done = (λ z q. absurd (omega (arith, stands-none order z)));
+      }
+
+  module _ {lengths′ factors′ : List ℕ} (w : Walking rows cols side rules lv dir count order lengths′ factors′ places) where
+    abbrev valid-at : ℕ → Bool
+    valid-at = mappedAt rows cols dir
+
+    abbrev length-of : ℕ → ℕ
+    length-of = lengthAt rows cols side rules lv dir count
+
+    length-there : (z : ℕ) → z < cells → getD lengths′ z 0 ≡ length-of z
+    length-there z h =
+        ⊎-elim (λ v. hand-all (lengths-handed (m .directed) side rules lv count) (m .order-is .cells) (w .handing) z v ∙ settled-is (m .directed) side rules lv count z v)
+        (λ v. hand-rest (lengths-handed (m .directed) side rules lv count) (m .order-is .cells) (w .handing) z h v ∙ gathered-none (m .directed) side rules lv count z h v ∙ sym (length-none (m .directed) side rules lv count z v)) (two (valid-at z))
+
+    factor-there : (z : ℕ) → z < cells → getD factors′ z 0 ≡ factorAt rows cols side lv dir lengths′ z
+    unfolding factorAt
+    factor-there z h =
+        ⊎-elim (λ v. w .done z (omega (arith, m .order-is .cells .once z, when-yes 1 v)) ∙ ap (factorOf side (steepnessAt rows cols lv dir z)) (sym (length-there z h)) ∙ sym (rw v))
+        (λ v. w .falls z h (omega (arith, m .order-is .cells .once z, when-no 1 v)) ∙ fall-none rows cols lv dir (m .capped) z v ∙ sym (rw v)) (two (valid-at z))
+
+    pub walk-all : (lengths′ ≡ lengthsOf rows cols side rules lv dir count) × (factors′ ≡ factorsOf rows cols side lv dir lengths′)
+    unfolding factorsOf
+    walk-all = (
+      ext-getD 0 lengths′ (lengthsOf rows cols side rules lv dir count) (w .handing .long ∙ sym (lengths-long (m .directed) side rules lv count)) (λ z h. let l : z < cells = omega (arith, w .handing .long) in length-there z l ∙ sym (lengths-at (m .directed) side rules lv count z l)),
+      ext-getD 0 factors′ (factorsOf rows cols side lv dir lengths′) (w .factors-long ∙ sym (length-tab cells (factorAt rows cols side lv dir lengths′))) (λ z h. let l : z < cells = omega (arith, w .factors-long) in factor-there z l ∙ sym (getD-tab cells (factorAt rows cols side lv dir lengths′) 0 z l)),
+    )

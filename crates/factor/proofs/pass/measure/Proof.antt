@@ -1,0 +1,132 @@
+-- `factor::pass::measure` meets its contract. Assumes nothing.
+use mathlib.Core.Path.{_≡_, refl, subst, _∙_}
+use mathlib.Core.List.{List}
+use Prim.Native.Nat.{ℕ, _*_, _-_, _≤_, _<_}
+use native.Mathlib.Omega.{arith}
+use lib.Dec.{ltb}
+use lib.ListN.{length, getD}
+use borrow.Author.Needs.{needs}
+use Rattle.terrain.proofs.Public.{place-cell, downhill-few}
+use Rattle.factor.specs.Channel.{isChannel, channelAt}
+use Rattle.factor.proofs.Channels.{bounded}
+use Rattle.factor.proofs.Walking.{Walking, Charted, measure-charted, walk-start, walk-turning, walk-turn, walk-all}
+use Rattle.factor.proofs.pass.measure.Statement.{statement}
+use Rattle.factor.proofs.pass.measure.Tie as tie
+
+abbrev Inv-loop : tie.InvT-loop
+Inv-loop columns side direction count order places lengths₀ factors₀ terms lists place₀ lengths factors place =
+    (length lengths ≡ length lengths₀) × (length factors ≡ length factors₀) × (place ≤ places)
+    × ((rows : ℕ) (lv : List ℕ) → Charted rows lv terms direction count order places → Walking rows (terms .columns) (terms .side) (terms .rules) lv direction count order lengths₀ factors₀ 0 → Walking rows (terms .columns) (terms .side) (terms .rules) lv direction count order lengths factors place)
+
+abbrev μ-loop : tie.MeasureT-loop
+μ-loop columns side direction count order places lengths₀ factors₀ terms lists place₀ lengths factors place =
+    places - place
+
+-- the arguments, from the channel rule's bound on; and the cleared lengths, from the loop on
+abbrev start : tie.After-channel-bound Inv-loop μ-loop → tie.Start Inv-loop μ-loop
+start c = c .before .before .before .before .before .before .before
+
+abbrev cleared : tie.At-loop Inv-loop μ-loop → tie.After-clear Inv-loop μ-loop
+cleared c = c .before .before .before
+
+abbrev bound : tie.At-loop Inv-loop μ-loop → tie.After-channel-bound Inv-loop μ-loop
+bound c = cleared c .before .before .before
+
+-- the bound tells channels
+channels : (c : tie.After-channel-bound Inv-loop μ-loop) (rows : ℕ) → length (start c .args .count .now) ≡ rows * start c .args .columns → (x : ℕ) → x < rows * start c .args .columns → ltb (c .channel-bound .result) (getD (start c .args .count .now) x 0) ≡ channelAt rows (start c .args .columns) (start c .args .rules) (start c .args .count .now) x
+channels c rows e =
+    let s = start c in
+    bounded rows (s .args .columns) (s .args .rules) (c .channel-bound .result) (s .args .count .now) e
+    (subst (λ (n : ℕ). (k : ℕ) → k ≤ n → ltb (c .channel-bound .result) k ≡ isChannel (s .args .rules .threshold) n k) (c .before .largest .ensures) (c .channel-bound .ensures))
+
+largest-requires : tie.Need-largest-requires Inv-loop μ-loop
+largest-requires c κs = search needs
+
+channel-bound-requires : tie.Need-channel-bound-requires Inv-loop μ-loop
+channel-bound-requires c κs = search needs
+
+all-requires : tie.Need-all-requires Inv-loop μ-loop
+all-requires c κs = search needs
+
+clear-requires : tie.Need-clear-requires Inv-loop μ-loop
+clear-requires c κs = search needs
+
+loop-holds : tie.Need-loop-holds Inv-loop μ-loop
+loop-holds c = (refl, refl, omega arith, λ rows lv m w. w)
+
+mul-turn : tie.Need-mul-turn Inv-loop μ-loop
+mul-turn c = let m = start (bound (c .before .before .before)) .pre .2 in omega (arith, downhill-few (m .directed) (m .order-is), m .directed .sized .small)
+
+shared-slice-read-turn : tie.Need-shared-slice-read-turn Inv-loop μ-loop
+shared-slice-read-turn c = omega (arith, start (bound (c .before .before .before .before)) .pre .2 .order-is .room)
+
+cast-turn : tie.Need-cast-turn Inv-loop μ-loop
+cast-turn c = let l = c .before .before .before .before in let m = start (bound l) .pre .2 in omega (arith, place-cell (m .directed) {p = l .loop .place} (m .order-is) (omega arith) refl, m .directed .sized .small)
+
+turn-requires : tie.Need-turn-requires Inv-loop μ-loop
+turn-requires c κs =
+    let a = c .before .before .before .before .before .before .before in
+    let l = a .before .before .before .before .before .before in
+    let b = bound l in
+    let s = start b in
+    let m = s .pre .2 in
+    let q = measure-charted m (s .args .rules) (channels b (s .pre .0) (m .count-long)) in
+    (walk-turning q (l .loop .inv .3 (s .pre .0) (s .pre .1) q (walk-start m (s .args .rules) (cleared l .clear .ensures))) (omega arith) refl, cleared l .before .before .all .ensures)
+
+add-place : tie.Need-add-place Inv-loop μ-loop
+add-place c =
+    let t = c .before .before .before .before in
+    let a = t .before .before .before .before .before .before .before in
+    let l = a .before .before .before .before .before .before .before in
+    let m = start (bound l) .pre .2 in
+    omega (arith, downhill-few (m .directed) (m .order-is), m .directed .sized .small)
+
+loop-less : tie.Need-loop-less Inv-loop μ-loop
+loop-less c = search needs
+
+loop-again : tie.Need-loop-again Inv-loop μ-loop
+loop-again c =
+    let t = c .before .before .before .before in
+    let a = t .before .before .before .before .before .before .before in
+    let l = a .before .before .before .before .before .before .before in (
+      c .before .before .before .lengths2 .given ∙ l .loop .inv .0,
+      c .before .factors .given ∙ l .loop .inv .1,
+      omega arith,
+      λ rows lv m w. walk-turn m (l .loop .inv .3 rows lv m w) (omega arith) refl (t .turn .ensures),
+    )
+
+same-length : tie.Need-same-length Inv-loop μ-loop
+same-length c = c .before .loop .inv .0 ∙ cleared (c .before) .clear .kept .0
+
+same-length-2 : tie.Need-same-length-2 Inv-loop μ-loop
+same-length-2 c = c .before .loop .inv .1
+
+returns : tie.Need-returns Inv-loop μ-loop
+returns c =
+    let l = c .before in
+    let b = bound l in
+    let s = start b in
+    let e : l .loop .place ≡ s .args .places = omega arith in
+    λ rows lv m. walk-all m (s .args .rules) (rw e at (l .loop .inv .3 rows lv (measure-charted m (s .args .rules) (channels b rows (m .count-long))) (walk-start m (s .args .rules) (cleared l .clear .ensures))))
+
+pub measure-spec : {M : Type 1} → statement M
+measure-spec =
+    tie.close
+    (tie.spec
+    Inv-loop
+    μ-loop
+    largest-requires
+    channel-bound-requires
+    all-requires
+    clear-requires
+    loop-holds
+    mul-turn
+    shared-slice-read-turn
+    cast-turn
+    turn-requires
+    add-place
+    loop-less
+    loop-again
+    same-length
+    same-length-2
+    returns)

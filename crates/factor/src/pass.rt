@@ -1,0 +1,152 @@
+// One pass along the order from the ridges down. When a cell's turn comes all its inflows have handed on, so its length is final:
+// its LS is worked out, and its own amount goes to the cell that it points at. Document 01, "Length" and "LS".
+//
+// The grid of lengths holds what is gathered until a cell's turn comes: one more than the greatest amount brought, 0 for none. The
+// grid of factors holds the cells' falls until then, and NoData's LS, which is NoData's fall too.
+ghost use mathlib.Core.Path.{_≡_};
+ghost use mathlib.Core.List.{List};
+ghost use lib.ListN.{length, replicate};
+ghost use lib.Dec.{ltb};
+ghost use Prim.Native.Nat.{ℕ, _*_, _≤_, _<_, max};
+ghost use Rattle.terrain.specs.Inside.{Beside, besideOf};
+ghost use Rattle.factor.specs.Length.{lengthsOf};
+ghost use Rattle.factor.specs.Grid.{factorsOf};
+ghost use Rattle.factor.specs.Inner.{steepest, greatestLength, settledOf, broughtBy, Listed};
+ghost use Rattle.factor.specs.Pass.{Turning, Turned, Measuring};
+use crate::cell::factor_of;
+use crate::channel::channel_bound;
+use crate::channel::largest;
+use crate::inflow::START;
+use crate::inflow::amount_of;
+use crate::inflow::cutoff_for;
+use crate::inflow::step_over;
+use crate::slope::steepness_of;
+use crate::thresholds;
+use settings::Rules;
+
+// What lengths are measured by: the columns of the map, its cell side in cm, the rules, and the greatest count that is no channel's.
+pub(crate) struct Terms {
+    columns: usize,
+    side: u32,
+    rules: Rules,
+    most: u64,
+}
+
+fn longer(a: u64, b: u64) -> u64
+    ensures { λ r. ⌜ r ≡ max a b ⌝ }
+{
+    if a < b { b } else { a }
+}
+
+// The length of a cell of this count, from what is gathered there. Counts above `most` are those of channels.
+fn settled(most: u64, count: u32, gathered: u64) -> u64
+    ensures { λ r. ⌜ r ≡ settledOf (ltb most count) gathered ⌝ }
+{
+    if most < count as u64 {
+        return 0;
+    }
+    if gathered < 1 {
+        return START;
+    }
+    gathered - 1
+}
+
+// The neighbour at side k of a cell x that has one there.
+fn beside(columns: usize, x: usize, k: usize) -> usize
+    requires { ⌜ Beside columns x k ⌝ }
+    ensures { λ r. ⌜ r ≡ besideOf columns x k ⌝ }
+{
+    let place = terrain::place_of(k);
+    x + place / 4 * columns + place % 4 - columns - 1
+}
+
+// What an inflow of steepness p and this length brings over side k to a cell of steepness q.
+fn brought(terms: Terms, k: usize, p: u64, q: u64, length: u64) -> u64
+    requires { ⌜ (p ≤ steepest) × (q ≤ steepest) × (length ≤ greatestLength) ⌝ }
+    ensures { λ r. ⌜ r ≡ broughtBy (terms .side) (terms .rules) k p q length ⌝ }
+{
+    let n = cutoff_for(terms.side, terms.rules, q);
+    amount_of(n, q, p, step_over(k), length)
+}
+
+// The turn of the cell x.
+fn turn<'a>(
+    terms: Terms,
+    direction: &[u8],
+    count: &[u32],
+    lengths: &mut [u64],
+    factors: &mut [u32],
+    x: usize,
+    five: &'a [u32],
+    four: &'a [u32],
+    three: &'a [u32],
+    two: &'a [u32],
+)
+    requires { ⌜ Turning terms (now direction) (now count) (now lengths) (now factors) x × Listed (now five) (now four) (now three) (now two) ⌝ }
+    ensures { λ _. ⌜ Turned terms (now (direction .entry)) (now (count .entry)) (now (lengths .entry)) (now (factors .entry)) x (now (lengths .exit)) (now (factors .exit)) ⌝ }
+{
+    let length = settled(terms.most, count[x], lengths[x]);
+    lengths[x] = length;
+    let p = steepness_of(factors[x]);
+    factors[x] = factor_of(terms.side, p, length, five, four, three, two);
+    let k = u8::trailing_zeros(direction[x]) as usize;
+    if 8 <= k {
+        return;
+    }
+    let y = beside(terms.columns, x, k);
+    let amount = brought(terms, k, p, steepness_of(factors[y]), length);
+    lengths[y] = longer(lengths[y], amount + 1);
+}
+
+// Sets every length to 0.
+fn clear(lengths: &mut [u64])
+    ensures { λ _. ⌜ now (lengths .exit) ≡ replicate (length (now (lengths .entry))) 0 ⌝ }
+{
+    let mut x: usize = 0;
+    while x < lengths.len() {
+        lengths[x] = 0;
+        x += 1;
+    }
+}
+
+// The length and the LS of every cell, from the falls in `factors`, along the order of the valid cells at the first places.
+pub(crate) fn measure(
+    columns: usize,
+    side: u32,
+    rules: Rules,
+    direction: &[u8],
+    count: &[u32],
+    order: &[u32],
+    places: usize,
+    lengths: &mut [u64],
+    factors: &mut [u32],
+)
+    requires { ⌜ ((rows : ℕ) × (lv : List ℕ) × Measuring rows columns side lv (now direction) (now count) (now order) places (now lengths) (now factors)) ⌝ }
+    ensures { λ _. ⌜ ((rows : ℕ) (lv : List ℕ) → Measuring rows columns side lv (now (direction .entry)) (now (count .entry)) (now (order .entry)) places (now (lengths .entry)) (now (factors .entry)) → (now (lengths .exit) ≡ lengthsOf rows columns side rules lv (now (direction .entry)) (now (count .entry))) × (now (factors .exit) ≡ factorsOf rows columns side lv (now (direction .entry)) (now (lengths .exit)))) ⌝ }
+{
+    let threshold = rules.threshold;
+    let terms = Terms {
+        columns: columns,
+        side: side,
+        rules: rules,
+        most: channel_bound(threshold, largest(count)),
+    };
+    let lists = thresholds::all();
+    clear(lengths);
+    let mut place: usize = 0;
+    while place < places {
+        turn(
+            terms,
+            direction,
+            count,
+            lengths,
+            factors,
+            order[place] as usize,
+            &lists.five,
+            &lists.four,
+            &lists.three,
+            &lists.two,
+        );
+        place += 1;
+    }
+}

@@ -1,0 +1,90 @@
+-- The cell that a cell points at: how the code reads it from a code, and that no walk along the pointing comes back. Assumes nothing.
+use mathlib.Core.Path.{_≡_, refl, sym, ap, _∙_}
+use mathlib.Core.List.{List}
+use mathlib.Core.Logic.{⊎-elim}
+use mathlib.Core.Bool.{true, not}
+use Prim.Native.Nat.{ℕ, _*_, _≤_, _<_}
+use native.Mathlib.Omega.{arith}
+use lib.Count.{trailingZeros, trailing-of-zero}
+use lib.ListN.{getD}
+use lib.Dec.{eqb}
+use borrow.Author.Tests.{le-ltb}
+use Rattle.laws.specs.Orders.{Pointing, Falling}
+use Rattle.laws.proofs.Tests.{two}
+use Rattle.laws.proofs.Lists.{getD-any}
+use Rattle.terrain.specs.Cells.{neighbour, codeOf, sideOf}
+use Rattle.terrain.specs.Trail.{mappedAt, flowsAt, nextAt, stepsIn}
+use Rattle.terrain.specs.Directed.{Directed, receiverOf}
+use Rattle.terrain.proofs.Neighbours.{each-side, side-none}
+use Rattle.terrain.proofs.Trails.{Falls, is-mapped, mapped-in, flows-mapped, flows-code, code-next, receiver-flows, receiver-stops, receiver-points}
+
+-- the side of a code, as its lowest bit
+bit-side : (k : ℕ) → k < 8 → trailingZeros 8 (codeOf k) ≡ k
+unfolding trailingZeros
+bit-side = each-side (λ k. trailingZeros 8 (codeOf k) ≡ k) refl refl refl refl refl refl refl refl
+
+module _ {rows cols : ℕ} {dir : List ℕ} (d : Directed rows cols dir) where
+  abbrev rank : ℕ → ℕ
+  rank = stepsIn rows cols dir (rows * cols)
+
+  abbrev recv : ℕ → ℕ
+  recv = receiverOf rows cols dir
+
+  pub directed-falls : Falls rows cols dir (stepsIn rows cols dir (rows * cols))
+  directed-falls = record { long = d .long; stays = d .stays; less = d .less }
+
+  -- ---- valid cells point at valid cells, each nearer to the end of its trail
+
+  nearer : (x : ℕ) → recv x < rows * cols → rank (recv x) < rank x
+  nearer x h = let q = receiver-points rows cols dir x h in omega (arith, d .less x q, ap rank (receiver-flows rows cols dir x q))
+
+  pub pointing : Pointing (rows * cols) (mappedAt rows cols dir) (receiverOf rows cols dir)
+  pointing =
+      record {
+        within = mapped-in rows cols dir (d .long);
+        from = (λ x h. flows-mapped rows cols dir x (receiver-points rows cols dir x h));
+        stays = (λ x h. let q = receiver-points rows cols dir x h in ap (mappedAt rows cols dir) (receiver-flows rows cols dir x q) ∙ d .stays x q);
+        apart = (λ x h e. omega (arith, nearer x h, ap rank e));
+      }
+
+  pub falling : Falling (rows * cols) (receiverOf rows cols dir) (stepsIn rows cols dir (rows * cols))
+  falling = record { less = nearer }
+
+  receiver-in : (x : ℕ) → flowsAt rows cols dir x ≡ true → receiverOf rows cols dir x < rows * cols
+  receiver-in x q = omega (arith, receiver-flows rows cols dir x q, mapped-in rows cols dir (d .long) (nextAt rows cols dir x) (d .stays x q))
+
+  -- ---- as the code reads it
+
+  pub code-read : (x : ℕ) → x < rows * cols → getD dir x 255 ≡ getD dir x 0
+  code-read x h = getD-any dir x 255 0 (omega (arith, d .long))
+
+  pub mapped-read : (x : ℕ) → x < rows * cols → mappedAt rows cols dir x ≡ not (eqb (getD dir x 0) 255)
+  unfolding mappedAt
+  mapped-read x h = ap (λ (c : ℕ). not (eqb c 255)) (code-read x h)
+
+  pub receiver-none : (x : ℕ) → x < rows * cols → getD dir x 0 ≡ 255 → rows * cols ≡ receiverOf rows cols dir x
+  unfolding flowsAt
+  receiver-none x h e = sym (receiver-stops rows cols dir x (le-ltb (sideOf (getD dir x 255)) 8 (omega (arith, ap sideOf (code-read x h ∙ e) ∙ side-none))))
+
+  bit-of : (x : ℕ) → x < rows * cols → flowsAt rows cols dir x ≡ true → trailingZeros 8 (getD dir x 0) ≡ sideOf (getD dir x 255)
+  bit-of x h q = let c = flows-code rows cols dir x q in ap (trailingZeros 8) (sym (code-read x h) ∙ c .1) ∙ bit-side (sideOf (getD dir x 255)) (c .0)
+
+  pub receiver-leaves : (x : ℕ) → x < rows * cols → 8 ≤ trailingZeros 8 (getD dir x 0) → rows * cols ≡ receiverOf rows cols dir x
+  receiver-leaves x h k = ⊎-elim (λ q. absurd (omega (arith, bit-of x h q, flows-code rows cols dir x q .0))) (λ q. sym (receiver-stops rows cols dir x q)) (two (flowsAt rows cols dir x))
+
+  module _ (x : ℕ) (h : x < rows * cols) (v : getD dir x 0 ≡ 255 → ⊥) (k : trailingZeros 8 (getD dir x 0) < 8) where
+    bit-flows : flowsAt rows cols dir x ≡ true
+    bit-flows =
+        ⊎-elim (λ q. q)
+        (λ q. absurd (omega (arith, ap (trailingZeros 8) (sym (code-read x h) ∙ d .stops x (is-mapped rows cols dir x (λ e. v (sym (code-read x h) ∙ e))) q) ∙ trailing-of-zero 8))) (two (flowsAt rows cols dir x))
+
+    pub receiver-beside : neighbour rows cols x (trailingZeros 8 (getD dir x 0)) ≡ receiverOf rows cols dir x
+    receiver-beside =
+        let c = flows-code rows cols dir x bit-flows in
+        ap (neighbour rows cols x) (bit-of x h bit-flows) ∙ sym (code-next rows cols dir x (sideOf (getD dir x 255)) (c .0) (c .1)) ∙ sym (receiver-flows rows cols dir x bit-flows)
+
+    pub receiver-side : trailingZeros 8 (getD dir x 0) ≡ sideOf (getD dir x 255)
+    receiver-side = bit-of x h bit-flows
+
+    pub receiver-near : neighbour rows cols x (trailingZeros 8 (getD dir x 0)) < rows * cols
+    receiver-near = omega (arith, receiver-beside, receiver-in x bit-flows)
