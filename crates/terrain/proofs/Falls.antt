@@ -1,13 +1,14 @@
 -- Laws of the loops that work out the directions: the codes and the falls of the cells passed, then those of flats. Assumes nothing.
 use mathlib.Core.Path.{_≡_, refl, sym, ap, subst, _∙_}
 use mathlib.Core.List.{List}
-use mathlib.Core.Bool.{Bool, true, false, cond, true≢false}
+use mathlib.Core.Bool.{Bool, true, false, cond, _&&_, true≢false}
 use Prim.Native.Nat.{ℕ, _+_, _-_, _*_, _≤_, _<_}
 use native.Mathlib.Omega.{arith}
-use native.Mathlib.Decide.{decLt}
+use native.Mathlib.Decide.{decLt, ℕ-discrete}
 use lib.ListN.{length, getD, set, length-set}
 use lib.Seq.{getD-set-other}
-use borrow.Author.Tests.{ltb-true, lt-ltb}
+use lib.Dec.{eqb}
+use borrow.Author.Tests.{ltb-true, lt-ltb, eq-eqb, ne-eqb}
 use borrow.Author.Count.{below-more}
 use Rattle.laws.specs.Lists.{tab, Agrees}
 use Rattle.laws.proofs.Lists.{agrees-none, agrees-more, agrees-tab, getD-tab, length-tab}
@@ -38,6 +39,22 @@ module _ {rows cols : ℕ} {lv : List ℕ} where
 
 module _ (rows cols : ℕ) (lv : List ℕ) (x : ℕ) where
   -- ---- the codes of the sides passed
+
+  -- as the code tells: the neighbour's steps are one less than the cell's
+  one-less : (a b : ℕ) → 0 < b → eqb a (b - 1) ≡ eqb (a + 1) b
+  one-less a b h = elim (ℕ-discrete a (b - 1)) [ yes e ↦ eq-eqb a (b - 1) e ∙ sym (eq-eqb (a + 1) b (omega arith)) | no f ↦ ne-eqb a (b - 1) f ∙ sym (ne-eqb (a + 1) b (λ e. f (omega arith))) ]
+
+  turned : (a b : Bool) → (a && b) ≡ (b && a)
+  turned true true = refl
+  turned true false = refl
+  turned false true = refl
+  turned false false = refl
+
+  pub nearer-told : (st : List ℕ) (k : ℕ) {y : ℕ} {r : Bool} → y ≡ neighbour rows cols x k → 0 < getD st x 0 → r ≡ (eqb (getD st y 0) (getD st x 0 - 1) && eqb (getD lv y 0) (getD lv x 0)) → r ≡ nearerAt rows cols lv st x k
+  nearer-told st k {y} e h q =
+      q ∙ turned (eqb (getD st y 0) (getD st x 0 - 1)) (eqb (getD lv y 0) (getD lv x 0))
+      ∙ ap (λ (b : Bool). eqb (getD lv y 0) (getD lv x 0) && b) (one-less (getD st y 0) (getD st x 0) h)
+      ∙ ap (λ (z : ℕ). eqb (getD lv z 0) (getD lv x 0) && eqb (getD st z 0 + 1) (getD st x 0)) e
 
   -- no side below k is nearer
   abbrev pub NoneNearer : List ℕ → ℕ → Type 0

@@ -2,7 +2,7 @@
 use mathlib.Core.Path.{_≡_, refl, sym, ap, _∙_}
 use mathlib.Core.List.{List}
 use mathlib.Core.Logic.{⊎-elim}
-use mathlib.Core.Bool.{Bool, true, false, not, _&&_, _||_, true≢false}
+use mathlib.Core.Bool.{Bool, true, false, not, cond, _&&_, _||_, true≢false}
 use Prim.Native.Nat.{ℕ, zero, suc, _+_, _*_, _≤_, _<_, min}
 use native.Mathlib.Omega.{arith}
 use native.Mathlib.Numerals.{add-one}
@@ -124,11 +124,24 @@ module _ (rows cols : ℕ) (lv : List ℕ) where
   pub seen-same : (d : List ℕ) (x k : ℕ) → getD lv (neighbour rows cols x k) 0 ≡ getD lv x 0 → seenAt rows cols lv d x k ≡ getD d (neighbour rows cols x k) 0
   seen-same d x k e = simp (eq-eqb (getD lv (nb x k) 0) (getD lv x 0) e)
 
-  seen-level : (d : List ℕ) (x k : ℕ) → seenAt rows cols lv d x k < farSteps → getD lv (nb x k) 0 ≡ getD lv x 0
+  pub seen-level : (d : List ℕ) (x k : ℕ) → seenAt rows cols lv d x k < farSteps → getD lv (neighbour rows cols x k) 0 ≡ getD lv x 0
   seen-level d x k h = elim (ℕ-discrete (getD lv (nb x k) 0) (getD lv x 0)) [ yes e ↦ e | no f ↦ absurd (other (ne-eqb (getD lv (nb x k) 0) (getD lv x 0) f)) ]
     where
       other : eqb (getD lv (nb x k) 0) (getD lv x 0) ≡ false → ⊥
       other e = omega (arith, rw e at h)
+
+  -- steps above 0 that stay above 0 are still so for the nearest
+  seen-some : (d e : List ℕ) (x k : ℕ) → ((z : ℕ) → 0 < getD d z 0 → 0 < getD e z 0) → 0 < seenAt rows cols lv d x k → 0 < seenAt rows cols lv e x k
+  seen-some d e x k f = go (eqb (getD lv (nb x k) 0) (getD lv x 0))
+    where
+      go : (b : Bool) → 0 < cond b (getD d (nb x k) 0) farSteps → 0 < cond b (getD e (nb x k) 0) farSteps
+      go true h = f (nb x k) h
+      go false h = h
+
+  pub nearest-some : (d e : List ℕ) (x n : ℕ) → ((z : ℕ) → 0 < getD d z 0 → 0 < getD e z 0) → 0 < nearestOf rows cols lv d x n → 0 < nearestOf rows cols lv e x n
+  unfolding nearestOf
+  nearest-some d e x zero f h = omega arith
+  nearest-some d e x (suc n) f h = omega (arith, nearest-some d e x n f (omega arith), seen-some d e x n f (omega arith))
 
   -- ---- the rule
 

@@ -14,6 +14,7 @@ mod Answers
 mod Interior
 mod Flooding
 mod Stepping
+mod Wading
 mod Keys
 mod Falls
 mod Dropping

@@ -7,11 +7,11 @@ use Prim.Native.Nat.{ℕ, _+_, _-_, _*_, _/_, _%_, _≤_}
 use lib.ListN.{length, getD, set}
 use lib.Dec.{ltb, leb, eqb}
 use Rattle.laws.specs.Lists.{Agrees}
-use Rattle.laws.specs.Settle.{Loose, relaxedOf}
+use Rattle.laws.specs.Settle.{relaxedOf}
 use Rattle.terrain.specs.Cells.{neighbour, codeOf, validAt}
 use Rattle.terrain.specs.Inside.{Sized}
 use Rattle.terrain.specs.Filled.{top}
-use Rattle.terrain.specs.Flat.{farSteps, hasLower, flatAt, nearestOf, flatStepping, StepsKept}
+use Rattle.terrain.specs.Flat.{farSteps, hasLower, flatAt, nearestOf, flatStepping}
 use Rattle.terrain.specs.Direction.{steepSide}
 use Rattle.terrain.specs.Falls.{noFall}
 use Rattle.terrain.specs.declared.direction.Fall.{Fall}
@@ -31,20 +31,6 @@ startOn v low = cond (ltb 0 v && leb v low) farSteps 0
 unfoldable pub startAt : ℕ → ℕ → List ℕ → ℕ → ℕ
 unfolding flatAt
 startAt rows cols lv x = cond (flatAt rows cols lv x) farSteps 0
-
--- the steps after the cell y was reached: lowered to n if they were more and its level is v; and the number e of entries of a queue with room for `room`
-pub record Reached (lv d₀ d : List ℕ) (v n y room e : ℕ) : Type 0 where
-  pub is : d ≡ cond (ltb n (getD d₀ y 0) && eqb (getD lv y 0) v) (set d₀ y n) d₀
-  pub fits : e ≤ room
-
--- steps that were lowered, and the number e of entries of a queue with room for `room`
-pub record Spread (rows cols : ℕ) (lv d : List ℕ) (room e : ℕ) : Type 0 where
-  pub kept : StepsKept rows cols lv d
-  pub fits : e ≤ room
-
--- a search for cells that can be lowered
-abbrev pub StepsLoose : ℕ → ℕ → List ℕ → List ℕ → ℕ → ℕ → ℕ → Type 0
-StepsLoose rows cols lv = Loose (flatStepping rows cols lv)
 
 -- the steps of the cell x were lowered, if they could be
 pub record LoweredSteps (rows cols : ℕ) (lv d₀ d : List ℕ) (x : ℕ) (lowered : Bool) : Type 0 where

@@ -12,3 +12,4 @@ pub mod Answers
 pub mod Inside
 pub mod Flood
 pub mod Levels
+pub mod Wading

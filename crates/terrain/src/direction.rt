@@ -8,8 +8,8 @@ ghost use lib.Dec.{ltb, eqb};
 ghost use Rattle.laws.specs.Lists.{tab};
 ghost use Rattle.terrain.specs.Cells.{neighbour, codeOf};
 ghost use Rattle.terrain.specs.Inside.{Sized, Inside, RunsTo};
-ghost use Rattle.terrain.specs.Flat.{flatSteps, farSteps};
-ghost use Rattle.terrain.specs.Direction.{directionsOf};
+ghost use Rattle.terrain.specs.Flat.{flatSteps, StepsKept};
+ghost use Rattle.terrain.specs.Direction.{nearerSide, directionsOf};
 ghost use Rattle.terrain.specs.Falls.{noFall, fallsOf};
 ghost use Rattle.terrain.specs.Filled.{top};
 ghost use Rattle.terrain.specs.Levels.{Levels, dropOf, keyOf, sideKey, Chosen, downAt, FallTo, Down};
@@ -184,15 +184,33 @@ fn point_down(rows: usize, columns: usize, level: &[u32], direction: &mut [u8], 
     }
 }
 
-// Whether the neighbour y of the cell x has the same level and is one step nearer.
-fn is_nearer(level: &[u32], steps: &[u32], x: usize, y: usize) -> bool
-    requires { ⌜ (x < length (now level)) × (x < length (now steps)) × ((i : ℕ) → getD (now steps) i 0 ≤ farSteps) ⌝ }
-    ensures { λ r. ⌜ r ≡ (eqb (getD (now (level .entry)) y 0) (getD (now (level .entry)) x 0) && eqb (getD (now (steps .entry)) y 0 + 1) (getD (now (steps .entry)) x 0)) ⌝ }
+// Whether the neighbour y of a cell of level v has the same level and d steps.
+fn is_nearer(level: &[u32], steps: &[u32], v: u32, d: u32, y: usize) -> bool
+    requires { ⌜ (y < length (now level)) × (y < length (now steps)) ⌝ }
+    ensures { λ r. ⌜ r ≡ (eqb (getD (now (steps .entry)) y 0) d && eqb (getD (now (level .entry)) y 0) v) ⌝ }
 {
-    if value_at(level, y) != level[x] {
+    if steps[y] != d {
         return false;
     }
-    value_at(steps, y) + 1 == steps[x]
+    level[y] == v
+}
+
+// The code of the first neighbour of a flat cell x that has the same level and is one step nearer. All its neighbours are on
+// the grid.
+fn flat_code(columns: usize, level: &[u32], steps: &[u32], x: usize) -> u8
+    requires { ⌜ ((rows : ℕ) × Levels rows columns (now level) × StepsKept rows columns (now level) (now steps) × (0 < getD (now steps) x 0)) ⌝ }
+    ensures { λ r. ⌜ ((rows : ℕ) → Levels rows columns (now (level .entry)) → StepsKept rows columns (now (level .entry)) (now (steps .entry)) → r ≡ codeOf (nearerSide rows columns (now (level .entry)) (now (steps .entry)) x)) ⌝ }
+{
+    let v = level[x];
+    let d = steps[x] - 1;
+    let mut k: usize = 0;
+    while k < 8 {
+        if is_nearer(level, steps, v, d, beside(columns, x, k)) {
+            return code_of(k);
+        }
+        k += 1;
+    }
+    0
 }
 
 // Points every flat cell at its first neighbour of the same level that is one step nearer.
@@ -203,18 +221,7 @@ fn point_flats(rows: usize, columns: usize, level: &[u32], steps: &[u32], direct
     let mut x: usize = 0;
     while x < direction.len() {
         if 0 < steps[x] {
-            let inside = is_inside(rows, columns, x);
-            let mut k: usize = 0;
-            let code = loop {
-                if 8 <= k {
-                    break 0;
-                }
-                if is_nearer(level, steps, x, neighbour(rows, columns, x, k, inside)) {
-                    break code_of(k);
-                }
-                k += 1;
-            };
-            direction[x] = code;
+            direction[x] = flat_code(columns, level, steps, x);
         }
         x += 1;
     }

@@ -1,22 +1,26 @@
 // Steps over flats: the fewest steps over cells of equal level to a cell with a lower neighbour or to a rim cell, breadth
 // first from those (as in Barnes, Lehman and Mulla 2014, "An efficient assignment of drainage direction over flat surfaces").
-// Every store lowers a cell's steps to one more than those of a neighbour of equal level.
+// Every store lowers a cell's steps to one more than those of a neighbour of equal level, and puts the cell into a queue;
+// taken from it, the cell reaches its neighbours. So once the queue is empty no steps can be lowered, in whatever order that
+// went; sweeps go on if the queue was full, which does not happen.
 ghost use mathlib.Core.Path.{_≡_};
-ghost use mathlib.Core.Bool.{cond};
+ghost use mathlib.Core.List.{List};
+ghost use mathlib.Core.Bool.{true, cond};
 ghost use Prim.Native.Nat.{ℕ, _+_, _*_, _≤_, _<_};
 ghost use lib.ListN.{length, getD};
 ghost use lib.Dec.{eqb};
 ghost use Rattle.laws.specs.Lists.{Agrees};
 ghost use Rattle.laws.specs.Settle.{startOf, Sweeping};
-ghost use Rattle.terrain.specs.Inside.{Inside, RunsTo};
-ghost use Rattle.terrain.specs.Flat.{farSteps, nearestOf, flatStepping, flatSteps, Within, StepsKept, StepsStill};
-ghost use Rattle.terrain.specs.Levels.{Levels, startOn, startAt, Reached, Spread, StepsLoose, LoweredSteps};
+ghost use Rattle.terrain.specs.Inside.{RunsTo};
+ghost use Rattle.terrain.specs.Flat.{farSteps, flatAt, nearestOf, flatStepping, flatSteps, Within, StepsKept};
+ghost use Rattle.terrain.specs.Levels.{Levels, startOn, startAt, LoweredSteps};
+ghost use Rattle.terrain.specs.Wading.{Put, Reached, Shores, Wading, Spreading, Waded};
 use crate::cells::beside;
-use crate::cells::is_inside;
 use crate::cells::near;
 use crate::cells::run_end;
 use crate::cells::smaller;
 use crate::cells::value_at;
+use crate::cells::wide;
 use crate::filled::lowest_inside;
 use crate::filled::lowest_near;
 
@@ -66,10 +70,10 @@ fn seen(v: u32, w: u32, steps: u32) -> u32
     if w == v { steps } else { FAR }
 }
 
-// The fewest steps beside a cell x that is inside, among the cells of its level.
-fn nearest_inside(columns: usize, level: &[u32], steps: &[u32], x: usize) -> u32
-    requires { ⌜ ((rows : ℕ) × Levels rows columns (now level) × Inside rows columns x × (length (now steps) ≡ rows * columns)) ⌝ }
-    ensures { λ r. ⌜ ((rows : ℕ) → Inside rows columns x → r ≡ nearestOf rows columns (now (level .entry)) (now (steps .entry)) x 8) ⌝ }
+// The fewest steps beside a flat cell x, among the cells of its level. All its neighbours are on the grid.
+fn nearest_flat(columns: usize, level: &[u32], steps: &[u32], x: usize) -> u32
+    requires { ⌜ ((rows : ℕ) × Levels rows columns (now level) × (flatAt rows columns (now level) x ≡ true) × (length (now steps) ≡ rows * columns)) ⌝ }
+    ensures { λ r. ⌜ ((rows : ℕ) → Levels rows columns (now (level .entry)) → flatAt rows columns (now (level .entry)) x ≡ true → r ≡ nearestOf rows columns (now (level .entry)) (now (steps .entry)) x 8) ⌝ }
 {
     let v = level[x];
     let mut low: u32 = FAR;
@@ -82,7 +86,7 @@ fn nearest_inside(columns: usize, level: &[u32], steps: &[u32], x: usize) -> u32
     low
 }
 
-// The same beside any cell x.
+// The fewest steps beside any cell x, among the cells of its level.
 fn nearest_near(rows: usize, columns: usize, level: &[u32], steps: &[u32], x: usize) -> u32
     requires { ⌜ Levels rows columns (now level) × (length (now steps) ≡ rows * columns) × (x < rows * columns) ⌝ }
     ensures { λ r. ⌜ r ≡ nearestOf rows columns (now (level .entry)) (now (steps .entry)) x 8 ⌝ }
@@ -98,84 +102,49 @@ fn nearest_near(rows: usize, columns: usize, level: &[u32], steps: &[u32], x: us
     low
 }
 
-// The cell at an entry of the queue; the number of cells where there is none.
-fn cell_in(queue: &[i32], at: usize) -> usize {
-    if queue.len() <= at {
-        return queue.len();
-    }
-    let entry = queue[at];
-    if entry < 0 {
-        return queue.len();
-    }
-    entry as usize
-}
-
-// Adds the cell x to a queue of `end` entries, if there is room. The number of entries.
-fn append(queue: &mut [i32], end: usize, x: usize) -> usize
-    requires { ⌜ (end ≤ length (now queue)) × (x < 1048576) ⌝ }
-    ensures { λ r. ⌜ r ≤ length (now (queue .entry)) ⌝ }
+// Sets the steps of the cell y to d and adds it to a queue of `end` entries, if there is room. The number of entries.
+fn put(steps: &mut [u32], queue: &mut [u32], end: usize, d: u32, y: usize) -> usize
+    requires { ⌜ (y < length (now steps)) × (y < 1048576) × (end ≤ length (now queue)) ⌝ }
+    ensures { λ r. ⌜ Put (now (steps .entry)) (now (queue .entry)) end d y (now (steps .exit)) (now (queue .exit)) r ⌝ }
 {
+    steps[y] = d;
     if queue.len() <= end {
         return end;
     }
-    queue[end] = x as i32;
+    queue[end] = y as u32;
     end + 1
 }
 
-// Lowers the steps of the cell y to d, if its level is v and its steps are more, and queues it. The number of entries.
-fn reach(
-    level: &[u32],
-    steps: &mut [u32],
-    queue: &mut [i32],
-    end: usize,
-    v: u32,
-    d: u32,
-    y: usize,
-) -> usize
-    requires { ⌜ (length (now level) ≡ length (now steps)) × (length (now steps) ≤ 1048576) × (end ≤ length (now queue)) ⌝ }
-    ensures { λ r. ⌜ Reached (now (level .entry)) (now (steps .entry)) (now (steps .exit)) v d y (length (now (queue .entry))) r ⌝ }
+// Lowers the steps of the cell y to d, if it has more, and queues it. The number of entries.
+fn reach(steps: &mut [u32], queue: &mut [u32], end: usize, d: u32, y: usize) -> usize
+    requires { ⌜ (y < length (now steps)) × (y < 1048576) × (end ≤ length (now queue)) ⌝ }
+    ensures { λ r. ⌜ Reached (now (steps .entry)) (now (queue .entry)) end d y (now (steps .exit)) (now (queue .exit)) r ⌝ }
 {
-    if value_at(steps, y) <= d {
+    if steps[y] <= d {
         return end;
     }
-    if level[y] != v {
-        return end;
-    }
-    steps[y] = d;
-    append(queue, end, y)
-}
-
-// The fewest steps beside the cell x among the cells of its level.
-fn nearest(rows: usize, columns: usize, level: &[u32], steps: &[u32], x: usize) -> u32
-    requires { ⌜ Levels rows columns (now level) × (length (now steps) ≡ rows * columns) × (x < rows * columns) ⌝ }
-    ensures { λ r. ⌜ r ≡ nearestOf rows columns (now (level .entry)) (now (steps .entry)) x 8 ⌝ }
-{
-    if is_inside(rows, columns, x) {
-        return nearest_inside(columns, level, steps, x);
-    }
-    nearest_near(rows, columns, level, steps, x)
+    put(steps, queue, end, d, y)
 }
 
 // Reaches the cell x, if it is far and one step from a cell of its level that has 0. The number of entries.
 fn reach_shore(
-    rows: usize,
     columns: usize,
     level: &[u32],
     steps: &mut [u32],
-    queue: &mut [i32],
+    queue: &mut [u32],
     end: usize,
     x: usize,
 ) -> usize
-    requires { ⌜ Levels rows columns (now level) × StepsKept rows columns (now level) (now steps) × (end ≤ length (now queue)) × (x < rows * columns) ⌝ }
-    ensures { λ r. ⌜ Spread rows columns (now (level .entry)) (now (steps .exit)) (length (now (queue .entry))) r ⌝ }
+    requires { ⌜ ((rows : ℕ) × Levels rows columns (now level) × Shores rows columns (now level) (now steps) (now queue) end x × (x < rows * columns)) ⌝ }
+    ensures { λ r. ⌜ ((rows : ℕ) → Levels rows columns (now (level .entry)) → Shores rows columns (now (level .entry)) (now (steps .entry)) (now (queue .entry)) end x → Shores rows columns (now (level .entry)) (now (steps .exit)) (now (queue .exit)) r (x + 1)) ⌝ }
 {
     if steps[x] < FAR {
         return end;
     }
-    if 0 < nearest(rows, columns, level, steps, x) {
+    if 0 < nearest_flat(columns, level, steps, x) {
         return end;
     }
-    reach(level, steps, queue, end, level[x], 1, x)
+    put(steps, queue, end, 1, x)
 }
 
 // Reaches every cell one step from where its flat ends. The number of entries.
@@ -184,141 +153,69 @@ fn reach_shores(
     columns: usize,
     level: &[u32],
     steps: &mut [u32],
-    queue: &mut [i32],
+    queue: &mut [u32],
 ) -> usize
-    requires { ⌜ Levels rows columns (now level) × StepsKept rows columns (now level) (now steps) ⌝ }
-    ensures { λ r. ⌜ Spread rows columns (now (level .entry)) (now (steps .exit)) (length (now (queue .entry))) r ⌝ }
+    requires { ⌜ Levels rows columns (now level) × (now steps ≡ startOf (flatStepping rows columns (now level))) ⌝ }
+    ensures { λ r. ⌜ Wading rows columns (now (level .entry)) (now (steps .exit)) (now (queue .exit)) 0 r (rows * columns) ⌝ }
 {
     let mut end: usize = 0;
     let mut x: usize = 0;
     while x < steps.len() {
-        end = reach_shore(rows, columns, level, steps, queue, end, x);
+        end = reach_shore(columns, level, steps, queue, end, x);
         x += 1;
     }
     end
 }
 
-// Reaches the neighbours of a cell x of level v that is inside, at d steps. The number of entries.
-fn spread_inside(
+// Reaches the neighbours of a flat cell x at d steps. All are on the grid, and those that are flat too have its level.
+// The number of entries.
+fn reach_around(
     columns: usize,
-    level: &[u32],
     steps: &mut [u32],
-    queue: &mut [i32],
+    queue: &mut [u32],
     end: usize,
-    v: u32,
     d: u32,
     x: usize,
 ) -> usize
-    requires { ⌜ ((rows : ℕ) × Levels rows columns (now level) × Inside rows columns x × StepsKept rows columns (now level) (now steps) × (end ≤ length (now queue)) × (v ≡ getD (now level) x 0) × (d ≡ getD (now steps) x 0 + 1)) ⌝ }
-    ensures { λ r. ⌜ ((rows : ℕ) → Levels rows columns (now (level .entry)) → Inside rows columns x → StepsKept rows columns (now (level .entry)) (now (steps .entry)) → Spread rows columns (now (level .entry)) (now (steps .exit)) (length (now (queue .entry))) r) ⌝ }
+    requires { ⌜ ((rows : ℕ) × (lv : List ℕ) × (from : ℕ) × Levels rows columns lv × Spreading rows columns lv (now steps) (now queue) from end d x 0) ⌝ }
+    ensures { λ r. ⌜ ((rows : ℕ) (lv : List ℕ) (from : ℕ) → Levels rows columns lv → Spreading rows columns lv (now (steps .entry)) (now (queue .entry)) from end d x 0 → Wading rows columns lv (now (steps .exit)) (now (queue .exit)) from r (rows * columns)) ⌝ }
 {
     let mut last = end;
     let mut k: usize = 0;
     while k < 8 {
-        last = reach(level, steps, queue, last, v, d, beside(columns, x, k));
+        last = reach(steps, queue, last, d, beside(columns, x, k));
         k += 1;
     }
     last
 }
 
-// The same for any cell x of level v.
-fn spread_near(
-    rows: usize,
-    columns: usize,
-    level: &[u32],
-    steps: &mut [u32],
-    queue: &mut [i32],
-    end: usize,
-    v: u32,
-    d: u32,
-    x: usize,
-) -> usize
-    requires { ⌜ Levels rows columns (now level) × StepsKept rows columns (now level) (now steps) × (end ≤ length (now queue)) × (x < rows * columns) × (v ≡ getD (now level) x 0) × (d ≡ getD (now steps) x 0 + 1) ⌝ }
-    ensures { λ r. ⌜ Spread rows columns (now (level .entry)) (now (steps .exit)) (length (now (queue .entry))) r ⌝ }
+// Reaches the neighbours of the cell x, which was taken from the queue, if it has steps: only flat cells have. The number of
+// entries.
+fn spread(columns: usize, steps: &mut [u32], queue: &mut [u32], end: usize, x: usize) -> usize
+    requires { ⌜ ((rows : ℕ) × (lv : List ℕ) × (from : ℕ) × Levels rows columns lv × Wading rows columns lv (now steps) (now queue) from end x) ⌝ }
+    ensures { λ r. ⌜ ((rows : ℕ) (lv : List ℕ) (from : ℕ) → Levels rows columns lv → Wading rows columns lv (now (steps .entry)) (now (queue .entry)) from end x → Wading rows columns lv (now (steps .exit)) (now (queue .exit)) from r (rows * columns)) ⌝ }
 {
-    let mut last = end;
-    let mut k: usize = 0;
-    while k < 8 {
-        last = reach(level, steps, queue, last, v, d, near(rows, columns, x, k));
-        k += 1;
-    }
-    last
-}
-
-// Reaches the neighbours of the cell x. The number of entries.
-fn spread(
-    rows: usize,
-    columns: usize,
-    level: &[u32],
-    steps: &mut [u32],
-    queue: &mut [i32],
-    end: usize,
-    x: usize,
-) -> usize
-    requires { ⌜ Levels rows columns (now level) × StepsKept rows columns (now level) (now steps) × (end ≤ length (now queue)) ⌝ }
-    ensures { λ r. ⌜ Spread rows columns (now (level .entry)) (now (steps .exit)) (length (now (queue .entry))) r ⌝ }
-{
-    if steps.len() <= x {
+    let own = value_at(steps, x);
+    if own < 1 {
         return end;
     }
-    let v = level[x];
-    let d = steps[x] + 1;
-    if is_inside(rows, columns, x) {
-        return spread_inside(columns, level, steps, queue, end, v, d, x);
-    }
-    spread_near(rows, columns, level, steps, queue, end, v, d, x)
+    reach_around(columns, steps, queue, end, own + 1, x)
 }
 
-// Spreads from where the flats end inwards, the nearest cells first.
-fn wade(rows: usize, columns: usize, level: &[u32], steps: &mut [u32], queue: &mut [i32])
-    requires { ⌜ Levels rows columns (now level) × StepsKept rows columns (now level) (now steps) ⌝ }
-    ensures { λ r. ⌜ StepsKept rows columns (now (level .entry)) (now (steps .exit)) ⌝ }
+// Spreads from the cells of a queue of `shores` entries inwards, the nearest first. The number of entries in the end: unless
+// they fill the queue, no steps can be lowered any more.
+fn wade(columns: usize, steps: &mut [u32], queue: &mut [u32], shores: usize) -> usize
+    requires { ⌜ ((rows : ℕ) × (lv : List ℕ) × Levels rows columns lv × Wading rows columns lv (now steps) (now queue) 0 shores (rows * columns)) ⌝ }
+    ensures { λ r. ⌜ ((rows : ℕ) (lv : List ℕ) → Levels rows columns lv → Wading rows columns lv (now (steps .entry)) (now (queue .entry)) 0 shores (rows * columns) → Waded rows columns lv (now (steps .exit)) (length (now (queue .entry))) r) ⌝ }
 {
-    let mut end = reach_shores(rows, columns, level, steps, queue);
+    let mut end = shores;
     let mut at: usize = 0;
     while at < end {
-        let x = cell_in(queue, at);
-        end = spread(rows, columns, level, steps, queue, end, x);
+        let x = wide(queue[at]);
+        end = spread(columns, steps, queue, end, x);
         at += 1;
     }
-}
-
-// 1 if a cell's steps can be lowered to one more than the fewest beside it; else 0.
-fn loose(steps: u32, fewest: u32) -> u32
-    requires { ⌜ fewest ≤ farSteps ⌝ }
-    ensures { λ r. ⌜ (r ≤ 1) × (r ≡ 0 → steps ≤ fewest + 1) ⌝ }
-{
-    if fewest + 1 < steps { 1 } else { 0 }
-}
-
-// How many cells' steps can be lowered in a run of cells that are inside.
-fn loose_run(columns: usize, level: &[u32], steps: &[u32], from: usize, to: usize) -> u32
-    requires { ⌜ ((rows : ℕ) × Levels rows columns (now level) × RunsTo rows columns from to × (length (now steps) ≡ rows * columns)) ⌝ }
-    ensures { λ r. ⌜ ((rows : ℕ) → RunsTo rows columns from to → StepsLoose rows columns (now (level .entry)) (now (steps .entry)) from to r) ⌝ }
-{
-    let mut sum: u32 = 0;
-    let mut x = from;
-    while x < to {
-        sum += loose(steps[x], nearest_inside(columns, level, steps, x));
-        x += 1;
-    }
-    sum
-}
-
-// How many cells' steps can be lowered.
-fn loose_cells(rows: usize, columns: usize, level: &[u32], steps: &[u32]) -> u32
-    requires { ⌜ Levels rows columns (now level) × (length (now steps) ≡ rows * columns) ⌝ }
-    ensures { λ r. ⌜ (r ≡ 0 → StepsStill rows columns (now (level .entry)) (now (steps .entry))) ⌝ }
-{
-    let mut sum: u32 = 0;
-    let mut x: usize = 0;
-    while x < steps.len() {
-        let end = run_end(rows, columns, x);
-        sum += loose_run(columns, level, steps, x, end);
-        sum += loose(steps[end], nearest_near(rows, columns, level, steps, end));
-        x = end + 1;
-    }
-    sum
+    end
 }
 
 // Lowers the steps of the cell x to what its neighbours allow. True if they were more.
@@ -355,24 +252,27 @@ fn settle(rows: usize, columns: usize, level: &[u32], steps: &mut [u32])
     requires { ⌜ Levels rows columns (now level) × StepsKept rows columns (now level) (now steps) ⌝ }
     ensures { λ r. ⌜ now (steps .exit) ≡ flatSteps rows columns (now (level .entry)) ⌝ }
 {
-    let mut again = 0 < loose_cells(rows, columns, level, steps);
+    let mut again = true;
     while again {
         again = sweep(rows, columns, level, steps);
     }
 }
 
-// The steps over flats of every cell. The queue is scratch.
+// The steps over flats of every cell. The queue is scratch; flat cells do not fill it, since no rim cell is one.
 pub(crate) fn measure(
     rows: usize,
     columns: usize,
     level: &[u32],
     steps: &mut [u32],
-    queue: &mut [i32],
+    queue: &mut [u32],
 )
     requires { ⌜ Levels rows columns (now level) × (length (now steps) ≡ rows * columns) ⌝ }
     ensures { λ r. ⌜ now (steps .exit) ≡ flatSteps rows columns (now (level .entry)) ⌝ }
 {
     start(rows, columns, level, steps);
-    wade(rows, columns, level, steps, queue);
-    settle(rows, columns, level, steps);
+    let shores = reach_shores(rows, columns, level, steps, queue);
+    let entries = wade(columns, steps, queue, shores);
+    if queue.len() <= entries {
+        settle(rows, columns, level, steps);
+    }
 }

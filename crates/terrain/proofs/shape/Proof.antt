@@ -18,7 +18,7 @@ abbrev flooded : tie.After-measure → tie.After-fill
 flooded c = c .before .before .before .before .before .before
 
 abbrev measured : tie.After-point → tie.After-measure
-measured c = let a = c .before .before .before .before in a .before .before .before .before
+measured c = let a = c .before .before .before .before in a .before .before .before .before .before
 
 -- the ground is accepted, and the grids have their places
 ready : (s : tie.Start) → Ready (s .args .rows) (s .args .columns) (s .args .ground .now)
@@ -39,15 +39,16 @@ measure-requires c κs = let f = c .before .before .before .before .before in (l
 
 point-requires : tie.Need-point-requires
 point-requires c κs =
-    let m = c .before .before .before .before .before .before .before in
+    let a = c .before .before .before .before in
+    let m = a .before .before .before .before in
     let f = flooded m in
-    (levels f, m .measure .ensures, room (start f) .direction-long, room (start f) .falls-long)
+    (levels f, m .measure .ensures, room (start f) .direction-long, m .measure .kept .1 .1 .1 .1 .0 ∙ room (start f) .falls-long)
 
 write-heights-requires : tie.Need-write-heights-requires
 write-heights-requires c κs =
     let m = measured (c .before .before .before .before .before .before) in
     let f = flooded m in
-    (levels f .long ∙ sym (m .measure .kept .1 .1 .1 .1 .0 ∙ room (start f) .filled-long), relief-small (ready (start f)) (f .fill .ensures))
+    (levels f .long ∙ sym (room (start f) .filled-long), relief-small (ready (start f)) (f .fill .ensures))
 
 same-length : tie.Need-same-length
 same-length c = search needs

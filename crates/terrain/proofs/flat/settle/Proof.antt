@@ -1,7 +1,7 @@
 -- `terrain::flat::settle` meets its contract: each sweep but the last lowers the sum of the steps. Assumes nothing.
+use mathlib.Core.Bool.{true≢false}
 use Prim.Native.Nat.{_+_}
 use native.Mathlib.Omega.{arith}
-use borrow.Author.Tests.{ltb-false}
 use Rattle.laws.specs.Lists.{total}
 use Rattle.laws.specs.Settle.{dueOf, Settling}
 use Rattle.laws.proofs.Settle.{settling-more, settling-less}
@@ -17,43 +17,31 @@ Inv-loop rows columns level steps₀ again₀ steps again = Settling (flatSteppi
 abbrev μ-loop : tie.MeasureT-loop
 μ-loop rows columns level steps₀ again₀ steps again = total steps + dueOf again
 
-loose-cells-requires : tie.Need-loose-cells-requires Inv-loop μ-loop
-loose-cells-requires c κs = search needs
-
 loop-holds : tie.Need-loop-holds Inv-loop μ-loop
-loop-holds c = let r = c .loose-cells in record { kept = c .before .before .before .before .pre .1; still = (λ e. r .ensures (omega (arith, ltb-false 0 (r .result) e))) }
+loop-holds c = record { kept = c .before .before .pre .1; still = (λ e. absurd (true≢false e)) }
 
 sweep-requires : tie.Need-sweep-requires Inv-loop μ-loop
 sweep-requires c κs = search needs
 
 loop-less : tie.Need-loop-less Inv-loop μ-loop
 loop-less c =
-    let s = c .before .before .before .before .before .before .before .before .before .before in let a = s .args in let p = c .before .before .before .before .before .loop in
-    settling-less (flatStepping (a .rows) (a .columns) (a .level .now)) (Within (a .rows) (a .columns) (a .level .now)) (flat-rule (a .rows) (a .columns) (a .level .now) (s .pre .0 .long)) (p .steps) _ (c .before .before .sweep .result) (p .again) (c .before .before .before .before .loop-test .taken) (c .before .before .sweep .ensures)
+    let p = c .before .before .before .before .before in let s = p .before .before .before in let a = s .args in
+    settling-less (flatStepping (a .rows) (a .columns) (a .level .now)) (Within (a .rows) (a .columns) (a .level .now)) (flat-rule (a .rows) (a .columns) (a .level .now) (s .pre .0 .long)) (p .loop .steps) _ (c .before .before .sweep .result) (p .loop .again) (c .before .before .before .before .loop-test .taken) (c .before .before .sweep .ensures)
 
 loop-again : tie.Need-loop-again Inv-loop μ-loop
 loop-again c =
-    let s = c .before .before .before .before .before .before .before .before .before .before in let a = s .args in let p = c .before .before .before .before .before .loop in
-    settling-more (flatStepping (a .rows) (a .columns) (a .level .now)) (Within (a .rows) (a .columns) (a .level .now)) (flat-rule (a .rows) (a .columns) (a .level .now) (s .pre .0 .long)) (p .steps) _ (c .before .before .sweep .result) (p .inv .kept) (c .before .before .sweep .ensures)
+    let p = c .before .before .before .before .before in let s = p .before .before .before in let a = s .args in
+    settling-more (flatStepping (a .rows) (a .columns) (a .level .now)) (Within (a .rows) (a .columns) (a .level .now)) (flat-rule (a .rows) (a .columns) (a .level .now) (s .pre .0 .long)) (p .loop .steps) _ (c .before .before .sweep .result) (p .loop .inv .kept) (c .before .before .sweep .ensures)
 
 same-length : tie.Need-same-length Inv-loop μ-loop
 same-length c = search needs
 
 returns : tie.Need-returns Inv-loop μ-loop
 returns c =
-    let s = c .before .before .before .before .before .before in let a = s .args in let p = c .before .loop in
+    let s = c .before .before .before .before in let a = s .args in let p = c .before .loop in
     steps-are (a .rows) (a .columns) (a .level .now) (s .pre .0 .long) (p .steps) (p .inv .kept) (p .inv .still (c .loop-test .left))
 
 pub settle-spec : {M : Type 1} → statement M
 settle-spec =
     tie.close
-    (tie.spec
-    Inv-loop
-    μ-loop
-    loose-cells-requires
-    loop-holds
-    sweep-requires
-    loop-less
-    loop-again
-    same-length
-    returns)
+    (tie.spec Inv-loop μ-loop loop-holds sweep-requires loop-less loop-again same-length returns)

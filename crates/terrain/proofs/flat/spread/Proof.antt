@@ -1,73 +1,51 @@
 -- `terrain::flat::spread` meets its contract. Assumes nothing.
-use mathlib.Core.Path.{refl}
+use mathlib.Core.Path.{ap}
+use Prim.Native.Nat.{ℕ, _+_}
 use native.Mathlib.Omega.{arith}
+use Rattle.terrain.proofs.Wading.{wading-none, spreading-none}
 use borrow.Author.Needs.{needs}
 use Rattle.terrain.proofs.flat.spread.Statement.{statement}
 use Rattle.terrain.proofs.flat.spread.Tie as tie
 
-returns : tie.Need-returns
-returns c = search needs
-
-mul-v : tie.Need-mul-v
-mul-v c = search needs
-
-shared-slice-read-v : tie.Need-shared-slice-read-v
-shared-slice-read-v c = search needs
-
-mul-d : tie.Need-mul-d
-mul-d c = search needs
-
-slice-read-d : tie.Need-slice-read-d
-slice-read-d c = search needs
-
-add-d : tie.Need-add-d
-add-d c = omega (arith, c .before .before .before .before .before .pre .1 .capped (c .before .before .before .before .before .args .x))
-
-is-inside-requires : tie.Need-is-inside-requires
-is-inside-requires c κs = search needs
-
-spread-inside-requires : tie.Need-spread-inside-requires
-spread-inside-requires c κs = let s = c .before .before .before .before .before .before .before .before .before in (s .args .rows, s .pre .0, c .before .before .before .is-inside .ensures (c .before .before .if2 .taken), s .pre .1, s .pre .2, refl, refl)
+value-at-requires : tie.Need-value-at-requires
+value-at-requires c κs = search needs
 
 same-length : tie.Need-same-length
 same-length c = search needs
 
+returns : tie.Need-returns
+returns c = λ rows lv from l w. wading-none l w (omega (arith, c .before .value-at .ensures))
+
+add-reach-around : tie.Need-add-reach-around
+add-reach-around c = let v = c .before .before .before in let s = v .before .before .before .before in omega (arith, v .value-at .ensures, s .pre .4 .kept .capped (s .args .x))
+
+reach-around-requires : tie.Need-reach-around-requires
+reach-around-requires c κs =
+    let v = c .before .before .before in
+    let s = v .before .before .before .before in
+    (s .pre .0, s .pre .1, s .pre .2, s .pre .3, spreading-none (s .pre .3) (s .pre .4) (omega (arith, v .value-at .ensures)) (ap (λ (n : ℕ). n + 1) (v .value-at .ensures)))
+
 same-length-2 : tie.Need-same-length-2
 same-length-2 c = search needs
-
-returns-2 : tie.Need-returns-2
-returns-2 c =
-    let s = c .before .before .before .before .before .before .before .before .before .before .before .before .before in
-    c .before .before .before .spread-inside .ensures (s .args .rows) (s .pre .0) (c .before .before .before .before .before .before .before .is-inside .ensures (c .before .before .before .before .before .before .if2 .taken)) (s .pre .1)
-
-spread-near-requires : tie.Need-spread-near-requires
-spread-near-requires c κs = search needs
 
 same-length-3 : tie.Need-same-length-3
 same-length-3 c = search needs
 
-same-length-4 : tie.Need-same-length-4
-same-length-4 c = search needs
-
-returns-3 : tie.Need-returns-3
-returns-3 c = search needs
+returns-2 : tie.Need-returns-2
+returns-2 c =
+    let r = c .before .before .before .before in
+    let v = r .before .before .before .before in
+    λ rows lv from l w. r .reach-around .ensures rows lv from l (spreading-none l w (omega (arith, v .value-at .ensures)) (ap (λ (n : ℕ). n + 1) (v .value-at .ensures)))
 
 pub spread-spec : {M : Type 1} → statement M
 spread-spec =
     tie.close
     (tie.spec
-    returns
-    mul-v
-    shared-slice-read-v
-    mul-d
-    slice-read-d
-    add-d
-    is-inside-requires
-    spread-inside-requires
+    value-at-requires
     same-length
+    returns
+    add-reach-around
+    reach-around-requires
     same-length-2
-    returns-2
-    spread-near-requires
     same-length-3
-    same-length-4
-    returns-3)
+    returns-2)
