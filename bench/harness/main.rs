@@ -3,7 +3,9 @@
 //! once SIDE FILE` maps one text once, for a profiler, and `harness loops PROFILE FUNCTION` tells what that found.
 
 mod clock;
+mod files;
 mod layout;
+mod lent;
 mod lines;
 mod loops;
 mod measure;
@@ -13,38 +15,61 @@ mod rattle;
 mod sides;
 mod table;
 
-use sides::Lent;
+use lent::Lent;
 use std::path::Path;
+use std::process::ExitCode;
 
 const USAGE: &str = "usage: harness measure ROUNDS FOLDER | table < LINES | once SIDE FILE | loops PROFILE FUNCTION";
 
+/// Why there is nothing to print.
+type Wrong = Box<dyn std::error::Error>;
+
+/// Measures the texts of a folder.
+fn measure(rounds: &str, folder: &str) -> Result<(), Wrong> {
+    let rounds = rounds.parse().ok().filter(|&rounds| rounds > 0).ok_or(USAGE)?;
+    Ok(lines::print(rounds, Path::new(folder))?)
+}
+
+/// The table of the lines on standard input.
+fn table() -> Result<(), Wrong> {
+    let lines = std::io::read_to_string(std::io::stdin())?;
+    let lines: Option<Vec<lines::Line>> = lines.lines().map(lines::parse).collect();
+    table::print(&lines.ok_or("harness: a line is no measurement")?);
+    Ok(())
+}
+
 /// Reads and maps one text once.
-fn once(name: &str, file: &str) -> Option<()> {
-    let side = sides::all().into_iter().find(|side| side.name == name)?;
-    let text = std::fs::read(file).expect("the text can be read");
+fn once(name: &str, file: &str) -> Result<(), Wrong> {
+    let side = sides::all().into_iter().find(|side| side.name == name).ok_or(USAGE)?;
+    let text = files::read(Path::new(file))?;
     let mut lent = Lent::for_text(&text);
     (side.read)(&text, &mut lent.ground);
     (side.map)(&mut lent);
     println!("{name}: {} valid cells, longest trail {}", lent.answer.0, lent.answer.1);
-    Some(())
+    Ok(())
 }
 
-/// The table of the lines on standard input.
-fn table() -> Option<()> {
-    let lines = std::io::read_to_string(std::io::stdin()).expect("the lines can be read");
-    let lines: Option<Vec<lines::Line>> = lines.lines().map(lines::parse).collect();
-    lines.map(|lines| table::print(&lines))
+/// The loops of a function in a profile.
+fn loops(profile: &str, function: &str) -> Result<(), Wrong> {
+    loops::print(&String::from_utf8(files::read(Path::new(profile))?)?, function);
+    Ok(())
 }
 
-fn main() {
+fn main() -> ExitCode {
     let words: Vec<String> = std::env::args().skip(1).collect();
     let words: Vec<&str> = words.iter().map(String::as_str).collect();
     let done = match words[..] {
-        ["measure", rounds, folder] => rounds.parse().ok().map(|rounds| lines::print(rounds, Path::new(folder))),
+        ["measure", rounds, folder] => measure(rounds, folder),
         ["table"] => table(),
         ["once", side, file] => once(side, file),
-        ["loops", profile, function] => std::fs::read_to_string(profile).ok().map(|text| loops::print(&text, function)),
-        _ => None,
+        ["loops", profile, function] => loops(profile, function),
+        _ => Err(USAGE.into()),
     };
-    done.expect(USAGE);
+    match done {
+        Ok(()) => ExitCode::SUCCESS,
+        Err(wrong) => {
+            eprintln!("{wrong}");
+            ExitCode::from(2)
+        }
+    }
 }

@@ -1,8 +1,9 @@
-//! One text measured: the measured side and the plain one in turn, the best of several rounds of each.
+//! One text measured: the measured side and the others in turn, the best of several rounds of each.
 
 use crate::clock::time;
+use crate::lent::{Lent, Side};
 use crate::memory::peak;
-use crate::sides::{Lent, Side, MEASURED, PLAIN};
+use crate::sides::{all, MEASURED, OTHERS, PLAIN};
 
 /// Best milliseconds of the measured side and of the plain one.
 #[derive(Clone, Copy)]
@@ -12,9 +13,6 @@ pub struct Pair {
 }
 
 impl Pair {
-    /// Longer than anything.
-    pub const NONE: Pair = Pair { measured: f64::MAX, plain: f64::MAX };
-
     pub fn ratio(&self) -> f64 {
         self.measured / self.plain
     }
@@ -25,35 +23,64 @@ impl Pair {
     }
 }
 
-/// What is found of one text: the two times, its bytes, and the KiB by which the first map call raised the peak.
+/// What is found of one text: the two times, the map call's by the library of another commit, the text's bytes, and the
+/// KiB by which the first map call raised the peak.
 #[derive(Clone, Copy)]
 pub struct Found {
     pub map: Pair,
     pub text: Pair,
+    pub before: Option<f64>,
     pub bytes: usize,
     pub peak: i64,
 }
 
-/// The best of several rounds, the two sides in turn.
-fn in_turn(rounds: usize, mut call: impl FnMut(Side)) -> Pair {
-    (0..rounds).fold(Pair::NONE, |best, _| {
-        let measured = time(|| call(MEASURED));
-        let plain = time(|| call(PLAIN));
-        best.or(&Pair { measured, plain })
-    })
+impl Found {
+    /// The measured side's map call by that of the library of another commit.
+    pub fn ratio_before(&self) -> Option<f64> {
+        self.before.map(|before| self.map.measured / before)
+    }
+
+    /// The better of each side, and the greater peak.
+    pub fn or(&self, other: &Found) -> Found {
+        Found {
+            map: self.map.or(&other.map),
+            text: self.text.or(&other.text),
+            before: self.before.zip(other.before).map(|(one, other)| one.min(other)),
+            bytes: self.bytes,
+            peak: self.peak.max(other.peak),
+        }
+    }
 }
 
-/// Measures one text; both sides must give the same grids.
+/// The best of several rounds of each side, the sides in turn.
+fn in_turn(rounds: usize, sides: &[Side], mut call: impl FnMut(Side)) -> Vec<f64> {
+    let mut best = vec![f64::MAX; sides.len()];
+    for _ in 0..rounds {
+        for (best, &side) in best.iter_mut().zip(sides) {
+            *best = best.min(time(|| call(side)));
+        }
+    }
+    best
+}
+
+/// Measures one text; all sides must give the same grids.
 pub fn measure(rounds: usize, text: &[u8]) -> Found {
     let mut lent = Lent::for_text(text);
-    let mut other = lent.clone();
+    let others: Vec<(&Side, Lent)> = OTHERS.iter().map(|side| (side, lent.clone())).collect();
     (MEASURED.read)(text, &mut lent.ground);
     let peak = peak(|| (MEASURED.map)(&mut lent));
-    (PLAIN.read)(text, &mut other.ground);
-    (PLAIN.map)(&mut other);
-    assert!(lent == other, "both sides give the same grids");
-    drop(other);
-    let reading = in_turn(rounds, |side| (side.read)(text, &mut lent.ground));
-    let map = in_turn(rounds, |side| (side.map)(&mut lent));
-    Found { map, text: reading, bytes: text.len(), peak }
+    for (side, mut other) in others {
+        (side.read)(text, &mut other.ground);
+        (side.map)(&mut other);
+        assert!(lent == other, "{} and {} must give the same grids", MEASURED.name, side.name);
+    }
+    let reading = in_turn(rounds, &[MEASURED, PLAIN], |side| (side.read)(text, &mut lent.ground));
+    let mapping = in_turn(rounds, &all(), |side| (side.map)(&mut lent));
+    Found {
+        map: Pair { measured: mapping[0], plain: mapping[1] },
+        text: Pair { measured: reading[0], plain: reading[1] },
+        before: mapping.get(2).copied(),
+        bytes: text.len(),
+        peak,
+    }
 }

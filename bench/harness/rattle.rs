@@ -1,42 +1,59 @@
-//! The proved library as a side: crates/fullsize, through the declarations of the program that lends it memory.
+//! The proved library as a side: crates/fullsize, through the declarations of the program that lends it memory; and the
+//! library of another commit, through the same declarations with other names, which the build makes.
 
 #[path = "../../host/src/library.rs"]
 #[allow(dead_code, reason = "the default settings are the other program's")]
 mod library;
 
-use crate::sides::{Lent, Side, CUTOFF};
-use library::{Grids, Header, Settings};
+#[cfg(before)]
+#[allow(dead_code, reason = "the default settings are the other program's")]
+mod before {
+    include!(env!("BEFORE"));
+}
+
+use crate::lent::{Lent, Side, CUTOFF};
 use std::mem::take;
 
-/// Cutoffs as in every measurement, and no channels.
-const SETTINGS: Settings = Settings { low: CUTOFF, high: CUTOFF, kind: 0, cells: 0, percentage: 0.0 };
+/// The side of a library that a module declares. Cutoffs as in every measurement, and no channels.
+macro_rules! side {
+    ($name:literal, $library:ident) => {{
+        use $library::{Grids, Header, Settings};
 
-fn read(text: &[u8], heights: &mut [i32]) {
-    let header = library::read_header(text).ok().expect("a terrain's text is accepted");
-    let whole = library::read_grid(text, heights).ok().expect("a terrain's text is accepted");
-    assert_eq!((header.rows, header.columns), (whole.rows, whole.columns));
+        const SETTINGS: Settings = Settings { low: CUTOFF, high: CUTOFF, kind: 0, cells: 0, percentage: 0.0 };
+
+        fn read(text: &[u8], heights: &mut [i32]) {
+            let header = $library::read_header(text).ok().expect("a terrain's text is accepted");
+            let whole = $library::read_grid(text, heights).ok().expect("a terrain's text is accepted");
+            assert_eq!((header.rows, header.columns), (whole.rows, whole.columns));
+        }
+
+        fn map(lent: &mut Lent) {
+            let header = Header { rows: lent.rows, columns: lent.columns, side: lent.side, no_data: 0 };
+            let mut grids = Grids {
+                filled: take(&mut lent.filled),
+                direction: take(&mut lent.direction),
+                count: take(&mut lent.count),
+                lengths: take(&mut lent.lengths),
+                factors: take(&mut lent.factors),
+                workspace: take(&mut lent.workspace),
+            };
+            let totals = $library::map(header, SETTINGS, &lent.ground, &mut grids).ok().expect("a terrain is accepted");
+            lent.answer = (totals.valid, totals.longest);
+            Grids {
+                filled: lent.filled,
+                direction: lent.direction,
+                count: lent.count,
+                lengths: lent.lengths,
+                factors: lent.factors,
+                workspace: lent.workspace,
+            } = grids;
+        }
+
+        Side { name: $name, read, map }
+    }};
 }
 
-fn map(lent: &mut Lent) {
-    let header = Header { rows: lent.rows, columns: lent.columns, side: lent.side, no_data: 0 };
-    let mut grids = Grids {
-        filled: take(&mut lent.filled),
-        direction: take(&mut lent.direction),
-        count: take(&mut lent.count),
-        lengths: take(&mut lent.lengths),
-        factors: take(&mut lent.factors),
-        workspace: take(&mut lent.workspace),
-    };
-    let totals = library::map(header, SETTINGS, &lent.ground, &mut grids).ok().expect("a terrain is accepted");
-    lent.answer = (totals.valid, totals.longest);
-    Grids {
-        filled: lent.filled,
-        direction: lent.direction,
-        count: lent.count,
-        lengths: lent.lengths,
-        factors: lent.factors,
-        workspace: lent.workspace,
-    } = grids;
-}
+pub const RATTLE: Side = side!("rattle", library);
 
-pub const RATTLE: Side = Side { name: "rattle", read, map };
+#[cfg(before)]
+pub const BEFORE: Side = side!("before", before);

@@ -16,18 +16,12 @@ fn speed(found: &Found) -> f64 {
 
 /// The best of each side over the layouts, and the greatest peak.
 fn best(lines: &[Line], terrain: &str, size: usize) -> Option<Found> {
-    let better = |one: Found, other: Found| Found {
-        map: one.map.or(&other.map),
-        text: one.text.or(&other.text),
-        bytes: one.bytes,
-        peak: one.peak.max(other.peak),
-    };
     let of = |line: &&Line| line.terrain == terrain && line.size == size;
-    lines.iter().filter(of).map(|line| line.found).reduce(better)
+    lines.iter().filter(of).map(|line| line.found).reduce(|one, other| one.or(&other))
 }
 
 fn print_row(terrain: &str, small: &Found, large: &Found) {
-    println!(
+    print!(
         "{terrain:8} {:8.2} {:8.2} {:6.3} {:8.2} {:8.2} {:6.3} {:6.0} {:7.3} {:7.3} {:6}",
         large.map.measured,
         large.map.plain,
@@ -40,12 +34,19 @@ fn print_row(terrain: &str, small: &Found, large: &Found) {
         growth(small.map.plain, large.map.plain),
         large.peak,
     );
+    if let (Some(before), Some(ratio)) = (large.before, large.ratio_before()) {
+        print!(" {before:8.2} {ratio:6.3}");
+    }
+    println!();
 }
 
 /// The lines that a script can read; `layout` gives the ratios within each layout.
 fn print_lines(lines: &[Line], terrain: &str, small: &Found, large: &Found) {
     println!("ratio whole {terrain} {:.3}", large.map.ratio());
     println!("ratio text {terrain} {:.3}", large.text.ratio());
+    if let Some(ratio) = large.ratio_before() {
+        println!("ratio before {terrain} {ratio:.3}");
+    }
     println!("growth {terrain} {:.3}", growth(small.map.measured, large.map.measured));
     println!("speed text {terrain} {:.0}", speed(large));
     for line in lines.iter().filter(|line| line.terrain == terrain && line.size == LARGE) {
@@ -54,13 +55,19 @@ fn print_lines(lines: &[Line], terrain: &str, small: &Found, large: &Found) {
     }
 }
 
+/// The two lines above the rows; the last columns are there where another commit's library was measured.
+fn print_head(before: bool) {
+    let (upper, lower) = if before { ("   before", "       ms  ratio") } else { ("", "") };
+    println!("{} beside plain, {LARGE} x {LARGE} cells, best over rounds and layouts, processor time", MEASURED.name);
+    println!("             map    plain            text    plain                    map   plain   peak{upper}");
+    println!("terrain       ms       ms  ratio       ms       ms  ratio   MB/s  growth  growth    KiB{lower}");
+}
+
 /// Prints the table and the plain lines.
 pub fn print(lines: &[Line]) {
-    println!("{} beside plain, {LARGE} x {LARGE} cells, best over rounds and layouts, processor time", MEASURED.name);
-    println!("             map    plain            text    plain                    map   plain   peak");
-    println!("terrain       ms       ms  ratio       ms       ms  ratio   MB/s  growth  growth    KiB");
     let found = |terrain| Some((terrain, best(lines, terrain, SMALL)?, best(lines, terrain, LARGE)?));
     let rows: Vec<(&str, Found, Found)> = TERRAINS.iter().filter_map(|&terrain| found(terrain)).collect();
+    print_head(rows.iter().any(|(_, _, large)| large.before.is_some()));
     rows.iter().for_each(|(terrain, small, large)| print_row(terrain, small, large));
     println!();
     rows.iter().for_each(|(terrain, small, large)| print_lines(lines, terrain, small, large));

@@ -1,15 +1,19 @@
 //! A plain, unverified program of document 01's rules, with the algorithms of crates/text, crates/terrain and
-//! crates/factor: what their speed is measured against. Every grid is the caller's. The stages are not inlined, so that
-//! a profiler sees each.
+//! crates/factor: what their speed is measured against. It makes no comparison that those make only for want of a proof
+//! of the order in which a stage works. Every grid is the caller's. The stages are not inlined, so that a profiler sees
+//! each.
 
 mod cells;
 mod direction;
+mod downhill;
 mod factor;
 mod fill;
 mod flat;
 mod length;
 mod map;
+mod queue;
 mod settings;
+mod slope;
 mod text;
 mod thresholds;
 mod trail;
@@ -18,7 +22,7 @@ pub use map::{map, Grids};
 pub use settings::{Channel, Settings};
 pub use text::{read_grid, read_header, Header};
 
-/// Document 01, "Quantities": NoData as a height, as a code and as a factor.
+/// Document 01, "Quantities": NoData as a height, as a code and as a factor, which is its fall too.
 pub const NODATA: i32 = -999_900;
 pub const NO_CODE: u8 = 255;
 pub const NO_FACTOR: u32 = u32::MAX;

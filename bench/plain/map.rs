@@ -1,9 +1,9 @@
 //! The map call: from ground heights and settings to the five grids. Document 01, "Numbers of refusal" and after.
 
 use crate::cells::Shape;
-use crate::length::Downhill;
+use crate::length::Terms;
 use crate::settings::{judge, Rules};
-use crate::{direction, factor, fill, flat, refuse, trail, Refusal, Settings, NODATA};
+use crate::{direction, downhill, fill, flat, refuse, trail, Refusal, Settings, NODATA};
 
 /// The lent grids and the workspace, one place per cell each.
 pub struct Grids<'a> {
@@ -53,14 +53,16 @@ pub fn map(
     let shape = Shape::of(rows, columns);
     let rules = judged(shape, side, settings, ground, &grids)?;
     let Grids { filled, direction, count, lengths, factors, workspace } = grids;
-    let side = u64::from(side);
-    fill::fill(shape, ground, filled, count);
-    let valid = direction::point(shape, filled, direction, count);
-    flat::drain(shape, filled, direction, count, workspace);
+    fill::fill(shape, ground, workspace);
+    if direction::point(shape, workspace, direction, factors, count) {
+        flat::drain(shape, workspace, direction, count, filled);
+    }
+    fill::write_heights(workspace, filled);
+    let valid = downhill::descend(shape, direction, count, workspace);
+    let order = &workspace[..valid];
+    let longest = trail::longest_trail(shape, direction, order, count);
+    trail::count_flow(shape, direction, order, count);
+    Terms { shape, side: side.into(), rules: &rules, direction, count }.measure(order, lengths, factors);
     workspace.fill(0);
-    trail::count(shape, direction, count, workspace, factors);
-    let order = &factors[..valid as usize];
-    let longest = Downhill { shape, side, filled, direction, count, order }.measure(&rules, lengths, workspace);
-    factor::factors(shape, side, filled, direction, lengths, factors);
-    Ok((valid, longest))
+    Ok((valid as u32, longest))
 }

@@ -1,0 +1,50 @@
+//! What every side is lent, and what a side is.
+
+/// The settings of every measurement: document 01's printer.
+pub const CUTOFF: f64 = 0.5;
+
+/// The grids and the workspace, lent to each side in turn and not cleared in between; and the number of valid cells and
+/// the longest trail that it answers.
+#[derive(Clone, PartialEq)]
+pub struct Lent {
+    pub rows: usize,
+    pub columns: usize,
+    pub side: u32,
+    pub ground: Vec<i32>,
+    pub filled: Vec<i32>,
+    pub direction: Vec<u8>,
+    pub count: Vec<u32>,
+    pub lengths: Vec<u64>,
+    pub factors: Vec<u32>,
+    pub workspace: Vec<u32>,
+    pub answer: (u32, u32),
+}
+
+impl Lent {
+    /// Grids for a text, every place written once.
+    pub fn for_text(text: &[u8]) -> Lent {
+        let header = plain::read_header(text).expect("a terrain's text is accepted");
+        let cells = header.rows * header.columns;
+        Lent {
+            rows: header.rows,
+            columns: header.columns,
+            side: header.side,
+            ground: vec![1; cells],
+            filled: vec![1; cells],
+            direction: vec![1; cells],
+            count: vec![1; cells],
+            lengths: vec![1; cells],
+            factors: vec![1; cells],
+            workspace: vec![1; cells],
+            answer: (0, 0),
+        }
+    }
+}
+
+/// A side: reading a text into heights, header first, and mapping them.
+#[derive(Clone, Copy)]
+pub struct Side {
+    pub name: &'static str,
+    pub read: fn(&[u8], &mut [i32]),
+    pub map: fn(&mut Lent),
+}
