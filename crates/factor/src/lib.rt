@@ -7,6 +7,7 @@
 mod cell;
 mod channel;
 mod exponent;
+mod guess;
 mod inflow;
 mod judge;
 mod length_factor;

@@ -70,25 +70,24 @@ fn brought(terms: Terms, k: usize, p: u64, q: u64, length: u64) -> u64
 }
 
 // The turn of the cell x.
-fn turn<'a>(
+fn turn(
     terms: Terms,
     direction: &[u8],
     count: &[u32],
     lengths: &mut [u64],
     factors: &mut [u32],
     x: usize,
-    five: &'a [u32],
-    four: &'a [u32],
-    three: &'a [u32],
-    two: &'a [u32],
+    lists: &[u32; 1492],
+    guesses: &mut [u16; 7708],
 )
-    requires { ⌜ Turning terms (now direction) (now count) (now lengths) (now factors) x × Listed (now five) (now four) (now three) (now two) ⌝ }
+    requires { ⌜ Turning terms (now direction) (now count) (now lengths) (now factors) x × Listed (now lists) ⌝ }
     ensures { λ _. ⌜ Turned terms (now (direction .entry)) (now (count .entry)) (now (lengths .entry)) (now (factors .entry)) x (now (lengths .exit)) (now (factors .exit)) ⌝ }
 {
     let length = settled(terms.most, count[x], lengths[x]);
     lengths[x] = length;
-    let p = steepness_of(factors[x]);
-    factors[x] = factor_of(terms.side, p, length, five, four, three, two);
+    let fall = factors[x];
+    let p = steepness_of(fall);
+    factors[x] = factor_of(terms.side, p, length, fall, lists, guesses);
     let k = u8::trailing_zeros(direction[x]) as usize;
     if 8 <= k {
         return;
@@ -132,6 +131,7 @@ pub(crate) fn measure(
         most: channel_bound(threshold, largest(count)),
     };
     let lists = thresholds::all();
+    let mut guesses: [u16; 7708] = [0; 7708];
     clear(lengths);
     let mut place: usize = 0;
     while place < places {
@@ -142,10 +142,8 @@ pub(crate) fn measure(
             lengths,
             factors,
             order[place] as usize,
-            &lists.five,
-            &lists.four,
-            &lists.three,
-            &lists.two,
+            &lists,
+            &mut guesses,
         );
         place += 1;
     }
