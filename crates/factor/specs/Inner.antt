@@ -13,7 +13,10 @@ use Rattle.settings.specs.declared.Rules.{Rules}
 use Rattle.settings.specs.Settings.{rulesOf, settingsTest}
 use Rattle.factor.specs.Inflow.{cutoffFor, startLength, stepOver, amountOf}
 use Rattle.factor.specs.LengthFactor.{longest, reached}
-use Rattle.factor.specs.Answers.{Grids, placesOf}
+use Rattle.terrain.specs.Drainage.{Trails, Totals, Surface}
+use Rattle.terrain.specs.Answers.{validOf}
+use Rattle.factor.specs.Answers.{Grids, placesOf, answer, after, accepts}
+use Rattle.factor.specs.declared.Answer.{Answer}
 use Rattle.factor.specs.declared.judge.Judgement.{Judgement}
 use Rattle.factor.specs.declared.judge.Judgement.the-variants.{Sound, Unsound}
 
@@ -78,3 +81,21 @@ firstTests rows cols side settings ground g = sizeTest rows cols ∷ lengthTest 
 pub record Judges (rows cols side : ℕ) (settings : Settings) (ground : List ℤ) (g : Grids) (r : Judgement) : Type 0 where
   pub verdict-is : found r ≡ verdict (firstTests rows cols side settings ground g)
   pub rules-are : (rules : Rules) → r ≡ Sound rules → rules ≡ rulesOf settings
+
+-- ---- the map call after these tests
+
+module _ (rows cols side : ℕ) (settings : Settings) where
+  -- they are passed, and the rules are those of the settings
+  pub record Passing (rules : Rules) (ground : List ℤ) (g : Grids) : Type 0 where
+    pub passes : verdict (firstTests rows cols side settings ground g) ≡ passed
+    pub rules-are : rules ≡ rulesOf settings
+
+  -- the promise of the map call, for lent grids g, an answer, and the grids h that it leaves
+  module _ (ground : List ℤ) (g : Grids) where
+    abbrev pub Promised : Answer → Grids → Type 0
+    Promised a h =
+        (a ≡ answer rows cols side settings ground g)
+        × ((h ≡ after rows cols side settings ground g)
+        × ((accepts a ≡ true → Trails rows cols ground (h .filled) (h .direction))
+        × ((accepts a ≡ true → Totals rows cols (h .direction) (h .count) (validOf rows cols ground))
+        × (accepts a ≡ true → Surface rows cols ground (h .filled)))))

@@ -4,8 +4,10 @@ ghost use Rattle.factor.specs.Cell.{factorOf};
 ghost use Rattle.factor.specs.Steepness.{steepnessFactor};
 ghost use Rattle.factor.specs.Inner.{Sloping, Measured};
 use crate::exponent::class_of;
+use crate::guess::Guesses;
 use crate::guess::length_factor;
 use crate::guess::sine_of;
+use crate::thresholds::Lists;
 
 // The greatest length in mm that has a factor.
 const LONGEST: u64 = 304800;
@@ -14,7 +16,7 @@ const LONGEST: u64 = 304800;
 const TOO_LONG: u32 = 4294967294;
 
 // S in thousandths, for a cell of this fall and steepness q.
-fn steepness_factor(side: u32, q: u64, fall: u32, guesses: &mut [u16; 7708]) -> u64
+fn steepness_factor(side: u32, q: u64, fall: u32, guesses: &mut Guesses) -> u64
     requires { ⌜ Sloping side q ⌝ }
     ensures { λ r. ⌜ r ≡ steepnessFactor side q ⌝ }
 {
@@ -28,8 +30,8 @@ pub(crate) fn factor_of(
     q: u64,
     length: u64,
     fall: u32,
-    lists: &[u32; 1492],
-    guesses: &mut [u16; 7708],
+    lists: &Lists,
+    guesses: &mut Guesses,
 ) -> u32
     requires { ⌜ Measured side q length (now lists) ⌝ }
     ensures { λ r. ⌜ r ≡ factorOf side q length ⌝ }

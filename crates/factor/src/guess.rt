@@ -11,8 +11,13 @@ use crate::length_factor::length_reaches;
 use crate::search::moved_if;
 use crate::sine::sine_by_halves;
 use crate::sine::sine_reaches;
+use crate::thresholds::Lists;
 use crate::thresholds::WIDTH;
 
+// The table: 1,415 slots for the lengths of each class of slopes, then 2,048 for falls.
+pub(crate) type Guesses = [u16; 7708];
+
+// A guess as an index.
 fn wide(guess: u16) -> usize {
     guess as usize
 }
@@ -42,7 +47,7 @@ fn fall_slot(fall: u32) -> usize
 }
 
 // Whether t is the length factor of a class of slopes and a length in mm.
-fn is_length_factor(class: usize, mm: u32, lists: &[u32; 1492], t: usize) -> bool
+fn is_length_factor(class: usize, mm: u32, lists: &Lists, t: usize) -> bool
     requires { ⌜ Looked class mm (now lists) × (t < 372) ⌝ }
     ensures { λ r. ⌜ (r ≡ true → t ≡ lengthFactor (class + 2) mm) ⌝ }
 {
@@ -58,12 +63,7 @@ fn is_sine(side: u32, q: u64, u: usize) -> bool
 }
 
 // L in hundredths, for a class of slopes and a length in mm: the slot's guess or the next t, if one of them is right.
-pub(crate) fn length_factor(
-    class: usize,
-    mm: u32,
-    lists: &[u32; 1492],
-    guesses: &mut [u16; 7708],
-) -> usize
+pub(crate) fn length_factor(class: usize, mm: u32, lists: &Lists, guesses: &mut Guesses) -> usize
     requires { ⌜ Looked class mm (now lists) ⌝ }
     ensures { λ r. ⌜ r ≡ lengthFactor (class + 2) mm ⌝ }
 {
@@ -81,7 +81,7 @@ pub(crate) fn length_factor(
 }
 
 // The sine in thousandths, for a cell of this fall and steepness q: the slot's guess or the next u, if one of them is right.
-pub(crate) fn sine_of(side: u32, q: u64, fall: u32, guesses: &mut [u16; 7708]) -> usize
+pub(crate) fn sine_of(side: u32, q: u64, fall: u32, guesses: &mut Guesses) -> usize
     requires { ⌜ Sloping side q ⌝ }
     ensures { λ r. ⌜ r ≡ sineOf side q ⌝ }
 {

@@ -4,10 +4,11 @@ ghost use Prim.Native.Nat.{_+_, _<_};
 ghost use Rattle.factor.specs.LengthFactor.{reached, lengthFactor};
 ghost use Rattle.factor.specs.Inner.{Looked};
 use crate::search::moved_if;
+use crate::thresholds::Lists;
 use crate::thresholds::WIDTH;
 
 // Whether a length in mm reaches t, for a class of slopes.
-pub(crate) fn length_reaches(class: usize, mm: u32, lists: &[u32; 1492], t: usize) -> bool
+pub(crate) fn length_reaches(class: usize, mm: u32, lists: &Lists, t: usize) -> bool
     requires { ⌜ Looked class mm (now lists) × (t < 373) ⌝ }
     ensures { λ r. ⌜ r ≡ reached (class + 2) mm t ⌝ }
 {
@@ -15,7 +16,7 @@ pub(crate) fn length_reaches(class: usize, mm: u32, lists: &[u32; 1492], t: usiz
 }
 
 // L in hundredths, for a class of slopes and a length in mm, by halves.
-pub(crate) fn length_factor_by_halves(class: usize, mm: u32, lists: &[u32; 1492]) -> usize
+pub(crate) fn length_factor_by_halves(class: usize, mm: u32, lists: &Lists) -> usize
     requires { ⌜ Looked class mm (now lists) ⌝ }
     ensures { λ r. ⌜ r ≡ lengthFactor (class + 2) mm ⌝ }
 {

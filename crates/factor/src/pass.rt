@@ -16,12 +16,14 @@ ghost use Rattle.factor.specs.Pass.{Turning, Turned, Measuring};
 use crate::cell::factor_of;
 use crate::channel::channel_bound;
 use crate::channel::largest;
+use crate::guess::Guesses;
 use crate::inflow::START;
 use crate::inflow::amount_of;
 use crate::inflow::cutoff_for;
 use crate::inflow::step_over;
 use crate::slope::steepness_of;
 use crate::thresholds;
+use crate::thresholds::Lists;
 use settings::Rules;
 
 // What lengths are measured by: the columns of the map, its cell side in cm, the rules, and the greatest count that is no channel's.
@@ -77,8 +79,8 @@ fn turn(
     lengths: &mut [u64],
     factors: &mut [u32],
     x: usize,
-    lists: &[u32; 1492],
-    guesses: &mut [u16; 7708],
+    lists: &Lists,
+    guesses: &mut Guesses,
 )
     requires { ⌜ Turning terms (now direction) (now count) (now lengths) (now factors) x × Listed (now lists) ⌝ }
     ensures { λ _. ⌜ Turned terms (now (direction .entry)) (now (count .entry)) (now (lengths .entry)) (now (factors .entry)) x (now (lengths .exit)) (now (factors .exit)) ⌝ }
@@ -131,7 +133,7 @@ pub(crate) fn measure(
         most: channel_bound(threshold, largest(count)),
     };
     let lists = thresholds::all();
-    let mut guesses: [u16; 7708] = [0; 7708];
+    let mut guesses: Guesses = [0; 7708];
     clear(lengths);
     let mut place: usize = 0;
     while place < places {

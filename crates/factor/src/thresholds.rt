@@ -1,19 +1,21 @@
 // The constant lists of document 01, "LS": the first millimetre at which each t is reached, up to 304,800 mm.
 ghost use Rattle.factor.specs.Inner.{Listed};
 
+// Four rows, for the exponents 2/10, 3/10, 4/10 and 5/10.
+pub(crate) type Lists = [u32; 1492];
+
 // The places of a row: t stands at place t.
 pub(crate) const WIDTH: usize = 373;
 
-// Four rows, for the exponents 2/10, 3/10, 4/10 and 5/10. They are made once and lent from then on, since each use of a constant
-// list copies it.
-pub(crate) fn all() -> [u32; 1492]
+// The lists, made once and lent from then on, since each use of a constant list copies it.
+pub(crate) fn all() -> Lists
     ensures { λ r. ⌜ Listed r ⌝ }
 {
     FIRSTS
 }
 
 // 4,294,967,295 stands at each t that no length reaches.
-const FIRSTS: [u32; 1492] = [
+const FIRSTS: Lists = [
     0,
     1,
     1,
