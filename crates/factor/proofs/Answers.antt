@@ -26,7 +26,7 @@ use Rattle.terrain.proofs.Public.{passed-ready, filled-small, directions-direct
 use Rattle.factor.specs.Length.{lengthsOf}
 use Rattle.factor.specs.Grid.{factorsOf}
 use Rattle.factor.specs.Answers.{Grids, lent, judged, mapOf, answerOf, gridsOf, answer, after, accepts}
-use Rattle.factor.specs.Inner.{firstTests}
+use Rattle.factor.specs.Inner.{firstTests, Promised}
 use Rattle.factor.specs.Pass.{Measuring}
 use Rattle.factor.specs.declared.Answer.{Answer}
 use Rattle.factor.specs.declared.Answer.the-variants.{Accepted, Refused}
@@ -47,26 +47,17 @@ module _ (rows cols side : ℕ) (settings : Settings) (ground : List ℤ) (g : G
   abbrev first : Test
   first = verdict (firstTests rows cols side settings ground g)
 
-  -- what document 01 demands of the grids of an accepted call
-  abbrev pub Demanded : Answer → Grids → Type 0
-  Demanded a h =
-      (accepts a ≡ true → Trails rows cols ground (h .filled) (h .direction))
-      × ((accepts a ≡ true → Totals rows cols (h .direction) (h .count) (validOf rows cols ground)) × (accepts a ≡ true → Surface rows cols ground (h .filled)))
-
-  -- the promise of the map call, for an answer and the grids that it leaves
-  abbrev pub Promised : Answer → Grids → Type 0
-  Promised a h = (a ≡ answer rows cols side settings ground g) × ((h ≡ after rows cols side settings ground g) × Demanded a h)
-
-  refusal-demands : (f : Refusal) (h : Grids) → Demanded (Refused f) h
-  refusal-demands f h = ((λ e. absurd (true≢false (sym e))), ((λ e. absurd (true≢false (sym e))), (λ e. absurd (true≢false (sym e)))))
+  -- its promise
+  abbrev Made : Answer → Grids → Type 0
+  Made = Promised rows cols side settings ground g
 
   -- a refusal
-  refuses : (f : Refusal) → judged rows cols side settings ground g ≡ failed (f .number) (f .place) → Promised (Refused f) g
+  refuses : (f : Refusal) → judged rows cols side settings ground g ≡ failed (f .number) (f .place) → Made (Refused f) g
   unfolding answer after answerOf gridsOf
-  refuses f j = (sym (ap (answerOf rows cols ground) j), (sym (ap (gridsOf rows cols side settings ground g) j), refusal-demands f g))
+  refuses f j = (sym (ap (answerOf rows cols ground) j), (sym (ap (gridsOf rows cols side settings ground g) j), ((λ e. absurd (true≢false (sym e))), ((λ e. absurd (true≢false (sym e))), (λ e. absurd (true≢false (sym e)))))))
 
   -- by one of the first four tests
-  pub first-refuses : (f : Refusal) → failed (f .number) (f .place) ≡ verdict (firstTests rows cols side settings ground g) → Promised (Refused f) g
+  pub first-refuses : (f : Refusal) → failed (f .number) (f .place) ≡ verdict (firstTests rows cols side settings ground g) → Made (Refused f) g
   first-refuses f e = refuses f (first-fails rows cols side settings ground g (sym e))
 
   -- ---- the terrain layer is called
@@ -86,10 +77,10 @@ module _ (rows cols side : ℕ) (settings : Settings) (ground : List ℤ) (g : G
             let r : f ≡ record { number = number; place = place } = cc in
             (a, first-passes rows cols side settings ground g e ∙ j ∙ sym (ap (λ (r : Refusal). failed (r .number) (r .place)) r))
 
-    pub terrain-refused : (f : Refusal) {t : terrain.Grids} → drained.Refused f ≡ terrain.answer rows cols ground (lentOn g) → After rows cols ground (lentOn g) t (terrain.judged rows cols ground (lentOn g)) → Promised (Refused f) (lent (t .filled) (t .direction) (t .count) (g .lengths) (t .falls) (t .workspace))
+    pub terrain-refused : (f : Refusal) {t : terrain.Grids} → drained.Refused f ≡ terrain.answer rows cols ground (lentOn g) → After rows cols ground (lentOn g) t (terrain.judged rows cols ground (lentOn g)) → Made (Refused f) (lent (t .filled) (t .direction) (t .count) (g .lengths) (t .falls) (t .workspace))
     terrain-refused f {t} q a =
         let w = terrain-refuses f q a in
-        subst (λ (u : terrain.Grids). Promised (Refused f) (lent (u .filled) (u .direction) (u .count) (g .lengths) (u .falls) (u .workspace))) (sym (w .0)) (refuses f (w .1))
+        subst (λ (u : terrain.Grids). Made (Refused f) (lent (u .filled) (u .direction) (u .count) (g .lengths) (u .falls) (u .workspace))) (sym (w .0)) (refuses f (w .1))
 
     -- it accepts, and gives its grids
     terrain-accepts : {valid longest : ℕ} {t : terrain.Grids} → drained.Accepted valid longest ≡ terrain.answer rows cols ground (lentOn g) → After rows cols ground (lentOn g) t heights → Accepting rows cols ground (lentOn g) t valid longest
@@ -127,7 +118,7 @@ module _ (rows cols side : ℕ) (settings : Settings) (ground : List ℤ) (g : G
           }
 
       -- and the whole promise
-      pub accepted-promised : {rules : Rules} {lengths factors workspace : List ℕ} → rules ≡ rulesOf settings → (lengths ≡ lengthsOf rows cols side rules (filledLevels rows cols ground) (t .direction) (t .count)) × (factors ≡ factorsOf rows cols side (filledLevels rows cols ground) (t .direction) lengths) → workspace ≡ replicate (rows * cols) 0 → Drainage rows cols ground (t .filled) (t .direction) (t .count) (validOf rows cols ground) → Promised (Accepted valid longest) (lent (t .filled) (t .direction) (t .count) lengths factors workspace)
+      pub accepted-promised : {rules : Rules} {lengths factors workspace : List ℕ} → rules ≡ rulesOf settings → (lengths ≡ lengthsOf rows cols side rules (filledLevels rows cols ground) (t .direction) (t .count)) × (factors ≡ factorsOf rows cols side (filledLevels rows cols ground) (t .direction) lengths) → workspace ≡ replicate (rows * cols) 0 → Drainage rows cols ground (t .filled) (t .direction) (t .count) (validOf rows cols ground) → Made (Accepted valid longest) (lent (t .filled) (t .direction) (t .count) lengths factors workspace)
       unfolding answer after answerOf gridsOf mapOf
       accepted-promised {rules} {lengths} {factors} {workspace} r d w n =
           let j = first-passes rows cols side settings ground g e ∙ found .passes in

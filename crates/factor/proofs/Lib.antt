@@ -1,4 +1,5 @@
 pub mod Tables
+pub mod Guesses
 pub mod Power
 pub mod Sines
 pub mod Factors

@@ -1,49 +1,22 @@
--- The power rule of the length factor: a list that passes a computed test gives the first millimetre at which each t is reached,
--- and the number of its entries up to a length is the length's factor. Assumes nothing.
-use mathlib.Core.Path.{_≡_, refl, sym, _∙_}
-use mathlib.Core.Bool.{Bool, true, false, not, _&&_, true≢false}
+-- The power rule of the length factor: rows that pass a computed test give the first millimetre at which each t is reached, so an
+-- entry tells whether a length reaches its t. Assumes nothing.
+use mathlib.Core.Path.{_≡_, refl, sym, subst, _∙_}
+use mathlib.Core.Bool.{Bool, true, false, not, cond, _&&_, _||_, true≢false}
 use mathlib.Core.List.{List}
-use Prim.Native.Nat.{ℕ, zero, suc, _-_, _*_, _^_, _≤_, _<_, suc-le-suc}
+use Prim.Native.Nat.{ℕ, zero, suc, _+_, _-_, _*_, _/_, _%_, _^_, _≤_, _<_}
 use native.Mathlib.Nat.{le-trans, le-refl, mul-le-mul-left, mul-le-mul-right, pow-le-pow-left}
 use native.Mathlib.Decide.{decLe}
 use native.Mathlib.Omega.{arith}
-use borrow.Author.Tests.{leb-true, leb-false, le-leb, not-true}
-use lib.Dec.{leb}
+use borrow.Author.Tests.{leb-true, leb-false, le-leb, lt-leb, eqb-true, not-true}
+use lib.Dec.{leb, eqb}
 use lib.ListN.{getD, length}
 use Rattle.laws.proofs.Tests.{and-both}
 use Rattle.laws.specs.Greatest.{greatest}
 use Rattle.factor.specs.LengthFactor.{longest, reached, lengthFactor}
-use Rattle.factor.specs.Inner.{Firsts, Rising, upTo}
+use Rattle.factor.specs.Inner.{Listed}
 use Rattle.laws.proofs.Greatest.{Falling, greatest-is, greatest-within, greatest-passes, greatest-above}
+use Rattle.factor.proofs.Guesses.{greatest-here}
 use Rattle.factor.proofs.Tables.{every, every-at}
-
--- ---- the test of a list
-
--- the entry x at the place i reaches i + 1, and the millimetre before does not
-abbrev pub isFirst : ℕ → ℕ → ℕ → Bool
-isFirst k i x = reached k x (suc i) && not (reached k (x - 1) (suc i))
-
--- so is each entry; one t more than the list has is not reached at 304,800 mm
-abbrev pub passes : ℕ → List ℕ → Bool
-passes k xs = leb (length xs) 1000 && (not (reached k longest (suc (length xs))) && every (isFirst k) 0 xs)
-
-pub firsts : (k : ℕ) {xs : List ℕ} → passes k xs ≡ true → Firsts k xs
-firsts k {xs} t =
-    record {
-      short = leb-true (length xs) 1000 (outer .0);
-      there = λ i h. at i h .0;
-      before = λ i h. not-true (reached k (getD xs i 0 - 1) (suc i)) (at i h .1);
-      whole = not-true (reached k longest (suc (length xs))) (inner .0);
-    }
-  where
-    outer : (leb (length xs) 1000 ≡ true) × (not (reached k longest (suc (length xs))) && every (isFirst k) 0 xs ≡ true)
-    outer = and-both (leb (length xs) 1000) (not (reached k longest (suc (length xs))) && every (isFirst k) 0 xs) t
-
-    inner : (not (reached k longest (suc (length xs))) ≡ true) × (every (isFirst k) 0 xs ≡ true)
-    inner = and-both (not (reached k longest (suc (length xs)))) (every (isFirst k) 0 xs) (outer .1)
-
-    at : (i : ℕ) → i < length xs → (reached k (getD xs i 0) (suc i) ≡ true) × (not (reached k (getD xs i 0 - 1) (suc i)) ≡ true)
-    at i h = and-both (reached k (getD xs i 0) (suc i)) (not (reached k (getD xs i 0 - 1) (suc i))) (every-at (isFirst k) xs i (inner .1) h)
 
 -- ---- what is reached at a length
 
@@ -68,44 +41,59 @@ missed-on k {m} {n} {t} {u} h l f = go (reached k m u) refl
     go true e = absurd (true≢false (sym (reached-on k h l e) ∙ f))
     go false e = e
 
--- ---- a list
+-- ---- the rows, one for each class, of t from 0 to 372
 
--- where an entry is at most a length, each one before it is
-pub up-to-falling : {xs : List ℕ} → Rising xs → (x : ℕ) → Falling (upTo xs x) (length xs)
-up-to-falling {xs} r x u v p h l t =
-    le-leb (getD xs (u - 1) 0) x (le-trans (r .rising (u - 1) (v - 1) (omega arith) (omega arith)) (leb-true (getD xs (v - 1) 0) x t))
+-- the entry x of t is 0, or the millimetre before does not reach t; it reaches t, if it is a length that has a factor, and else none does
+abbrev pub isFirst : ℕ → ℕ → ℕ → Bool
+isFirst k t x = cond (leb x longest) (reached k x t && (leb x 0 || not (reached k (x - 1) t))) (not (reached k longest t))
 
-module _ {k : ℕ} {xs : List ℕ} (f : Firsts k xs) where
-  pub firsts-rising : Rising xs
-  firsts-rising = record { short = f .short; rising = λ i j h l. go i j h l (decLe (getD xs i 0) (getD xs j 0)) }
-    where
-      go : (i j : ℕ) → i ≤ j → j < length xs → Dec (getD xs i 0 ≤ getD xs j 0) → getD xs i 0 ≤ getD xs j 0
-      go i j h l (yes d) = d
-      go i j h l (no d) =
-          let t : reached k (getD xs i 0 - 1) (suc i) ≡ true = reached-on k (omega (arith, d)) (suc-le-suc h) (f .there j l) in
-          absurd (true≢false (sym t ∙ f .before i (omega arith)))
+-- so is each entry of the four rows
+abbrev pub passes : List ℕ → Bool
+passes xs = eqb (length xs) 1492 && every (λ i x. isFirst (i / 373 + 2) (i % 373) x) 0 xs
 
-  -- the entries up to a length are as many as the length's factor
-  pub firsts-count : (mm : ℕ) → mm ≤ longest → greatest (upTo xs mm) (length xs) ≡ lengthFactor k mm
-  unfolding lengthFactor
-  firsts-count mm h =
-      sym (greatest-is (reached k mm) 1000 (greatest (upTo xs mm) (length xs)) (le-trans (greatest-within (upTo xs mm) (length xs)) (f .short))
-      (λ l. low (greatest (upTo xs mm) (length xs)) l (greatest-within (upTo xs mm) (length xs)) (greatest-passes (upTo xs mm) (length xs) l))
-      (λ u l b. high u l (decLe u (length xs))))
-    where
-      sub-one : (i : ℕ) → suc i - 1 ≡ i
-      sub-one i = omega arith
+-- such an entry tells whether a length reaches t
+first-tells : (k t x mm : ℕ) → isFirst k t x ≡ true → mm ≤ longest → leb x mm ≡ reached k mm t
+first-tells k t x mm f h = go (leb x longest) refl f
+  where
+    here : (b : Bool) → leb x mm ≡ b → reached k x t ≡ true → (leb x 0 || not (reached k (x - 1) t)) ≡ true → leb x mm ≡ reached k mm t
+    here true e r n = e ∙ sym (reached-on k (leb-true x mm e) (le-refl t) r)
+    here false e r n = e ∙ sym (before (leb x 0) refl n)
+      where
+        before : (b : Bool) → leb x 0 ≡ b → (b || not (reached k (x - 1) t)) ≡ true → reached k mm t ≡ false
+        before true z n = absurd (omega (arith, leb-true x 0 z, leb-false x mm e))
+        before false z n = missed-on k (omega (arith, leb-false x mm e)) (le-refl t) (not-true (reached k (x - 1) t) n)
 
-      low : (t : ℕ) → 0 < t → t ≤ length xs → upTo xs mm t ≡ true → reached k mm t ≡ true
-      low zero l b p = absurd (omega arith)
-      low (suc i) l b p = reached-on k (leb-true (getD xs i 0) mm (rw (sub-one i) at p)) (le-refl (suc i)) (f .there i b)
+    go : (b : Bool) → leb x longest ≡ b → cond b (reached k x t && (leb x 0 || not (reached k (x - 1) t))) (not (reached k longest t)) ≡ true → leb x mm ≡ reached k mm t
+    go true e f =
+        let both = and-both (reached k x t) (leb x 0 || not (reached k (x - 1) t)) f in
+        here (leb x mm) refl (both .0) (both .1)
+    go false e f = lt-leb x mm (omega (arith, leb-false x longest e)) ∙ sym (missed-on k h (le-refl t) (not-true (reached k longest t) f))
 
-      high : (u : ℕ) → greatest (upTo xs mm) (length xs) < u → Dec (u ≤ length xs) → reached k mm u ≡ false
-      high zero l d = absurd (omega arith)
-      high (suc i) l (yes d) =
-          let p : mm < getD xs i 0 = leb-false (getD xs i 0) mm (rw (sub-one i) at (greatest-above (upTo xs mm) (length xs) (suc i) l d)) in
-          missed-on k (omega arith) (le-refl (suc i)) (f .before i d)
-      high (suc i) l (no d) = missed-on k h (omega (arith, d)) (f .whole)
+pub listed : {xs : List ℕ} → passes xs ≡ true → Listed xs
+listed {xs} p = record { tells = λ class t mm c l h. first-tells (class + 2) t (getD xs (373 * class + t) 0) mm (at class t c l) h }
+  where
+    both : (eqb (length xs) 1492 ≡ true) × (every (λ i x. isFirst (i / 373 + 2) (i % 373) x) 0 xs ≡ true)
+    both = and-both (eqb (length xs) 1492) (every (λ i x. isFirst (i / 373 + 2) (i % 373) x) 0 xs) p
+
+    long : length xs ≡ 1492
+    long = eqb-true (length xs) 1492 (both .0)
+
+    at : (class t : ℕ) → class < 4 → t < 373 → isFirst (class + 2) t (getD xs (373 * class + t) 0) ≡ true
+    at class t c l =
+        let class-is : (373 * class + t) / 373 ≡ class = omega arith in
+        let t-is : (373 * class + t) % 373 ≡ t = omega arith in
+        rw (class-is, t-is) at (every-at (λ i x. isFirst (i / 373 + 2) (i % 373) x) xs (373 * class + t) (both .1) (omega (arith, long)))
+
+-- ---- the factor of a length
+
+-- where t is reached, each smaller t is
+pub reached-falling : (k mm n : ℕ) → Falling (reached k mm) n
+reached-falling k mm n u v p h l t = reached-on k (le-refl mm) h t
+
+-- a t that is reached, with the next one not
+pub factor-here : (k mm t : ℕ) → t ≤ 1000 → reached k mm t ≡ true → reached k mm (t + 1) ≡ false → lengthFactor k mm ≡ t
+unfolding lengthFactor
+factor-here k mm t l r m = greatest-here 1000 t (reached-falling k mm 1000) l r m
 
 -- ---- the factor is the greatest of all, not only of those up to 1,000
 
@@ -131,3 +119,21 @@ length-factor-greatest k mm h l =
     high : (u : ℕ) → greatest (reached k mm) 1000 < u → Dec (u ≤ 1000) → reached k mm u ≡ false
     high u g (yes d) = greatest-above (reached k mm) 1000 u g d
     high u g (no d) = missed-on k {t = 1001} l (omega (arith, d)) (over k h)
+
+-- ---- the search in a row, which ends at 371
+
+last : (class : ℕ) → class < 4 → reached (class + 2) longest 372 ≡ false
+last zero h = refl
+last (suc zero) h = refl
+last (suc (suc zero)) h = refl
+last (suc (suc (suc zero))) h = refl
+last (suc (suc (suc (suc class)))) h = absurd (omega arith)
+
+pub factor-in-row : (class mm : ℕ) → class < 4 → mm ≤ longest → greatest (reached (class + 2) mm) 371 ≡ lengthFactor (class + 2) mm
+factor-in-row class mm h l =
+    let all = length-factor-greatest (class + 2) mm (omega arith) l in
+    greatest-is (reached (class + 2) mm) 371 (lengthFactor (class + 2) mm) (within (decLe (lengthFactor (class + 2) mm) 371) (all .0)) (λ p. all .0) (λ u a b. all .1 u a)
+  where
+    within : Dec (lengthFactor (class + 2) mm ≤ 371) → reached (class + 2) mm (lengthFactor (class + 2) mm) ≡ true → lengthFactor (class + 2) mm ≤ 371
+    within (yes d) r = d
+    within (no d) r = absurd (true≢false (sym (reached-on (class + 2) {t = 372} l (omega (arith, d)) r) ∙ last class h))

@@ -1,5 +1,5 @@
 -- The search for the sine: a u passes its test where a greater one does, and none above 1,000 passes. Assumes nothing.
-use mathlib.Core.Path.{_≡_}
+use mathlib.Core.Path.{_≡_, sym, _∙_}
 use mathlib.Core.Bool.{true, false}
 use Prim.Native.Nat.{ℕ, zero, suc, _+_, _*_, _≤_, _<_}
 use native.Mathlib.Nat.{le-trans, mul-le-mul, mul-le-mul-right}
@@ -9,6 +9,7 @@ use borrow.Author.Tests.{leb-true, le-leb, lt-leb}
 use Rattle.laws.specs.Greatest.{greatest}
 use Rattle.factor.specs.Steepness.{sineReaches, sineOf}
 use Rattle.laws.proofs.Greatest.{Falling, greatest-is, greatest-within, greatest-passes, greatest-above}
+use Rattle.factor.proofs.Guesses.{greatest-here}
 
 -- the two sides of the test
 abbrev asked : ℕ → ℕ → ℕ → ℕ
@@ -42,8 +43,12 @@ sine-greatest c q h =
         let w : 1000 * 1000 * (q + 2 * (c * c)) ≤ asked c q u = mul-le-mul-right (q + 2 * (c * c)) (mul-le-mul l l) in
         lt-leb (asked c q u) (given q) (omega (arith, mul-le-mul h h))
 
--- the search goes up to 1,023, since its steps are powers of two
-pub sine-wide : (c q : ℕ) → 1 ≤ c → greatest (sineReaches c q) 1023 ≡ sineOf c q
-sine-wide c q h =
+-- a search may go further
+pub sine-wide : (c q n : ℕ) → 1 ≤ c → 1000 ≤ n → greatest (sineReaches c q) n ≡ sineOf c q
+sine-wide c q n h l =
     let all = sine-greatest c q h in
-    greatest-is (sineReaches c q) 1023 (sineOf c q) (omega (arith, sine-within c q)) (λ l. all .0) (λ u a b. all .1 u a)
+    greatest-is (sineReaches c q) n (sineOf c q) (omega (arith, sine-within c q)) (λ p. all .0) (λ u a b. all .1 u a)
+
+-- a u that passes, with the next one failing
+pub sine-here : (c q u : ℕ) → 1 ≤ c → sineReaches c q u ≡ true → sineReaches c q (u + 1) ≡ false → sineOf c q ≡ u
+sine-here c q u h passes fails = sym (sine-wide c q (u + 1000) h (omega arith)) ∙ greatest-here (u + 1000) u (sine-falling c q (u + 1000)) (omega arith) passes fails

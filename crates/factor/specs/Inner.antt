@@ -1,5 +1,5 @@
 -- What the functions inside the crate assume, and what they answer: no promise of a public call cites this file. Assumes nothing.
-use Prim.Native.Nat.{ℕ, suc, _-_, _*_, _/_, _%_, _^_, _≤_, _<_}
+use Prim.Native.Nat.{ℕ, _+_, _-_, _*_, _/_, _%_, _^_, _≤_, _<_}
 use mathlib.Core.Bool.{Bool, true, false, cond}
 use mathlib.Core.List.{List, [], _∷_}
 use mathlib.Core.Path.{_≡_}
@@ -13,7 +13,10 @@ use Rattle.settings.specs.declared.Rules.{Rules}
 use Rattle.settings.specs.Settings.{rulesOf, settingsTest}
 use Rattle.factor.specs.Inflow.{cutoffFor, startLength, stepOver, amountOf}
 use Rattle.factor.specs.LengthFactor.{longest, reached}
-use Rattle.factor.specs.Answers.{Grids, placesOf}
+use Rattle.terrain.specs.Drainage.{Trails, Totals, Surface}
+use Rattle.terrain.specs.Answers.{validOf}
+use Rattle.factor.specs.Answers.{Grids, placesOf, answer, after, accepts}
+use Rattle.factor.specs.declared.Answer.{Answer}
 use Rattle.factor.specs.declared.judge.Judgement.{Judgement}
 use Rattle.factor.specs.declared.judge.Judgement.the-variants.{Sound, Unsound}
 
@@ -23,34 +26,22 @@ pub record Sloping (side q : ℕ) : Type 0 where
   pub side-small : side ≤ 100000
   pub steepness-small : q < 2 ^ 43
 
--- a list of at most 1,000 entries that do not fall
-pub record Rising (list : List ℕ) : Type 0 where
-  pub short : length list ≤ 1000
-  pub rising : (i j : ℕ) → i ≤ j → j < length list → getD list i 0 ≤ getD list j 0
+-- "a constant list gives the first millimetre at which each t is reached": in the row of each class of slopes, the entry of t is at
+-- most a length just where the length reaches t
+pub record Listed (lists : List ℕ) : Type 0 where
+  pub tells : (class t mm : ℕ) → class < 4 → t < 373 → mm ≤ longest → leb (getD lists (373 * class + t) 0) mm ≡ reached (class + 2) mm t
 
--- the entry before the place n is at most x
-abbrev pub upTo : List ℕ → ℕ → ℕ → Bool
-upTo list x n = leb (getD list (n - 1) 0) x
-
--- "a constant list gives the first millimetre at which each t is reached": t at the place t - 1, for each t that a length up to 304,800 mm reaches
-pub record Firsts (k : ℕ) (list : List ℕ) : Type 0 where
-  pub short : length list ≤ 1000
-  pub there : (i : ℕ) → i < length list → reached k (getD list i 0) (suc i) ≡ true
-  pub before : (i : ℕ) → i < length list → reached k (getD list i 0 - 1) (suc i) ≡ false
-  pub whole : reached k longest (suc (length list)) ≡ false
-
--- the lists of the four exponents
-pub record Listed (five four three two : List ℕ) : Type 0 where
-  pub fives : Firsts 5 five
-  pub fours : Firsts 4 four
-  pub threes : Firsts 3 three
-  pub twos : Firsts 2 two
+-- a class and a length that have a factor
+pub record Looked (class mm : ℕ) (lists : List ℕ) : Type 0 where
+  pub class-in : class < 4
+  pub length-in : mm ≤ longest
+  pub listed : Listed lists
 
 -- a cell, whose length is as small as those of a map: at most 14,142 for each of 1,048,576 cells, and 5,000
-pub record Measured (side q len : ℕ) (five four three two : List ℕ) : Type 0 where
+pub record Measured (side q len : ℕ) (lists : List ℕ) : Type 0 where
   pub sloping : Sloping side q
   pub length-small : len < 2 ^ 36
-  pub listed : Listed five four three two
+  pub listed : Listed lists
 
 -- no less than any fall, any steepness and any length: heights go from -999,900 to 900,000, and a step is at most a diagonal
 abbrev pub greatestFall : ℕ
@@ -90,3 +81,21 @@ firstTests rows cols side settings ground g = sizeTest rows cols ∷ lengthTest 
 pub record Judges (rows cols side : ℕ) (settings : Settings) (ground : List ℤ) (g : Grids) (r : Judgement) : Type 0 where
   pub verdict-is : found r ≡ verdict (firstTests rows cols side settings ground g)
   pub rules-are : (rules : Rules) → r ≡ Sound rules → rules ≡ rulesOf settings
+
+-- ---- the map call after these tests
+
+module _ (rows cols side : ℕ) (settings : Settings) where
+  -- they are passed, and the rules are those of the settings
+  pub record Passing (rules : Rules) (ground : List ℤ) (g : Grids) : Type 0 where
+    pub passes : verdict (firstTests rows cols side settings ground g) ≡ passed
+    pub rules-are : rules ≡ rulesOf settings
+
+  -- the promise of the map call, for lent grids g, an answer, and the grids h that it leaves
+  module _ (ground : List ℤ) (g : Grids) where
+    abbrev pub Promised : Answer → Grids → Type 0
+    Promised a h =
+        (a ≡ answer rows cols side settings ground g)
+        × ((h ≡ after rows cols side settings ground g)
+        × ((accepts a ≡ true → Trails rows cols ground (h .filled) (h .direction))
+        × ((accepts a ≡ true → Totals rows cols (h .direction) (h .count) (validOf rows cols ground))
+        × (accepts a ≡ true → Surface rows cols ground (h .filled)))))

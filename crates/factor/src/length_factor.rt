@@ -1,43 +1,31 @@
-// The length factor, looked up in the list of its exponent.
+// The length factor, looked up in the row of its exponent.
 ghost use mathlib.Core.Path.{_≡_};
-ghost use Prim.Native.Nat.{_≤_};
-ghost use lib.ListN.{length};
-ghost use Rattle.laws.specs.Greatest.{greatest};
-ghost use Rattle.factor.specs.LengthFactor.{longest, lengthFactor};
-ghost use Rattle.factor.specs.Inner.{Rising, upTo, Listed};
+ghost use Prim.Native.Nat.{_+_, _<_};
+ghost use Rattle.factor.specs.LengthFactor.{reached, lengthFactor};
+ghost use Rattle.factor.specs.Inner.{Looked};
 use crate::search::moved_if;
+use crate::thresholds::Lists;
+use crate::thresholds::WIDTH;
 
-// How many entries of a rising list are at most x, by halves.
-fn count_up_to(list: &[u32], x: u32) -> usize
-    requires { ⌜ Rising (now list) ⌝ }
-    ensures { λ r. ⌜ r ≡ greatest (upTo (now (list .entry)) x) (length (now (list .entry))) ⌝ }
+// Whether a length in mm reaches t, for a class of slopes.
+pub(crate) fn length_reaches(class: usize, mm: u32, lists: &Lists, t: usize) -> bool
+    requires { ⌜ Looked class mm (now lists) × (t < 373) ⌝ }
+    ensures { λ r. ⌜ r ≡ reached (class + 2) mm t ⌝ }
 {
-    let mut at: usize = 0;
-    let mut left = list.len() + 1;
-    while 1 < left {
-        let half = left / 2;
-        at = moved_if(list[at + half - 1] <= x, at, half);
-        left -= half;
-    }
-    at
+    lists[WIDTH * class + t] <= mm
 }
 
-// L in hundredths, for the exponent k/10 and a length in mm.
-pub(crate) fn length_factor<'a>(
-    k: u32,
-    mm: u32,
-    five: &'a [u32],
-    four: &'a [u32],
-    three: &'a [u32],
-    two: &'a [u32],
-) -> usize
-    requires { ⌜ (2 ≤ k) × (k ≤ 5) × (mm ≤ longest) × Listed (now five) (now four) (now three) (now two) ⌝ }
-    ensures { λ r. ⌜ r ≡ lengthFactor k mm ⌝ }
+// L in hundredths, for a class of slopes and a length in mm, by halves.
+pub(crate) fn length_factor_by_halves(class: usize, mm: u32, lists: &Lists) -> usize
+    requires { ⌜ Looked class mm (now lists) ⌝ }
+    ensures { λ r. ⌜ r ≡ lengthFactor (class + 2) mm ⌝ }
 {
-    match k {
-        5 => count_up_to(five, mm),
-        4 => count_up_to(four, mm),
-        3 => count_up_to(three, mm),
-        _ => count_up_to(two, mm),
+    let mut t: usize = 0;
+    let mut left = WIDTH - 1;
+    while 1 < left {
+        let half = left / 2;
+        t = moved_if(length_reaches(class, mm, lists, t + half), t, half);
+        left -= half;
     }
+    t
 }

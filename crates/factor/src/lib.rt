@@ -7,6 +7,7 @@
 mod cell;
 mod channel;
 mod exponent;
+mod guess;
 mod inflow;
 mod judge;
 mod length_factor;
@@ -23,8 +24,11 @@ ghost use mathlib.Core.Bool.{true};
 ghost use lib.ListN.{length, replicate};
 ghost use Rattle.terrain.specs.Drainage.{Trails, Totals, Surface};
 ghost use Rattle.terrain.specs.Answers.{validOf};
+ghost use Rattle.settings.specs.declared.Settings.{Settings};
 ghost use Rattle.factor.specs.Answers.{lent, answer, after, accepts};
+ghost use Rattle.factor.specs.Inner.{Passing, Promised};
 use judge::Judgement;
+use settings::Rules;
 use text::Refusal;
 
 // The answer of the map call: the number of valid cells and the steps of the longest trail, or why there is no map.
@@ -41,6 +45,56 @@ fn clear(workspace: &mut [u32])
     while x < workspace.len() {
         workspace[x] = 0;
         x += 1;
+    }
+}
+
+// Maps a ground that passed the tests of `judge`, by the rules of its settings.
+fn map_sound(
+    rows: usize,
+    columns: usize,
+    side: u32,
+    rules: Rules,
+    ground: &[i32],
+    filled: &mut [i32],
+    direction: &mut [u8],
+    count: &mut [u32],
+    lengths: &mut [u64],
+    factors: &mut [u32],
+    workspace: &mut [u32],
+) -> Answer
+    requires { ⌜ ((settings : Settings) × Passing rows columns side settings rules (now ground) (lent (now filled) (now direction) (now count) (now lengths) (now factors) (now workspace))) ⌝ }
+    ensures { λ r. ⌜ ((settings : Settings) → Passing rows columns side settings rules (now (ground .entry)) (lent (now (filled .entry)) (now (direction .entry)) (now (count .entry)) (now (lengths .entry)) (now (factors .entry)) (now (workspace .entry))) → Promised rows columns side settings (now (ground .entry)) (lent (now (filled .entry)) (now (direction .entry)) (now (count .entry)) (now (lengths .entry)) (now (factors .entry)) (now (workspace .entry))) r (lent (now (filled .exit)) (now (direction .exit)) (now (count .exit)) (now (lengths .exit)) (now (factors .exit)) (now (workspace .exit)))) ⌝ }
+{
+    let drained = terrain::map(
+        rows,
+        columns,
+        ground,
+        filled,
+        direction,
+        count,
+        factors,
+        workspace,
+    );
+    match drained {
+        terrain::Answer::Refused(refusal) => Answer::Refused(refusal),
+        terrain::Answer::Accepted { valid, longest } => {
+            pass::measure(
+                columns,
+                side,
+                rules,
+                direction,
+                count,
+                workspace,
+                valid as usize,
+                lengths,
+                factors,
+            );
+            clear(workspace);
+            Answer::Accepted {
+                valid: valid,
+                longest: longest,
+            }
+        }
     }
 }
 
@@ -78,39 +132,20 @@ pub fn map(
         factors,
         workspace,
     );
-    let rules = match judgement {
-        Judgement::Sound(rules) => rules,
-        Judgement::Unsound(refusal) => return Answer::Refused(refusal),
-    };
-    let drained = terrain::map(
-        rows,
-        columns,
-        ground,
-        filled,
-        direction,
-        count,
-        factors,
-        workspace,
-    );
-    match drained {
-        terrain::Answer::Refused(refusal) => Answer::Refused(refusal),
-        terrain::Answer::Accepted { valid, longest } => {
-            pass::measure(
-                columns,
-                side,
-                rules,
-                direction,
-                count,
-                workspace,
-                valid as usize,
-                lengths,
-                factors,
-            );
-            clear(workspace);
-            Answer::Accepted {
-                valid: valid,
-                longest: longest,
-            }
-        }
+    match judgement {
+        Judgement::Unsound(refusal) => Answer::Refused(refusal),
+        Judgement::Sound(rules) => map_sound(
+            rows,
+            columns,
+            side,
+            rules,
+            ground,
+            filled,
+            direction,
+            count,
+            lengths,
+            factors,
+            workspace,
+        ),
     }
 }

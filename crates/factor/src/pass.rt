@@ -16,12 +16,14 @@ ghost use Rattle.factor.specs.Pass.{Turning, Turned, Measuring};
 use crate::cell::factor_of;
 use crate::channel::channel_bound;
 use crate::channel::largest;
+use crate::guess::Guesses;
 use crate::inflow::START;
 use crate::inflow::amount_of;
 use crate::inflow::cutoff_for;
 use crate::inflow::step_over;
 use crate::slope::steepness_of;
 use crate::thresholds;
+use crate::thresholds::Lists;
 use settings::Rules;
 
 // What lengths are measured by: the columns of the map, its cell side in cm, the rules, and the greatest count that is no channel's.
@@ -70,25 +72,24 @@ fn brought(terms: Terms, k: usize, p: u64, q: u64, length: u64) -> u64
 }
 
 // The turn of the cell x.
-fn turn<'a>(
+fn turn(
     terms: Terms,
     direction: &[u8],
     count: &[u32],
     lengths: &mut [u64],
     factors: &mut [u32],
     x: usize,
-    five: &'a [u32],
-    four: &'a [u32],
-    three: &'a [u32],
-    two: &'a [u32],
+    lists: &Lists,
+    guesses: &mut Guesses,
 )
-    requires { ⌜ Turning terms (now direction) (now count) (now lengths) (now factors) x × Listed (now five) (now four) (now three) (now two) ⌝ }
+    requires { ⌜ Turning terms (now direction) (now count) (now lengths) (now factors) x × Listed (now lists) ⌝ }
     ensures { λ _. ⌜ Turned terms (now (direction .entry)) (now (count .entry)) (now (lengths .entry)) (now (factors .entry)) x (now (lengths .exit)) (now (factors .exit)) ⌝ }
 {
     let length = settled(terms.most, count[x], lengths[x]);
     lengths[x] = length;
-    let p = steepness_of(factors[x]);
-    factors[x] = factor_of(terms.side, p, length, five, four, three, two);
+    let fall = factors[x];
+    let p = steepness_of(fall);
+    factors[x] = factor_of(terms.side, p, length, fall, lists, guesses);
     let k = u8::trailing_zeros(direction[x]) as usize;
     if 8 <= k {
         return;
@@ -132,6 +133,7 @@ pub(crate) fn measure(
         most: channel_bound(threshold, largest(count)),
     };
     let lists = thresholds::all();
+    let mut guesses: Guesses = [0; 7708];
     clear(lengths);
     let mut place: usize = 0;
     while place < places {
@@ -142,10 +144,8 @@ pub(crate) fn measure(
             lengths,
             factors,
             order[place] as usize,
-            &lists.five,
-            &lists.four,
-            &lists.three,
-            &lists.two,
+            &lists,
+            &mut guesses,
         );
         place += 1;
     }

@@ -14,12 +14,12 @@ use Rattle.factor.proofs.pass.measure.Statement.{statement}
 use Rattle.factor.proofs.pass.measure.Tie as tie
 
 abbrev Inv-loop : tie.InvT-loop
-Inv-loop columns side direction count order places lengths₀ factors₀ terms lists place₀ lengths factors place =
+Inv-loop columns side direction count order places lengths₀ factors₀ terms lists guesses₀ place₀ lengths factors guesses place =
     (length lengths ≡ length lengths₀) × (length factors ≡ length factors₀) × (place ≤ places)
     × ((rows : ℕ) (lv : List ℕ) → Charted rows lv terms direction count order places → Walking rows (terms .columns) (terms .side) (terms .rules) lv direction count order lengths₀ factors₀ 0 → Walking rows (terms .columns) (terms .side) (terms .rules) lv direction count order lengths factors place)
 
 abbrev μ-loop : tie.MeasureT-loop
-μ-loop columns side direction count order places lengths₀ factors₀ terms lists place₀ lengths factors place =
+μ-loop columns side direction count order places lengths₀ factors₀ terms lists guesses₀ place₀ lengths factors guesses place =
     places - place
 
 -- the arguments, from the channel rule's bound on; and the cleared lengths, from the loop on
@@ -65,8 +65,7 @@ cast-turn c = let l = c .before .before .before .before in let m = start (bound 
 
 turn-requires : tie.Need-turn-requires Inv-loop μ-loop
 turn-requires c κs =
-    let a = c .before .before .before .before .before .before .before in
-    let l = a .before .before .before .before .before .before in
+    let l = c .before .before .before .before .before .before in
     let b = bound l in
     let s = start b in
     let m = s .pre .2 in
@@ -76,8 +75,7 @@ turn-requires c κs =
 add-place : tie.Need-add-place Inv-loop μ-loop
 add-place c =
     let t = c .before .before .before .before in
-    let a = t .before .before .before .before .before .before .before in
-    let l = a .before .before .before .before .before .before .before in
+    let l = t .before .before .before .before .before .before .before in
     let m = start (bound l) .pre .2 in
     omega (arith, downhill-few (m .directed) (m .order-is), m .directed .sized .small)
 
@@ -87,8 +85,7 @@ loop-less c = search needs
 loop-again : tie.Need-loop-again Inv-loop μ-loop
 loop-again c =
     let t = c .before .before .before .before in
-    let a = t .before .before .before .before .before .before .before in
-    let l = a .before .before .before .before .before .before .before in (
+    let l = t .before .before .before .before .before .before .before in (
       c .before .before .before .lengths2 .given ∙ l .loop .inv .0,
       c .before .factors .given ∙ l .loop .inv .1,
       omega arith,

@@ -15,10 +15,10 @@ use Rattle.factor.proofs.pass.turn.Tie as tie
 
 -- the arguments; and the turn's first steps, from the cell that x points at on
 abbrev start : tie.After-settled → tie.Start
-start c = let a = c .before .before .before .before .before .before in a .before .before .before .before .before
+start c = c .before .before .before .before .before .before .before
 
 abbrev settled-at : tie.Else1 → tie.After-settled
-settled-at c = c .before .before .before .before .before
+settled-at c = c .before .before .before .before .before .before
 
 -- the length is small
 length-small : (c : tie.After-settled) → c .settled .result ≤ greatestLength
@@ -59,21 +59,21 @@ mul-lengths c = search needs
 slice-write-lengths : tie.Need-slice-write-lengths
 slice-write-lengths c = search needs
 
-mul-steepness-of : tie.Need-mul-steepness-of
-mul-steepness-of c = search needs
+mul-fall : tie.Need-mul-fall
+mul-fall c = search needs
 
-slice-read-steepness-of : tie.Need-slice-read-steepness-of
-slice-read-steepness-of c = search needs
+slice-read-fall : tie.Need-slice-read-fall
+slice-read-fall c = search needs
 
 steepness-of-requires : tie.Need-steepness-of-requires
 steepness-of-requires c κs = search needs
 
 factor-of-requires : tie.Need-factor-of-requires
 factor-of-requires c κs =
-    let t = c .before .before in
+    let t = c .before .before .before in
     let s = start t in
     record {
-      sloping = record { side-some = s .pre .0 .side-some; side-small = s .pre .0 .side-small; steepness-small = omega (arith, c .steepness-of .ensures, steepness-small {fall = getD (s .args .factors .now) (s .args .x) 0} (s .pre .0 .fall-small)) };
+      sloping = record { side-some = s .pre .0 .side-some; side-small = s .pre .0 .side-small; steepness-small = omega (arith, c .before .steepness-of .ensures, steepness-small {fall = getD (s .args .factors .now) (s .args .x) 0} (s .pre .0 .fall-small)) };
       length-small = omega (arith, length-small t);
       listed = s .pre .1;
     }
@@ -88,7 +88,7 @@ shared-slice-read-k : tie.Need-shared-slice-read-k
 shared-slice-read-k c = search needs
 
 cast-k : tie.Need-cast-k
-cast-k c = let s = start (c .before .before .before .before) in omega (arith, trailing-le 8 (getD (s .args .direction .now) (s .args .x) 0))
+cast-k c = let s = start (c .before .before .before .before .before) in omega (arith, trailing-le 8 (getD (s .args .direction .now) (s .args .x) 0))
 
 same-length : tie.Need-same-length
 same-length c = search needs
@@ -99,18 +99,18 @@ same-length-2 c = search needs
 returns : tie.Need-returns
 returns c =
     let f = c .before .before in
-    let t = f .before .before .before in
+    let t = f .before .before .before .before in
     let s = start t in
-    turned-off (s .args .terms) (s .args .direction .now) (s .args .count .now) (s .args .lengths .now) (s .args .factors .now) (s .args .x) (t .settled .ensures) (f .before .steepness-of .ensures) (f .factor-of .ensures) (c .if1 .taken)
+    turned-off (s .args .terms) (s .args .direction .now) (s .args .count .now) (s .args .lengths .now) (s .args .factors .now) (s .args .x) (t .settled .ensures) (f .before .before .steepness-of .ensures) (f .factor-of .ensures) (c .if1 .taken)
 
 beside-requires : tie.Need-beside-requires
 beside-requires c κs = start (settled-at c) .pre .0 .beside-room (c .if1 .left)
 
-mul-steepness-of-2 : tie.Need-mul-steepness-of-2
-mul-steepness-of-2 c = omega (arith, next-in c .1, start (settled-at (c .before)) .pre .0 .factors-few)
+mul-steepness-of : tie.Need-mul-steepness-of
+mul-steepness-of c = omega (arith, next-in c .1, start (settled-at (c .before)) .pre .0 .factors-few)
 
-slice-read-steepness-of-2 : tie.Need-slice-read-steepness-of-2
-slice-read-steepness-of-2 c = let b = c .before in let s = start (settled-at (b .before)) in omega (arith, next-in b .1, length-set (s .args .factors .now) (s .args .x) (b .before .before .before .factor-of .result))
+slice-read-steepness-of : tie.Need-slice-read-steepness-of
+slice-read-steepness-of c = let b = c .before in let s = start (settled-at (b .before)) in omega (arith, next-in b .1, length-set (s .args .factors .now) (s .args .x) (b .before .before .before .factor-of .result))
 
 steepness-of-requires-2 : tie.Need-steepness-of-requires-2
 steepness-of-requires-2 c κs =
@@ -125,7 +125,7 @@ brought-requires c κs =
     let t = settled-at (b .before) in
     let s = start t in
     let other = getD-set-other (s .args .factors .now) (s .args .x) (b .beside .result) (f .factor-of .result) 0 (next-other b) in (
-      omega (arith, f .before .steepness-of .ensures, steepness-small {fall = getD (s .args .factors .now) (s .args .x) 0} (s .pre .0 .fall-small)),
+      omega (arith, f .before .before .steepness-of .ensures, steepness-small {fall = getD (s .args .factors .now) (s .args .x) 0} (s .pre .0 .fall-small)),
       omega (arith, c .steepness-of2 .ensures, steepness-small {fall = getD (set (s .args .factors .now) (s .args .x) (f .factor-of .result)) (b .beside .result) 0} (omega (arith, other, next-small b))),
       length-small t,
     )
@@ -143,7 +143,7 @@ add-longer c =
     let f = b .before .before .before in
     let t = settled-at (b .before) in
     let s = start t in
-    omega (arith, w .brought .ensures, brought-small (s .args .terms .side) (s .args .terms .rules) (trailingZeros 8 (getD (s .args .direction .now) (s .args .x) 0)) (f .before .steepness-of .result) (w .before .steepness-of2 .result) (t .settled .result) (length-small t))
+    omega (arith, w .brought .ensures, brought-small (s .args .terms .side) (s .args .terms .rules) (trailingZeros 8 (getD (s .args .direction .now) (s .args .x) 0)) (f .before .before .steepness-of .result) (w .before .steepness-of2 .result) (t .settled .result) (length-small t))
 
 longer-requires : tie.Need-longer-requires
 longer-requires c κs = search needs
@@ -167,7 +167,7 @@ returns-2 c =
     let f = b .before .before .before in
     let t = settled-at (b .before) in
     let s = start t in
-    turned-on (s .args .terms) (s .args .direction .now) (s .args .count .now) (s .args .lengths .now) (s .args .factors .now) (s .args .x) (t .settled .ensures) (f .before .steepness-of .ensures) (f .factor-of .ensures) (b .beside .ensures) (next-other b) (w .before .steepness-of2 .ensures) (w .brought .ensures) (c .longer .ensures) (b .before .if1 .left)
+    turned-on (s .args .terms) (s .args .direction .now) (s .args .count .now) (s .args .lengths .now) (s .args .factors .now) (s .args .x) (t .settled .ensures) (f .before .before .steepness-of .ensures) (f .factor-of .ensures) (b .beside .ensures) (next-other b) (w .before .steepness-of2 .ensures) (w .brought .ensures) (c .longer .ensures) (b .before .if1 .left)
 
 pub turn-spec : {M : Type 1} → statement M
 turn-spec =
@@ -180,8 +180,8 @@ turn-spec =
     settled-requires
     mul-lengths
     slice-write-lengths
-    mul-steepness-of
-    slice-read-steepness-of
+    mul-fall
+    slice-read-fall
     steepness-of-requires
     factor-of-requires
     mul-factors
@@ -192,8 +192,8 @@ turn-spec =
     same-length-2
     returns
     beside-requires
-    mul-steepness-of-2
-    slice-read-steepness-of-2
+    mul-steepness-of
+    slice-read-steepness-of
     steepness-of-requires-2
     brought-requires
     mul-longer

@@ -1,18 +1,18 @@
--- `factor::sine::steepness_factor` meets its contract: a sine is at most 1,000, so the sum fits. Assumes nothing.
+-- `factor::cell::steepness_factor` meets its contract: a sine is at most 1,000, so the sum fits. Assumes nothing.
 use borrow.Author.Needs.{needs}
 use Prim.Native.Nat.{_≤_}
 use native.Mathlib.Nat.{mul-le-mul}
 use native.Mathlib.Omega.{arith}
 use Rattle.factor.specs.Steepness.{steepnessFactor}
 use Rattle.factor.proofs.Sines.{sine-within}
-use Rattle.factor.proofs.sine.steepness_factor.Statement.{statement}
-use Rattle.factor.proofs.sine.steepness_factor.Tie as tie
+use Rattle.factor.proofs.cell.steepness_factor.Statement.{statement}
+use Rattle.factor.proofs.cell.steepness_factor.Tie as tie
 
 sine-of-requires : tie.Need-sine-of-requires
 sine-of-requires c κs = search needs
 
 small : (c : tie.After-sine-of) → c .sine-of .result ≤ 1000
-small c = omega (arith, c .sine-of .ensures, sine-within (c .before .args .side) (c .before .args .q))
+small c = omega (arith, c .sine-of .ensures, sine-within (c .before .before .args .side) (c .before .before .args .q))
 
 mul-result : tie.Need-mul-result
 mul-result c = omega (arith, mul-le-mul (small c) (small c))
