@@ -1,10 +1,10 @@
 -- The promise of the map call: from the judge's finding, the terrain layer's promise, and the pass along the order. Assumes nothing.
 use mathlib.Core.Path.{_≡_, refl, sym, ap, ap₂, subst, _∙_}
 use mathlib.Core.List.{List}
-use mathlib.Core.Bool.{Bool, true, false, true≢false}
-use Prim.Native.Nat.{ℕ, _*_, _≤_}
+use mathlib.Core.Bool.{true, false, true≢false}
+use Prim.Native.Nat.{ℕ, _*_}
 use native.Mathlib.Omega.{arith}
-use lib.ListN.{length, getD, replicate}
+use lib.ListN.{length, replicate}
 use lib.IntN.{ℤ}
 use Rattle.laws.specs.Tests.{Test, passed, failed, verdict}
 use Rattle.text.specs.declared.Refusal.{Refusal}
@@ -12,12 +12,10 @@ use Rattle.settings.specs.declared.Settings.{Settings}
 use Rattle.settings.specs.declared.Rules.{Rules}
 use Rattle.settings.specs.Settings.{rulesOf}
 use Rattle.terrain.specs.Cells.{Ready}
-use Rattle.terrain.specs.Filled.{filledLevels, filledOf}
+use Rattle.terrain.specs.Filled.{filledLevels}
 use Rattle.terrain.specs.Trail.{countsOf, longestOf}
-use Rattle.terrain.specs.Directed.{Directed}
-use Rattle.terrain.specs.Downhill.{Downhill}
 use Rattle.terrain.specs.Falls.{fallsOf}
-use Rattle.terrain.specs.Drainage.{Drainage, Trails, Totals, Surface}
+use Rattle.terrain.specs.Drainage.{Drainage}
 use Rattle.terrain.specs.Answers.{Mapped, After, validOf, directionOf}
 use Rattle.terrain.specs.Answers as terrain
 use Rattle.terrain.specs.declared.Answer as Drained

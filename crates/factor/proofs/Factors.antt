@@ -39,17 +39,6 @@ class-is c q h = go (leb (c * c) (5000 * q)) (ltb (9 * (c * c)) (5000 * q)) (leb
     go false true five x y z = absurd (omega (arith, leb-false (c * c) (5000 * q) x, ltb-true (9 * (c * c)) (5000 * q) y))
     go false false true x y z = absurd (omega (arith, leb-false (c * c) (5000 * q) x, leb-true (c * c) (200 * q) z))
 
--- no length reaches no t, whatever the exponent
-pub no-length : (c q : ℕ) → lengthFactor (exponentOf c q) 0 ≡ 0
-unfolding exponentOf lengthFactor
-no-length c q = go (leb (c * c) (200 * q)) (ltb (9 * (c * c)) (5000 * q)) (leb (c * c) (5000 * q))
-  where
-    go : (a b d : Bool) → lengthFactor (cond a 5 (cond b 4 (cond d 3 2))) 0 ≡ 0
-    go true b d = refl
-    go false true d = refl
-    go false false true = refl
-    go false false false = refl
-
 pub length-factor-within : (k mm : ℕ) → lengthFactor k mm ≤ 1000
 unfolding lengthFactor
 length-factor-within k mm = greatest-within (reached k mm) 1000
@@ -70,13 +59,6 @@ module _ (c q len : ℕ) where
   pub factor-short : {k t s : ℕ} → millimetres c len ≤ longest → k ≡ exponentOf c q → t ≡ lengthFactor k (millimetres c len) → s ≡ steepnessFactor c q → t * s ≡ factorOf c q len
   unfolding factorOf
   factor-short h e f g = rw (le-ltb longest (millimetres c len) h, f, e, g)
-
-  -- no length, no LS
-  pub factor-none : millimetres c len < 1 → 0 ≡ factorOf c q len
-  unfolding factorOf
-  factor-none h =
-      let e : millimetres c len ≡ 0 = omega arith in
-      rw (le-ltb longest (millimetres c len) (omega arith), e, no-length c q) (omega arith)
 
   -- a valid cell's LS is never NoData's
   pub factor-valid : factorOf c q len < noDataFactor

@@ -1,6 +1,6 @@
 -- The power rule of the length factor: rows that pass a computed test give the first millimetre at which each t is reached, so an
 -- entry tells whether a length reaches its t. Assumes nothing.
-use mathlib.Core.Path.{_≡_, refl, sym, subst, _∙_}
+use mathlib.Core.Path.{_≡_, refl, sym, _∙_}
 use mathlib.Core.Bool.{Bool, true, false, not, cond, _&&_, _||_, true≢false}
 use mathlib.Core.List.{List}
 use Prim.Native.Nat.{ℕ, zero, suc, _+_, _-_, _*_, _/_, _%_, _^_, _≤_, _<_}
@@ -14,7 +14,7 @@ use Rattle.laws.proofs.Tests.{and-both}
 use Rattle.laws.specs.Greatest.{greatest}
 use Rattle.factor.specs.LengthFactor.{longest, reached, lengthFactor}
 use Rattle.factor.specs.Inner.{Listed}
-use Rattle.laws.proofs.Greatest.{Falling, greatest-is, greatest-within, greatest-passes, greatest-above}
+use Rattle.laws.proofs.Greatest.{Falling, greatest-is, greatest-passes, greatest-above}
 use Rattle.factor.proofs.Guesses.{greatest-here}
 use Rattle.factor.proofs.Tables.{every, every-at}
 

@@ -1,11 +1,11 @@
 -- What the functions inside the crate assume, and what they answer: no promise of a public call cites this file. Assumes nothing.
 use Prim.Native.Nat.{ℕ, _+_, _-_, _*_, _/_, _%_, _^_, _≤_, _<_}
-use mathlib.Core.Bool.{Bool, true, false, cond}
+use mathlib.Core.Bool.{Bool, true, cond}
 use mathlib.Core.List.{List, [], _∷_}
 use mathlib.Core.Path.{_≡_}
 use lib.Dec.{ltb, leb, eqb}
 use lib.IntN.{ℤ}
-use lib.ListN.{length, getD}
+use lib.ListN.{getD}
 use Rattle.laws.specs.Tests.{Test, passed, failed, verdict}
 use Rattle.text.specs.Ranges.{sizeTest, lengthTest, sideTest}
 use Rattle.settings.specs.declared.Settings.{Settings}

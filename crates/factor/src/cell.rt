@@ -40,9 +40,6 @@ pub(crate) fn factor_of(
     if LONGEST < mm {
         return TOO_LONG;
     }
-    if mm < 1 {
-        return 0;
-    }
     let t = length_factor(class_of(side, q), mm as u32, lists, guesses) as u64;
     (t * steepness_factor(side, q, fall, guesses)) as u32
 }

@@ -1,5 +1,5 @@
 -- `factor::map_sound` meets its contract: the terrain layer refuses, or its grids are measured. Assumes nothing.
-use mathlib.Core.Path.{_≡_, sym, ap, _∙_}
+use mathlib.Core.Path.{sym, ap, _∙_}
 use Prim.Native.Nat.{ℕ}
 use lib.ListN.{replicate}
 use borrow.Author.Needs.{needs}

@@ -1,16 +1,15 @@
 -- `factor::cell::factor_of` meets its contract: the class is that of the exponent, and every product fits. Assumes nothing.
 use borrow.Author.Needs.{needs}
-use mathlib.Core.Path.{_≡_}
-use Prim.Native.Nat.{_+_, _*_, _≤_, _<_}
+use Prim.Native.Nat.{_*_, _≤_}
 use native.Mathlib.Nat.{mul-le-mul, le-of-lt}
 use native.Mathlib.Omega.{arith}
-use Rattle.factor.proofs.Factors.{exponent-in, product-within, factor-long, factor-none, factor-short}
+use Rattle.factor.proofs.Factors.{exponent-in, product-within, factor-long, factor-short}
 use Rattle.factor.proofs.cell.factor_of.Statement.{statement}
 use Rattle.factor.proofs.cell.factor_of.Tie as tie
 
 -- the arguments, from the class on; and the class, from the steepness factor on
 abbrev start : tie.After-class-of → tie.Start
-start c = c .before .before .before
+start c = c .before .before
 
 abbrev classed : tie.After-steepness-factor → tie.After-class-of
 classed c = c .before .before .before .before
@@ -24,11 +23,6 @@ returns : tie.Need-returns
 returns c =
     let a = c .before .args in
     factor-long (a .side) (a .q) (a .length) (c .if1 .taken)
-
-returns-2 : tie.Need-returns-2
-returns-2 c =
-    let a = c .before .before .args in
-    factor-none (a .side) (a .q) (a .length) (c .if2 .taken)
 
 class-of-requires : tie.Need-class-of-requires
 class-of-requires c κs = search needs
@@ -53,11 +47,11 @@ mul-result c = omega (arith, small c)
 cast-result : tie.Need-cast-result
 cast-result c = omega (arith, small c)
 
-returns-3 : tie.Need-returns-3
-returns-3 c =
+returns-2 : tie.Need-returns-2
+returns-2 c =
     let k = classed c in
     let a = start k .args in
-    factor-short (a .side) (a .q) (a .length) (k .before .before .if1 .left) (k .class-of .ensures) (c .before .before .length-factor .ensures) (c .steepness-factor .ensures)
+    factor-short (a .side) (a .q) (a .length) (k .before .if1 .left) (k .class-of .ensures) (c .before .before .length-factor .ensures) (c .steepness-factor .ensures)
 
 pub factor-of-spec : {M : Type 1} → statement M
 factor-of-spec =
@@ -65,11 +59,10 @@ factor-of-spec =
     (tie.spec
     mul-mm
     returns
-    returns-2
     class-of-requires
     cast-length-factor
     length-factor-requires
     steepness-factor-requires
     mul-result
     cast-result
-    returns-3)
+    returns-2)
