@@ -11,31 +11,41 @@ use lib.Dec.{eqb}
 use borrow.Author.Tests.{ltb-true, lt-ltb, eq-eqb, ne-eqb}
 use borrow.Author.Count.{below-more}
 use Rattle.laws.specs.Lists.{tab, Agrees}
+use Rattle.laws.specs.Settle.{startOf}
 use Rattle.laws.proofs.Lists.{agrees-none, agrees-more, agrees-tab, getD-tab, length-tab}
 use Rattle.laws.proofs.First.{first-is, first-none}
 use Rattle.laws.proofs.Settle.{kept-active}
 use Rattle.terrain.specs.Cells.{neighbour, codeOf, validAt, rimAt}
-use Rattle.terrain.specs.Flat.{hasLower, flatAt, flatSteps, flatStepping, Walk, there, on, walked, Within, StepsKept}
+use Rattle.terrain.specs.Flat.{farSteps, hasLower, flatAt, flatSteps, flatStepping, Walk, there, on, walked, Within, StepsKept}
 use Rattle.terrain.specs.Direction.{steepSide, nearerAt, nearerSide, directionAt, directionsOf}
-use Rattle.terrain.specs.Levels.{Levels, steepestIn, downAt, fallDownAt, FallTo, Down}
+use Rattle.terrain.specs.Levels.{Levels, startAt, steepestIn, downAt, fallDownAt, FallTo, Down}
 use Rattle.terrain.specs.declared.direction.Fall.{Fall}
 use Rattle.terrain.proofs.Flats.{flat-valid, flat-inland, flat-is, steps-kept}
 
 -- ---- the cells passed before the flats are
 
 module _ {rows cols : ℕ} {lv : List ℕ} where
-  pub down-none : (dir falls : List ℕ) → Down rows cols lv dir falls 0
-  down-none dir falls = record { codes = agrees-none (downAt rows cols lv) 255 dir; falls = agrees-none (fallDownAt rows cols lv) 0 falls }
+  pub down-none : (dir falls steps : List ℕ) → Down rows cols lv dir falls steps 0
+  down-none dir falls steps =
+      record { codes = agrees-none (downAt rows cols lv) 255 dir; falls = agrees-none (fallDownAt rows cols lv) 0 falls; starts = agrees-none (startAt rows cols lv) 0 steps }
 
-  pub down-more : {dir falls dir′ falls′ : List ℕ} {x : ℕ} {a : Fall} → x < length dir → x < length falls → Down rows cols lv dir falls x → FallTo rows cols lv x a → dir′ ≡ set dir x (a .code) → falls′ ≡ set falls x (a .fall) → Down rows cols lv dir′ falls′ (x + 1)
-  down-more {dir} {falls} {dir′} {falls′} {x} {a} h k p f e q =
-      record { codes = rw e (agrees-more (downAt rows cols lv) 255 dir x (a .code) h (p .codes) (f .code)); falls = rw q (agrees-more (fallDownAt rows cols lv) 0 falls x (a .fall) k (p .falls) (f .fall)) }
+  pub down-more : {dir falls steps : List ℕ} {x n : ℕ} {a : Fall} → x < length dir → x < length falls → x < length steps → Down rows cols lv dir falls steps x → FallTo rows cols lv x a → n ≡ startAt rows cols lv x → Down rows cols lv (set dir x (a .code)) (set falls x (a .fall)) (set steps x n) (x + 1)
+  down-more {dir} {falls} {steps} {x} {n} {a} h k l p f e =
+      record {
+        codes = agrees-more (downAt rows cols lv) 255 dir x (a .code) h (p .codes) (f .code);
+        falls = agrees-more (fallDownAt rows cols lv) 0 falls x (a .fall) k (p .falls) (f .fall);
+        starts = agrees-more (startAt rows cols lv) 0 steps x n l (p .starts) e;
+      }
 
-  pub down-codes : {dir falls : List ℕ} → length dir ≡ rows * cols → Down rows cols lv dir falls (rows * cols) → dir ≡ tab (rows * cols) (downAt rows cols lv)
+  pub down-codes : {dir falls steps : List ℕ} → length dir ≡ rows * cols → Down rows cols lv dir falls steps (rows * cols) → dir ≡ tab (rows * cols) (downAt rows cols lv)
   down-codes {dir} h p = agrees-tab (downAt rows cols lv) 255 dir (rows * cols) h (p .codes)
 
-  pub down-falls : {dir falls : List ℕ} → length falls ≡ rows * cols → Down rows cols lv dir falls (rows * cols) → falls ≡ tab (rows * cols) (fallDownAt rows cols lv)
+  pub down-falls : {dir falls steps : List ℕ} → length falls ≡ rows * cols → Down rows cols lv dir falls steps (rows * cols) → falls ≡ tab (rows * cols) (fallDownAt rows cols lv)
   down-falls {dir} {falls} h p = agrees-tab (fallDownAt rows cols lv) 0 falls (rows * cols) h (p .falls)
+
+  pub down-starts : {dir falls steps : List ℕ} → length steps ≡ rows * cols → Down rows cols lv dir falls steps (rows * cols) → steps ≡ startOf (flatStepping rows cols lv)
+  unfolding startAt
+  down-starts {dir} {falls} {steps} h p = agrees-tab (λ x. cond (flatAt rows cols lv x) farSteps 0) 0 steps (rows * cols) h (p .starts)
 
 module _ (rows cols : ℕ) (lv : List ℕ) (x : ℕ) where
   -- ---- the codes of the sides passed

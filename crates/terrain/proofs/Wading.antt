@@ -8,6 +8,7 @@ use native.Mathlib.Omega.{arith}
 use native.Mathlib.Decide.{decLt, ℕ-discrete}
 use lib.ListN.{length, getD, set, length-set}
 use lib.Seq.{getD-set-same, getD-set-other}
+use lib.IntN.{ℤ, pos}
 use borrow.Author.Count.{below-more}
 use Rattle.laws.specs.Settle.{startOf}
 use Rattle.laws.proofs.Lists.{in-list, getD-tab, getD-tab-past}
@@ -23,11 +24,11 @@ use Rattle.terrain.proofs.Flats.{flat-valid, flat-inland, flat-high, ne
 
 -- ---- a cell that waits
 
-waits-more : {q : List ℕ} {from end x : ℕ} (v : ℕ) → Waits q from end x → Waits (set q end v) from (end + 1) x
-waits-more {q} {end = end} v w = record { place = w .place; after = w .after; before = omega (arith, w .before); is = getD-set-other q end (w .place) v 0 (λ e. omega (arith, w .before)) ∙ w .is }
+waits-more : {q : List ℤ} {from end x : ℕ} (v : ℤ) → Waits q from end x → Waits (set q end v) from (end + 1) x
+waits-more {q} {end = end} v w = record { place = w .place; after = w .after; before = omega (arith, w .before); is = getD-set-other q end (w .place) v (pos 0) (λ e. omega (arith, w .before)) ∙ w .is }
 
-waits-last : (q : List ℕ) {from end : ℕ} (x : ℕ) → from ≤ end → end < length q → Waits (set q end x) from (end + 1) x
-waits-last q {end = end} x h l = record { place = end; after = h; before = omega arith; is = getD-set-same q end x 0 l }
+waits-last : (q : List ℤ) {from end : ℕ} (x : ℕ) → from ≤ end → end < length q → Waits (set q end (pos x)) from (end + 1) x
+waits-last q {end = end} x h l = record { place = end; after = h; before = omega arith; is = getD-set-same q end (pos x) (pos 0) l }
 
 module _ {rows cols : ℕ} {lv : List ℕ} (levels : Levels rows cols lv) where
   abbrev nb : ℕ → ℕ → ℕ
@@ -68,7 +69,7 @@ module _ {rows cols : ℕ} {lv : List ℕ} (levels : Levels rows cols lv) where
         | no g ↦ omega (arith, c k l e, own, getD-set-other d y (nb z k) n 0 g)
       ]
 
-  put-wading : {d d′ q q′ : List ℕ} {from end e x n y : ℕ} → Wading rows cols lv d q from end x → 0 < n → n < getD d y 0 → Within rows cols lv y n → Put d q end n y d′ q′ e → Wading rows cols lv d′ q′ from e x
+  put-wading : {d d′ : List ℕ} {q q′ : List ℤ} {from end e x n y : ℕ} → Wading rows cols lv d q from end x → 0 < n → n < getD d y 0 → Within rows cols lv y n → Put d q end n y d′ q′ e → Wading rows cols lv d′ q′ from e x
   put-wading {d} {q = q} {from = from} {end = end} {x = x} {n = n} {y = y} w some less stands p = go p
     where
       inside : y < length d
@@ -83,23 +84,23 @@ module _ {rows cols : ℕ} {lv : List ℕ} (levels : Levels rows cols lv) where
       shores : (z : ℕ) → z < rows * cols → getD (set d y n) z 0 ≡ 0 → Calm rows cols lv (set d y n) z
       shores z l e = calm-set d less z (none z e) (w .shore z l (sym (getD-set-other d y z n 0 (none z e)) ∙ e))
 
-      go : {d′ q′ : List ℕ} {e : ℕ} → Put d q end n y d′ q′ e → Wading rows cols lv d′ q′ from e x
+      go : {d′ : List ℕ} {q′ : List ℤ} {e : ℕ} → Put d q end n y d′ q′ e → Wading rows cols lv d′ q′ from e x
       go (queued l) =
           record {
             kept = keeps;
             begun = omega (arith, w .begun);
-            fits = omega (arith, length-set q end y);
+            fits = omega (arith, length-set q end (pos y));
             shore = shores;
             due = (λ room z some not. elim (ℕ-discrete z y) [
-              | yes g ↦ inl (subst (Waits (set q end y) from (end + 1)) (sym g) (waits-last q y (w .begun) l))
-              | no g ↦ ⊎-elim (λ v. inl (waits-more y v)) (λ c. inr (calm-set d less z g c)) (w .due l z (omega (arith, getD-set-other d y z n 0 g)) not)
+              | yes g ↦ inl (subst (Waits (set q end (pos y)) from (end + 1)) (sym g) (waits-last q y (w .begun) l))
+              | no g ↦ ⊎-elim (λ v. inl (waits-more (pos y) v)) (λ c. inr (calm-set d less z g c)) (w .due l z (omega (arith, getD-set-other d y z n 0 g)) not)
             ]);
           }
       go (dropped l) = record { kept = keeps; begun = w .begun; fits = w .fits; shore = shores; due = (λ room z some not. absurd (omega arith)) }
 
   -- ---- the cells one step from where their flats end
 
-  pub shores-none : {d : List ℕ} (q : List ℕ) → d ≡ startOf (flatStepping rows cols lv) → Shores rows cols lv d q 0 0
+  pub shores-none : {d : List ℕ} (q : List ℤ) → d ≡ startOf (flatStepping rows cols lv) → Shores rows cols lv d q 0 0
   shores-none {d} q e =
       record {
         kept = subst (StepsKept rows cols lv) (sym e) (start-kept (flatStepping rows cols lv) (Within rows cols lv) (flat-rule rows cols lv (levels .long)));
@@ -125,14 +126,14 @@ module _ {rows cols : ℕ} {lv : List ℕ} (levels : Levels rows cols lv) where
       either z = ⊎-elim (λ h. inl (omega arith)) inr (far z)
 
   -- a cell that is not far, or that is beside none with 0 steps, is passed
-  pub shores-near : {d q : List ℕ} {end x : ℕ} → Shores rows cols lv d q end x → getD d x 0 < farSteps → Shores rows cols lv d q end (x + 1)
+  pub shores-near : {d : List ℕ} {q : List ℤ} {end x : ℕ} → Shores rows cols lv d q end x → getD d x 0 < farSteps → Shores rows cols lv d q end (x + 1)
   shores-near {x = x} s h = record { kept = s .kept; fits = s .fits; few = s .few; due = s .due; passed = below-more _ x (s .passed) (⊎-elim inl (λ e. absurd (omega arith)) (s .few x)) }
 
-  pub shores-past : {d q : List ℕ} {end x : ℕ} → Shores rows cols lv d q end x → 0 < nearestOf rows cols lv d x 8 → Shores rows cols lv d q end (x + 1)
+  pub shores-past : {d : List ℕ} {q : List ℤ} {end x : ℕ} → Shores rows cols lv d q end x → 0 < nearestOf rows cols lv d x 8 → Shores rows cols lv d q end (x + 1)
   shores-past {x = x} s h = record { kept = s .kept; fits = s .fits; few = s .few; due = s .due; passed = below-more _ x (s .passed) (inr h) }
 
   -- any other is put into the queue with one step
-  pub shores-put : {d d′ q q′ : List ℕ} {end e x : ℕ} → Shores rows cols lv d q end x → farSteps ≤ getD d x 0 → nearestOf rows cols lv d x 8 ≡ 0 → Put d q end 1 x d′ q′ e → Shores rows cols lv d′ q′ e (x + 1)
+  pub shores-put : {d d′ : List ℕ} {q q′ : List ℤ} {end e x : ℕ} → Shores rows cols lv d q end x → farSteps ≤ getD d x 0 → nearestOf rows cols lv d x 8 ≡ 0 → Put d q end 1 x d′ q′ e → Shores rows cols lv d′ q′ e (x + 1)
   shores-put {d} {q = q} {end = end} {x = x} s far zero p = go p
     where
       inside : x < length d
@@ -159,22 +160,22 @@ module _ {rows cols : ℕ} {lv : List ℕ} (levels : Levels rows cols lv) where
       passes : (z : ℕ) → z < x + 1 → (getD (set d x 1) z 0 ≤ 1) ⊎ (0 < nearestOf rows cols lv (set d x 1) z 8)
       passes = below-more _ x beyond (inl (omega (arith, one)))
 
-      go : {d′ q′ : List ℕ} {e : ℕ} → Put d q end 1 x d′ q′ e → Shores rows cols lv d′ q′ e (x + 1)
+      go : {d′ : List ℕ} {q′ : List ℤ} {e : ℕ} → Put d q end 1 x d′ q′ e → Shores rows cols lv d′ q′ e (x + 1)
       go (queued l) =
           record {
             kept = keeps;
-            fits = omega (arith, length-set q end x);
+            fits = omega (arith, length-set q end (pos x));
             few = fewer;
             due = (λ room z o. elim (ℕ-discrete z x) [
-              | yes g ↦ subst (Waits (set q end x) 0 (end + 1)) (sym g) (waits-last q x (omega arith) l)
-              | no g ↦ waits-more x (s .due l z (sym (getD-set-other d x z 1 0 g) ∙ o))
+              | yes g ↦ subst (Waits (set q end (pos x)) 0 (end + 1)) (sym g) (waits-last q x (omega arith) l)
+              | no g ↦ waits-more (pos x) (s .due l z (sym (getD-set-other d x z 1 0 g) ∙ o))
             ]);
             passed = passes;
           }
       go (dropped l) = record { kept = keeps; fits = s .fits; few = fewer; due = (λ room z o. absurd (omega arith)); passed = passes }
 
   -- with all cells passed the queue is ready: beside a cell of 0 steps none of its level has more than one
-  pub shores-all : {d q : List ℕ} {end x : ℕ} → Shores rows cols lv d q end x → rows * cols ≤ x → Wading rows cols lv d q 0 end (rows * cols)
+  pub shores-all : {d : List ℕ} {q : List ℤ} {end x : ℕ} → Shores rows cols lv d q end x → rows * cols ≤ x → Wading rows cols lv d q 0 end (rows * cols)
   shores-all {d} {x = x} s all = record { kept = s .kept; begun = omega arith; fits = s .fits; shore = shores; due = (λ room z some not. ⊎-elim (λ l. inl (s .due room z (omega arith))) (λ f. inr (λ k h e. omega (arith, s .kept .capped (nb z k)))) (s .few z)) }
     where
       beside : (z k : ℕ) → z < rows * cols → getD d z 0 ≡ 0 → k < 8 → getD lv (nb z k) 0 ≡ getD lv z 0 → nb z k < rows * cols → getD d (nb z k) 0 ≤ 1
@@ -194,28 +195,28 @@ module _ {rows cols : ℕ} {lv : List ℕ} (levels : Levels rows cols lv) where
   -- ---- the cell in hand
 
   -- the cell at the first place that waits is taken in hand
-  pub wading-take : {d q : List ℕ} {from end x : ℕ} → Wading rows cols lv d q from end (rows * cols) → from < end → x ≡ getD q from 0 → Wading rows cols lv d q (from + 1) end x
+  pub wading-take : {d : List ℕ} {q : List ℤ} {from end x : ℕ} → Wading rows cols lv d q from end (rows * cols) → from < end → ((z : ℕ) → z < 1048576 → getD q from (pos 0) ≡ pos z → x ≡ z) → Wading rows cols lv d q (from + 1) end x
   wading-take {d} {q} {from} {end} {x} w l f = record { kept = w .kept; begun = omega arith; fits = w .fits; shore = w .shore; due = dues }
     where
-      later : (z : ℕ) → (z ≡ x → ⊥) → Waits q from end z → Waits q (from + 1) end z
-      later z not v =
+      later : (z : ℕ) → z < 1048576 → (z ≡ x → ⊥) → Waits q from end z → Waits q (from + 1) end z
+      later z small not v =
           elim (ℕ-discrete (v .place) from) [
-            | yes e ↦ absurd (not (sym (f ∙ ap (λ (i : ℕ). getD q i 0) (sym e) ∙ v .is)))
+            | yes e ↦ absurd (not (sym (f z small (ap (λ (i : ℕ). getD q i (pos 0)) (sym e) ∙ v .is))))
             | no g ↦ record { place = v .place; after = omega (arith, v .after); before = v .before; is = v .is }
           ]
 
       dues : end < length q → (z : ℕ) → 0 < getD d z 0 → (z ≡ x → ⊥) → Waits q (from + 1) end z ⊎ Calm rows cols lv d z
-      dues room z some not = ⊎-elim (λ v. inl (later z not v)) inr (w .due room z some (λ e. omega (arith, in-list d z some, w .kept .long)))
+      dues room z some not = ⊎-elim (λ v. inl (later z (omega (arith, in-list d z some, w .kept .long, levels .sized .small)) not v)) inr (w .due room z some (λ e. omega (arith, in-list d z some, w .kept .long)))
 
   -- a cell with no steps was no flat one
-  pub wading-none : {d q : List ℕ} {from end x : ℕ} → Wading rows cols lv d q from end x → getD d x 0 ≡ 0 → Wading rows cols lv d q from end (rows * cols)
+  pub wading-none : {d : List ℕ} {q : List ℤ} {from end x : ℕ} → Wading rows cols lv d q from end x → getD d x 0 ≡ 0 → Wading rows cols lv d q from end (rows * cols)
   wading-none {d} {x = x} w o = record { kept = w .kept; begun = w .begun; fits = w .fits; shore = w .shore; due = (λ room z some not. w .due room z some (λ e. omega (arith, ap (λ (i : ℕ). getD d i 0) e))) }
 
   -- its neighbours are reached, side by side
-  pub spreading-none : {d q : List ℕ} {from end n x : ℕ} → Wading rows cols lv d q from end x → 0 < getD d x 0 → n ≡ getD d x 0 + 1 → Spreading rows cols lv d q from end n x 0
+  pub spreading-none : {d : List ℕ} {q : List ℤ} {from end n x : ℕ} → Wading rows cols lv d q from end x → 0 < getD d x 0 → n ≡ getD d x 0 + 1 → Spreading rows cols lv d q from end n x 0
   spreading-none {x = x} w some e = record { wading = w; flat = steps-flat (w .kept) x some; own = e; reached = (λ j h. absurd (omega arith)) }
 
-  pub spreading-more : {d d′ q q′ : List ℕ} {from end e n x y k : ℕ} → Spreading rows cols lv d q from end n x k → k < 8 → y ≡ neighbour rows cols x k → Reached d q end n y d′ q′ e → Spreading rows cols lv d′ q′ from e n x (k + 1)
+  pub spreading-more : {d d′ : List ℕ} {q q′ : List ℤ} {from end e n x y k : ℕ} → Spreading rows cols lv d q from end n x k → k < 8 → y ≡ neighbour rows cols x k → Reached d q end n y d′ q′ e → Spreading rows cols lv d′ q′ from e n x (k + 1)
   spreading-more {d} {q = q} {from = from} {end = end} {n = n} {x = x} {y = y} {k = k} s h ey r = go r
     where
       lies : y < rows * cols
@@ -237,11 +238,11 @@ module _ {rows cols : ℕ} {lv : List ℕ} (levels : Levels rows cols lv) where
       owns : n < getD d y 0 → n ≡ getD (set d y n) x 0 + 1
       owns less = s .own ∙ ap (λ (i : ℕ). i + 1) (sym (getD-set-other d y x n 0 (λ e. omega (arith, ap (λ (i : ℕ). getD d i 0) e, s .own))))
 
-      last : {d′ q′ : List ℕ} {e : ℕ} → n < getD d y 0 → Put d q end n y d′ q′ e → d′ ≡ set d y n
+      last : {d′ : List ℕ} {q′ : List ℤ} {e : ℕ} → n < getD d y 0 → Put d q end n y d′ q′ e → d′ ≡ set d y n
       last less (queued l) = refl
       last less (dropped l) = refl
 
-      go : {d′ q′ : List ℕ} {e : ℕ} → Reached d q end n y d′ q′ e → Spreading rows cols lv d′ q′ from e n x (k + 1)
+      go : {d′ : List ℕ} {q′ : List ℤ} {e : ℕ} → Reached d q end n y d′ q′ e → Spreading rows cols lv d′ q′ from e n x (k + 1)
       go (near l) = record { wading = s .wading; flat = s .flat; own = s .own; reached = below-more _ k (s .reached) (λ e. omega (arith, ap (λ (i : ℕ). getD d i 0) ey)) }
       go {d′} (lowered less p) =
           let i = last less p in
@@ -253,7 +254,7 @@ module _ {rows cols : ℕ} {lv : List ℕ} (levels : Levels rows cols lv) where
           }
 
   -- and then it is calm
-  pub spreading-all : {d q : List ℕ} {from end n x k : ℕ} → Spreading rows cols lv d q from end n x k → 8 ≤ k → Wading rows cols lv d q from end (rows * cols)
+  pub spreading-all : {d : List ℕ} {q : List ℤ} {from end n x k : ℕ} → Spreading rows cols lv d q from end n x k → 8 ≤ k → Wading rows cols lv d q from end (rows * cols)
   spreading-all {d} {x = x} s h =
       record {
         kept = s .wading .kept;
@@ -269,7 +270,7 @@ module _ {rows cols : ℕ} {lv : List ℕ} (levels : Levels rows cols lv) where
   -- ---- the end
 
   -- once nothing waits no steps can be lowered
-  wading-still : {d q : List ℕ} {from end : ℕ} → Wading rows cols lv d q from end (rows * cols) → end ≤ from → end < length q → StepsStill rows cols lv d
+  wading-still : {d : List ℕ} {q : List ℤ} {from end : ℕ} → Wading rows cols lv d q from end (rows * cols) → end ≤ from → end < length q → StepsStill rows cols lv d
   wading-still {d} {q} {from} {end} w none room x f = elim (decLt (nearestOf rows cols lv d x 8) farSteps) [ yes l ↦ beside l | no g ↦ omega (arith, w .kept .capped x) ]
     where
       calm : (z : ℕ) → z < rows * cols → Calm rows cols lv d z
@@ -287,5 +288,5 @@ module _ {rows cols : ℕ} {lv : List ℕ} (levels : Levels rows cols lv) where
           let b = neighbour-back rows cols x (i .0) (flat-lt x f) (i .1) n in
           omega (arith, calm (nb x (i .0)) n (across (i .0)) (across-small (i .0) (i .1)) (ap (λ (z : ℕ). getD lv z 0) b ∙ sym e), ap (λ (z : ℕ). getD d z 0) b, i .2, seen-same rows cols lv d x (i .0) e)
 
-  pub waded : {d q : List ℕ} {from end room : ℕ} → Wading rows cols lv d q from end (rows * cols) → end ≤ from → length q ≡ room → Waded rows cols lv d room end
+  pub waded : {d : List ℕ} {q : List ℤ} {from end room : ℕ} → Wading rows cols lv d q from end (rows * cols) → end ≤ from → length q ≡ room → Waded rows cols lv d room end
   waded w none e = record { kept = w .kept; still = (λ less. wading-still w none (omega arith)) }

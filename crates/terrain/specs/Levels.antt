@@ -2,8 +2,8 @@
 -- told the rows requires that there is a number of them, and ensures for every number that fits. Assumes nothing.
 use mathlib.Core.Path.{_≡_}
 use mathlib.Core.List.{List}
-use mathlib.Core.Bool.{Bool, cond, _&&_}
-use Prim.Native.Nat.{ℕ, _+_, _-_, _*_, _/_, _%_, _≤_}
+use mathlib.Core.Bool.{Bool, false, not, cond, _&&_, _||_}
+use Prim.Native.Nat.{ℕ, zero, suc, _+_, _-_, _*_, _/_, _%_, _≤_}
 use lib.ListN.{length, getD, set}
 use lib.Dec.{ltb, leb, eqb}
 use Rattle.laws.specs.Lists.{Agrees}
@@ -23,9 +23,11 @@ pub record Levels (rows cols : ℕ) (lv : List ℕ) : Type 0 where
 
 -- ---- flat
 
--- the steps that a cell of level v starts from, the lowest beside it being at `low`
-abbrev pub startOn : ℕ → ℕ → ℕ
-startOn v low = cond (ltb 0 v && leb v low) farSteps 0
+-- one of the first k neighbours of x has no data or is past a side of the grid
+unfoldable pub openAt : ℕ → ℕ → List ℕ → ℕ → ℕ → Bool
+unfolding neighbour
+openAt rows cols lv x zero = false
+openAt rows cols lv x (suc k) = openAt rows cols lv x k || not (validAt lv (neighbour rows cols x k))
 
 -- the steps that the cell x starts from
 unfoldable pub startAt : ℕ → ℕ → List ℕ → ℕ → ℕ
@@ -87,7 +89,8 @@ module _ (rows cols : ℕ) (lv : List ℕ) where
     pub code : a .code ≡ downAt x
     pub fall : a .fall ≡ fallDownAt x
 
-  -- the cells below x have their codes but for flats, and their falls
-  pub record Down (dir fall : List ℕ) (x : ℕ) : Type 0 where
+  -- the cells below x have their codes but for flats, their falls and the steps that they start from
+  pub record Down (dir fall steps : List ℕ) (x : ℕ) : Type 0 where
     pub codes : Agrees downAt 255 dir x
     pub falls : Agrees fallDownAt 0 fall x
+    pub starts : Agrees (startAt rows cols lv) 0 steps x

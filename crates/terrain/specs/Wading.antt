@@ -6,25 +6,26 @@ use mathlib.Core.Logic.{_⊎_}
 use mathlib.Core.Bool.{true}
 use Prim.Native.Nat.{ℕ, _+_, _*_, _≤_, _<_}
 use lib.ListN.{length, getD, set}
+use lib.IntN.{ℤ, pos}
 use Rattle.terrain.specs.Cells.{neighbour}
 use Rattle.terrain.specs.Flat.{farSteps, flatAt, nearestOf, StepsKept, StepsStill}
 
 -- the steps of the cell y set to n, and the cell added to a queue of `end` entries, if that has room: the steps, the queue and its entries afterwards
-pub data Put (d₀ q₀ : List ℕ) (end n y : ℕ) : List ℕ → List ℕ → ℕ → Type 0 where
-  queued : end < length q₀ → Put d₀ q₀ end n y (set d₀ y n) (set q₀ end y) (end + 1)
+pub data Put (d₀ : List ℕ) (q₀ : List ℤ) (end n y : ℕ) : List ℕ → List ℤ → ℕ → Type 0 where
+  queued : end < length q₀ → Put d₀ q₀ end n y (set d₀ y n) (set q₀ end (pos y)) (end + 1)
   dropped : length q₀ ≤ end → Put d₀ q₀ end n y (set d₀ y n) q₀ end
 
 -- the cell y reached at n steps: nothing changes if it has no more
-pub data Reached (d₀ q₀ : List ℕ) (end n y : ℕ) : List ℕ → List ℕ → ℕ → Type 0 where
+pub data Reached (d₀ : List ℕ) (q₀ : List ℤ) (end n y : ℕ) : List ℕ → List ℤ → ℕ → Type 0 where
   near : getD d₀ y 0 ≤ n → Reached d₀ q₀ end n y d₀ q₀ end
-  lowered : {d q : List ℕ} {e : ℕ} → n < getD d₀ y 0 → Put d₀ q₀ end n y d q e → Reached d₀ q₀ end n y d q e
+  lowered : {d : List ℕ} {q : List ℤ} {e : ℕ} → n < getD d₀ y 0 → Put d₀ q₀ end n y d q e → Reached d₀ q₀ end n y d q e
 
 -- the cell x stands in the queue at a place from `from` up to `to`
-pub record Waits (q : List ℕ) (from to x : ℕ) : Type 0 where
+pub record Waits (q : List ℤ) (from to x : ℕ) : Type 0 where
   pub place : ℕ
   pub after : from ≤ place
   pub before : place < to
-  pub is : getD q place 0 ≡ x
+  pub is : getD q place (pos 0) ≡ pos x
 
 module _ (rows cols : ℕ) (lv : List ℕ) where
   -- no neighbour of x on its level is more than one step further
@@ -32,7 +33,7 @@ module _ (rows cols : ℕ) (lv : List ℕ) where
   Calm d x = (k : ℕ) → k < 8 → getD lv (neighbour rows cols x k) 0 ≡ getD lv x 0 → getD d (neighbour rows cols x k) 0 ≤ getD d x 0 + 1
 
   -- the cells below x that are one step from where their flats end are queued
-  pub record Shores (d q : List ℕ) (end x : ℕ) : Type 0 where
+  pub record Shores (d : List ℕ) (q : List ℤ) (end x : ℕ) : Type 0 where
     pub kept : StepsKept rows cols lv d
     pub fits : end ≤ length q
     pub few : (z : ℕ) → (getD d z 0 ≤ 1) ⊎ (getD d z 0 ≡ farSteps)
@@ -40,7 +41,7 @@ module _ (rows cols : ℕ) (lv : List ℕ) where
     pub passed : (z : ℕ) → z < x → (getD d z 0 ≤ 1) ⊎ (0 < nearestOf rows cols lv d z 8)
 
   -- the queue's entries from `from` up to `end` wait, and the cell x is in hand
-  pub record Wading (d q : List ℕ) (from end x : ℕ) : Type 0 where
+  pub record Wading (d : List ℕ) (q : List ℤ) (from end x : ℕ) : Type 0 where
     pub kept : StepsKept rows cols lv d
     pub begun : from ≤ end
     pub fits : end ≤ length q
@@ -48,7 +49,7 @@ module _ (rows cols : ℕ) (lv : List ℕ) where
     pub due : end < length q → (z : ℕ) → 0 < getD d z 0 → (z ≡ x → ⊥) → Waits q from end z ⊎ Calm d z
 
   -- the neighbours of a flat cell x at the first k sides reached at n steps
-  pub record Spreading (d q : List ℕ) (from end n x k : ℕ) : Type 0 where
+  pub record Spreading (d : List ℕ) (q : List ℤ) (from end n x k : ℕ) : Type 0 where
     pub wading : Wading d q from end x
     pub flat : flatAt rows cols lv x ≡ true
     pub own : n ≡ getD d x 0 + 1

@@ -119,13 +119,6 @@ pub(crate) fn value_at(s: &[u32], i: usize) -> u32
     0
 }
 
-// An entry of a list of cells, in the width of an index.
-pub(crate) fn wide(entry: u32) -> usize
-    ensures { λ r. ⌜ r ≡ entry ⌝ }
-{
-    entry as usize
-}
-
 pub(crate) fn smaller(a: u32, b: u32) -> u32
     ensures { λ r. ⌜ r ≡ min a b ⌝ }
 {

@@ -1,24 +1,25 @@
 // Directions: the steepest lower neighbour of eight (D8, O'Callaghan and Mark 1984); over flats the first neighbour that is
 // one step nearer. Document 01, "Filling and directions".
 ghost use mathlib.Core.Path.{_≡_};
-ghost use mathlib.Core.Bool.{true, cond, _&&_};
+ghost use mathlib.Core.Bool.{true, not, cond, _&&_};
 ghost use Prim.Native.Nat.{ℕ, _+_, _*_, _≤_, _<_};
 ghost use lib.ListN.{length, getD};
 ghost use lib.Dec.{ltb, eqb};
 ghost use Rattle.laws.specs.Lists.{tab};
 ghost use Rattle.terrain.specs.Cells.{neighbour, codeOf};
 ghost use Rattle.terrain.specs.Inside.{Sized, Inside, RunsTo};
-ghost use Rattle.terrain.specs.Flat.{flatSteps, StepsKept};
+ghost use Rattle.terrain.specs.Flat.{farSteps, flatSteps, StepsKept};
 ghost use Rattle.terrain.specs.Direction.{nearerSide, directionsOf};
 ghost use Rattle.terrain.specs.Falls.{noFall, fallsOf};
 ghost use Rattle.terrain.specs.Filled.{top};
-ghost use Rattle.terrain.specs.Levels.{Levels, dropOf, keyOf, sideKey, Chosen, downAt, FallTo, Down};
+ghost use Rattle.terrain.specs.Levels.{Levels, openAt, dropOf, keyOf, sideKey, Chosen, downAt, FallTo, Down};
 use crate::cells::beside;
-use crate::cells::is_inside;
 use crate::cells::larger;
 use crate::cells::near;
 use crate::cells::run_end;
 use crate::cells::value_at;
+use crate::flat;
+use crate::flat::FAR;
 
 // The code of a NoData cell, and its fall.
 pub(crate) const NO_CODE: u8 = 255;
@@ -106,15 +107,36 @@ impl Fall {
     }
 }
 
-// The neighbour at side k of a cell x that is inside, or not.
-fn neighbour(rows: usize, columns: usize, x: usize, k: usize, inside: bool) -> usize
-    requires { ⌜ Sized rows columns × (x < rows * columns) × (k < 8) × (inside ≡ true → Inside rows columns x) ⌝ }
-    ensures { λ r. ⌜ r ≡ neighbour rows columns x k ⌝ }
+// The level of the neighbour at side k of a cell x that is inside, or not; 0 where there is none.
+fn level_beside(rows: usize, columns: usize, level: &[u32], x: usize, k: usize, inside: bool) -> u32
+    requires { ⌜ Levels rows columns (now level) × (x < rows * columns) × (k < 8) × (inside ≡ true → Inside rows columns x) ⌝ }
+    ensures { λ r. ⌜ r ≡ getD (now (level .entry)) (neighbour rows columns x k) 0 ⌝ }
 {
     if inside {
-        return beside(columns, x, k);
+        return level[beside(columns, x, k)];
     }
-    near(rows, columns, x, k)
+    value_at(level, near(rows, columns, x, k))
+}
+
+// Whether a cell x that is inside, or not, has a neighbour with no data or past a side of the grid.
+fn is_open(rows: usize, columns: usize, level: &[u32], x: usize, inside: bool) -> bool
+    requires { ⌜ Levels rows columns (now level) × (x < rows * columns) × (inside ≡ true → Inside rows columns x) ⌝ }
+    ensures { λ r. ⌜ r ≡ openAt rows columns (now (level .entry)) x 8 ⌝ }
+{
+    let mut found = false;
+    let mut k: usize = 0;
+    while k < 8 {
+        found = found | (level_beside(rows, columns, level, x, k, inside) < 1);
+        k += 1;
+    }
+    found
+}
+
+// The steps over flats that a cell of this code starts from: far if no neighbour is lower and it is no rim cell, else 0.
+fn start_steps(code: u8, rim: bool) -> u32
+    ensures { λ r. ⌜ r ≡ cond (eqb code 0 && not rim) farSteps 0 ⌝ }
+{
+    if (code == 0) & !rim { FAR } else { 0 }
 }
 
 // The key of side k of a cell x that is inside, or not.
@@ -122,12 +144,11 @@ fn key_at(rows: usize, columns: usize, level: &[u32], x: usize, k: usize, inside
     requires { ⌜ Levels rows columns (now level) × (x < rows * columns) × (k < 8) × (inside ≡ true → Inside rows columns x) ⌝ }
     ensures { λ r. ⌜ r ≡ sideKey rows columns (now (level .entry)) x k ⌝ }
 {
-    let v = level[x];
-    let y = neighbour(rows, columns, x, k, inside);
-    if inside {
-        return key_of(v, level[y], k);
-    }
-    key_of(v, value_at(level, y), k)
+    key_of(
+        level[x],
+        level_beside(rows, columns, level, x, k, inside),
+        k,
+    )
 }
 
 // The code, but for flats, and the fall of a cell x that is inside, or not.
@@ -146,40 +167,50 @@ fn fall_at(rows: usize, columns: usize, level: &[u32], x: usize, inside: bool) -
     Fall::chosen(cardinal, diagonal).at(level[x])
 }
 
-// Writes the codes, but for flats, and the falls of a run of cells that are inside.
+// Writes the codes, but for flats, the falls and the first steps of a run of cells that are inside.
 fn point_run(
     rows: usize,
     columns: usize,
     level: &[u32],
     direction: &mut [u8],
     falls: &mut [u32],
+    steps: &mut [u32],
     from: usize,
     to: usize,
 )
-    requires { ⌜ Levels rows columns (now level) × RunsTo rows columns from to × (length (now direction) ≡ rows * columns) × (length (now falls) ≡ rows * columns) × Down rows columns (now level) (now direction) (now falls) from ⌝ }
-    ensures { λ r. ⌜ Down rows columns (now (level .entry)) (now (direction .exit)) (now (falls .exit)) to ⌝ }
+    requires { ⌜ Levels rows columns (now level) × RunsTo rows columns from to × (length (now direction) ≡ rows * columns) × (length (now falls) ≡ rows * columns) × (length (now steps) ≡ rows * columns) × Down rows columns (now level) (now direction) (now falls) (now steps) from ⌝ }
+    ensures { λ r. ⌜ Down rows columns (now (level .entry)) (now (direction .exit)) (now (falls .exit)) (now (steps .exit)) to ⌝ }
 {
     let mut x = from;
     while x < to {
         let fall = fall_at(rows, columns, level, x, true);
         direction[x] = fall.code;
         falls[x] = fall.fall;
+        steps[x] = start_steps(fall.code, is_open(rows, columns, level, x, true));
         x += 1;
     }
 }
 
-// Writes the code of every cell, but for flats, and its fall.
-fn point_down(rows: usize, columns: usize, level: &[u32], direction: &mut [u8], falls: &mut [u32])
-    requires { ⌜ Levels rows columns (now level) × (length (now direction) ≡ rows * columns) × (length (now falls) ≡ rows * columns) ⌝ }
-    ensures { λ r. ⌜ Down rows columns (now (level .entry)) (now (direction .exit)) (now (falls .exit)) (rows * columns) ⌝ }
+// Writes the code of every cell, but for flats, its fall and the steps over flats that it starts from.
+fn point_down(
+    rows: usize,
+    columns: usize,
+    level: &[u32],
+    direction: &mut [u8],
+    falls: &mut [u32],
+    steps: &mut [u32],
+)
+    requires { ⌜ Levels rows columns (now level) × (length (now direction) ≡ rows * columns) × (length (now falls) ≡ rows * columns) × (length (now steps) ≡ rows * columns) ⌝ }
+    ensures { λ r. ⌜ Down rows columns (now (level .entry)) (now (direction .exit)) (now (falls .exit)) (now (steps .exit)) (rows * columns) ⌝ }
 {
     let mut x: usize = 0;
     while x < direction.len() {
         let end = run_end(rows, columns, x);
-        point_run(rows, columns, level, direction, falls, x, end);
+        point_run(rows, columns, level, direction, falls, steps, x, end);
         let fall = fall_at(rows, columns, level, end, false);
         direction[end] = fall.code;
         falls[end] = fall.fall;
+        steps[end] = start_steps(fall.code, is_open(rows, columns, level, end, false));
         x = end + 1;
     }
 }
@@ -227,18 +258,20 @@ fn point_flats(rows: usize, columns: usize, level: &[u32], steps: &[u32], direct
     }
 }
 
-// Writes the direction and the fall of every cell.
+// Writes the direction and the fall of every cell; `steps` and `queue` are scratch.
 pub(crate) fn point(
     rows: usize,
     columns: usize,
     level: &[u32],
-    steps: &[u32],
     direction: &mut [u8],
     falls: &mut [u32],
+    steps: &mut [u32],
+    queue: &mut [i32],
 )
-    requires { ⌜ Levels rows columns (now level) × (now steps ≡ flatSteps rows columns (now level)) × (length (now direction) ≡ rows * columns) × (length (now falls) ≡ rows * columns) ⌝ }
+    requires { ⌜ Levels rows columns (now level) × (length (now direction) ≡ rows * columns) × (length (now falls) ≡ rows * columns) × (length (now steps) ≡ rows * columns) ⌝ }
     ensures { λ r. ⌜ (now (direction .exit) ≡ directionsOf rows columns (now (level .entry))) × (now (falls .exit) ≡ fallsOf rows columns (now (level .entry)) (directionsOf rows columns (now (level .entry)))) ⌝ }
 {
-    point_down(rows, columns, level, direction, falls);
+    point_down(rows, columns, level, direction, falls, steps);
+    flat::measure(rows, columns, level, steps, queue);
     point_flats(rows, columns, level, steps, direction);
 }

@@ -8,60 +8,19 @@ ghost use mathlib.Core.List.{List};
 ghost use mathlib.Core.Bool.{true, cond};
 ghost use Prim.Native.Nat.{ℕ, _+_, _*_, _≤_, _<_};
 ghost use lib.ListN.{length, getD};
+ghost use lib.IntN.{pos};
 ghost use lib.Dec.{eqb};
-ghost use Rattle.laws.specs.Lists.{Agrees};
 ghost use Rattle.laws.specs.Settle.{startOf, Sweeping};
-ghost use Rattle.terrain.specs.Inside.{RunsTo};
 ghost use Rattle.terrain.specs.Flat.{farSteps, flatAt, nearestOf, flatStepping, flatSteps, Within, StepsKept};
-ghost use Rattle.terrain.specs.Levels.{Levels, startOn, startAt, LoweredSteps};
+ghost use Rattle.terrain.specs.Levels.{Levels, LoweredSteps};
 ghost use Rattle.terrain.specs.Wading.{Put, Reached, Shores, Wading, Spreading, Waded};
 use crate::cells::beside;
 use crate::cells::near;
-use crate::cells::run_end;
 use crate::cells::smaller;
 use crate::cells::value_at;
-use crate::cells::wide;
-use crate::filled::lowest_inside;
-use crate::filled::lowest_near;
 
 // More than any steps.
-const FAR: u32 = 2000000;
-
-// The steps that a cell starts from: far if it has data and nothing beside it is lower, else 0.
-fn start_steps(v: u32, low: u32) -> u32
-    ensures { λ r. ⌜ r ≡ startOn v low ⌝ }
-{
-    if v < 1 {
-        return 0;
-    }
-    if low < v { 0 } else { FAR }
-}
-
-// Sets the steps of a run of cells that are inside to where they start from.
-fn start_run(columns: usize, level: &[u32], steps: &mut [u32], from: usize, to: usize)
-    requires { ⌜ ((rows : ℕ) × Levels rows columns (now level) × RunsTo rows columns from to × (length (now steps) ≡ rows * columns)) ⌝ }
-    ensures { λ r. ⌜ ((rows : ℕ) → Levels rows columns (now (level .entry)) → RunsTo rows columns from to → Agrees (startAt rows columns (now (level .entry))) 0 (now (steps .entry)) from → Agrees (startAt rows columns (now (level .entry))) 0 (now (steps .exit)) to) ⌝ }
-{
-    let mut x = from;
-    while x < to {
-        steps[x] = start_steps(level[x], lowest_inside(columns, level, x));
-        x += 1;
-    }
-}
-
-// Sets every cell's steps to where they start from.
-fn start(rows: usize, columns: usize, level: &[u32], steps: &mut [u32])
-    requires { ⌜ Levels rows columns (now level) × (length (now steps) ≡ rows * columns) ⌝ }
-    ensures { λ r. ⌜ now (steps .exit) ≡ startOf (flatStepping rows columns (now (level .entry))) ⌝ }
-{
-    let mut x: usize = 0;
-    while x < steps.len() {
-        let end = run_end(rows, columns, x);
-        start_run(columns, level, steps, x, end);
-        steps[end] = start_steps(level[end], lowest_near(rows, columns, level, end));
-        x = end + 1;
-    }
-}
+pub(crate) const FAR: u32 = 2000000;
 
 // The steps of a cell of level w, as a cell of level v sees them: far unless the levels are equal.
 fn seen(v: u32, w: u32, steps: u32) -> u32
@@ -102,8 +61,20 @@ fn nearest_near(rows: usize, columns: usize, level: &[u32], steps: &[u32], x: us
     low
 }
 
+// The cell at an entry of the queue; what is below 0 is none.
+fn cell_in(queue: &[i32], at: usize) -> usize
+    requires { ⌜ at < length (now queue) ⌝ }
+    ensures { λ r. ⌜ ((x : ℕ) → x < 1048576 → getD (now (queue .entry)) at (pos 0) ≡ pos x → r ≡ x) ⌝ }
+{
+    let entry = queue[at];
+    if entry < 0 {
+        return queue.len();
+    }
+    entry as usize
+}
+
 // Sets the steps of the cell y to d and adds it to a queue of `end` entries, if there is room. The number of entries.
-fn put(steps: &mut [u32], queue: &mut [u32], end: usize, d: u32, y: usize) -> usize
+fn put(steps: &mut [u32], queue: &mut [i32], end: usize, d: u32, y: usize) -> usize
     requires { ⌜ (y < length (now steps)) × (y < 1048576) × (end ≤ length (now queue)) ⌝ }
     ensures { λ r. ⌜ Put (now (steps .entry)) (now (queue .entry)) end d y (now (steps .exit)) (now (queue .exit)) r ⌝ }
 {
@@ -111,12 +82,12 @@ fn put(steps: &mut [u32], queue: &mut [u32], end: usize, d: u32, y: usize) -> us
     if queue.len() <= end {
         return end;
     }
-    queue[end] = y as u32;
+    queue[end] = y as i32;
     end + 1
 }
 
 // Lowers the steps of the cell y to d, if it has more, and queues it. The number of entries.
-fn reach(steps: &mut [u32], queue: &mut [u32], end: usize, d: u32, y: usize) -> usize
+fn reach(steps: &mut [u32], queue: &mut [i32], end: usize, d: u32, y: usize) -> usize
     requires { ⌜ (y < length (now steps)) × (y < 1048576) × (end ≤ length (now queue)) ⌝ }
     ensures { λ r. ⌜ Reached (now (steps .entry)) (now (queue .entry)) end d y (now (steps .exit)) (now (queue .exit)) r ⌝ }
 {
@@ -131,7 +102,7 @@ fn reach_shore(
     columns: usize,
     level: &[u32],
     steps: &mut [u32],
-    queue: &mut [u32],
+    queue: &mut [i32],
     end: usize,
     x: usize,
 ) -> usize
@@ -153,7 +124,7 @@ fn reach_shores(
     columns: usize,
     level: &[u32],
     steps: &mut [u32],
-    queue: &mut [u32],
+    queue: &mut [i32],
 ) -> usize
     requires { ⌜ Levels rows columns (now level) × (now steps ≡ startOf (flatStepping rows columns (now level))) ⌝ }
     ensures { λ r. ⌜ Wading rows columns (now (level .entry)) (now (steps .exit)) (now (queue .exit)) 0 r (rows * columns) ⌝ }
@@ -172,7 +143,7 @@ fn reach_shores(
 fn reach_around(
     columns: usize,
     steps: &mut [u32],
-    queue: &mut [u32],
+    queue: &mut [i32],
     end: usize,
     d: u32,
     x: usize,
@@ -191,7 +162,7 @@ fn reach_around(
 
 // Reaches the neighbours of the cell x, which was taken from the queue, if it has steps: only flat cells have. The number of
 // entries.
-fn spread(columns: usize, steps: &mut [u32], queue: &mut [u32], end: usize, x: usize) -> usize
+fn spread(columns: usize, steps: &mut [u32], queue: &mut [i32], end: usize, x: usize) -> usize
     requires { ⌜ ((rows : ℕ) × (lv : List ℕ) × (from : ℕ) × Levels rows columns lv × Wading rows columns lv (now steps) (now queue) from end x) ⌝ }
     ensures { λ r. ⌜ ((rows : ℕ) (lv : List ℕ) (from : ℕ) → Levels rows columns lv → Wading rows columns lv (now (steps .entry)) (now (queue .entry)) from end x → Wading rows columns lv (now (steps .exit)) (now (queue .exit)) from r (rows * columns)) ⌝ }
 {
@@ -204,14 +175,14 @@ fn spread(columns: usize, steps: &mut [u32], queue: &mut [u32], end: usize, x: u
 
 // Spreads from the cells of a queue of `shores` entries inwards, the nearest first. The number of entries in the end: unless
 // they fill the queue, no steps can be lowered any more.
-fn wade(columns: usize, steps: &mut [u32], queue: &mut [u32], shores: usize) -> usize
+fn wade(columns: usize, steps: &mut [u32], queue: &mut [i32], shores: usize) -> usize
     requires { ⌜ ((rows : ℕ) × (lv : List ℕ) × Levels rows columns lv × Wading rows columns lv (now steps) (now queue) 0 shores (rows * columns)) ⌝ }
     ensures { λ r. ⌜ ((rows : ℕ) (lv : List ℕ) → Levels rows columns lv → Wading rows columns lv (now (steps .entry)) (now (queue .entry)) 0 shores (rows * columns) → Waded rows columns lv (now (steps .exit)) (length (now (queue .entry))) r) ⌝ }
 {
     let mut end = shores;
     let mut at: usize = 0;
     while at < end {
-        let x = wide(queue[at]);
+        let x = cell_in(queue, at);
         end = spread(columns, steps, queue, end, x);
         at += 1;
     }
@@ -258,18 +229,18 @@ fn settle(rows: usize, columns: usize, level: &[u32], steps: &mut [u32])
     }
 }
 
-// The steps over flats of every cell. The queue is scratch; flat cells do not fill it, since no rim cell is one.
+// The steps over flats of every cell, from those that they start from. The queue is scratch; flat cells do not fill it, since no
+// rim cell is one.
 pub(crate) fn measure(
     rows: usize,
     columns: usize,
     level: &[u32],
     steps: &mut [u32],
-    queue: &mut [u32],
+    queue: &mut [i32],
 )
-    requires { ⌜ Levels rows columns (now level) × (length (now steps) ≡ rows * columns) ⌝ }
+    requires { ⌜ Levels rows columns (now level) × (now steps ≡ startOf (flatStepping rows columns (now level))) ⌝ }
     ensures { λ r. ⌜ now (steps .exit) ≡ flatSteps rows columns (now (level .entry)) ⌝ }
 {
-    start(rows, columns, level, steps);
     let shores = reach_shores(rows, columns, level, steps, queue);
     let entries = wade(columns, steps, queue, shores);
     if queue.len() <= entries {

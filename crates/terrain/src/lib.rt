@@ -114,8 +114,7 @@ fn shape(
     ensures { λ _. ⌜ (now (filled .exit) ≡ filledOf rows columns (now (ground .entry))) × (now (direction .exit) ≡ directionOf rows columns (now (ground .entry))) × (now (falls .exit) ≡ fallsOf rows columns (filledLevels rows columns (now (ground .entry))) (directionOf rows columns (now (ground .entry)))) ⌝ }
 {
     filled::fill(rows, columns, ground, workspace);
-    flat::measure(rows, columns, workspace, count, falls);
-    direction::point(rows, columns, workspace, count, direction, falls);
+    direction::point(rows, columns, workspace, direction, falls, count, filled);
     filled::write_heights(workspace, filled);
 }
 

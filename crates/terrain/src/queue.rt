@@ -18,7 +18,6 @@ use crate::cells::around;
 use crate::cells::larger;
 use crate::cells::smaller;
 use crate::cells::value_at;
-use crate::cells::wide;
 
 const FRESH: u32 = 1073741824;
 
@@ -64,6 +63,13 @@ pub(crate) fn level_of(band: usize, list: usize) -> u32
     requires { ⌜ (band < 1024) × (list < 2048) ⌝ }
 {
     ((band + 926) * 1024 + list) as u32
+}
+
+// A head in the width of an index.
+fn wide(head: u32) -> usize
+    ensures { λ r. ⌜ r ≡ head ⌝ }
+{
+    head as usize
 }
 
 // Puts the cell x, which is not done, at the front of a list.

@@ -10,15 +10,12 @@ use Rattle.terrain.proofs.Surveying.{relief-levels, relief-small, relie
 use Rattle.terrain.proofs.shape.Statement.{statement}
 use Rattle.terrain.proofs.shape.Tie as tie
 
--- the arguments, from the filling on; the filling, from the steps over flats on; and those, from the directions on
+-- the arguments, from the filling on; and the filling, from the directions on
 abbrev start : tie.After-fill → tie.Start
 start c = c .before .before .before .before .before .before
 
-abbrev flooded : tie.After-measure → tie.After-fill
-flooded c = c .before .before .before .before .before .before
-
-abbrev measured : tie.After-point → tie.After-measure
-measured c = let a = c .before .before .before .before in a .before .before .before .before .before
+abbrev flooded : tie.After-point → tie.After-fill
+flooded c = let a = c .before .before .before .before in a .before .before .before .before
 
 -- the ground is accepted, and the grids have their places
 ready : (s : tie.Start) → Ready (s .args .rows) (s .args .columns) (s .args .ground .now)
@@ -34,21 +31,15 @@ levels c = relief-levels (ready (start c)) (c .fill .ensures)
 fill-requires : tie.Need-fill-requires
 fill-requires c κs = let s = c .before .before .before .before .before in (ready s, room s .workspace-long)
 
-measure-requires : tie.Need-measure-requires
-measure-requires c κs = let f = c .before .before .before .before .before in (levels f, room (start f) .count-long)
-
 point-requires : tie.Need-point-requires
-point-requires c κs =
-    let a = c .before .before .before .before in
-    let m = a .before .before .before .before in
-    let f = flooded m in
-    (levels f, m .measure .ensures, room (start f) .direction-long, m .measure .kept .1 .1 .1 .1 .0 ∙ room (start f) .falls-long)
+point-requires c κs = let f = c .before .before .before .before .before .before .before in (levels f, room (start f) .direction-long, room (start f) .falls-long, room (start f) .count-long)
 
 write-heights-requires : tie.Need-write-heights-requires
 write-heights-requires c κs =
-    let m = measured (c .before .before .before .before .before .before) in
-    let f = flooded m in
-    (levels f .long ∙ sym (room (start f) .filled-long), relief-small (ready (start f)) (f .fill .ensures))
+    let a = c .before .before .before .before in
+    let p = a .before .before .before .before .before in
+    let f = flooded p in
+    (levels f .long ∙ sym (p .point .kept .1 .1 .1 .1 .1 .1 .0 ∙ room (start f) .filled-long), relief-small (ready (start f)) (f .fill .ensures))
 
 same-length : tie.Need-same-length
 same-length c = search needs
@@ -67,17 +58,17 @@ same-length-5 c = search needs
 
 returns : tie.Need-returns
 returns c =
-    let p = c .before .before .before .before in
-    let q = p .before .before .before .before in
-    let f = flooded (measured q) in
-    relief (ready (start f)) (f .fill .ensures) (c .before .write-heights .ensures) (q .point .ensures)
+    let w = c .before in
+    let a = w .before .before .before .before .before in
+    let p = a .before .before .before .before .before in
+    let f = flooded p in
+    relief (ready (start f)) (f .fill .ensures) (w .write-heights .ensures) (p .point .ensures)
 
 pub shape-spec : {M : Type 1} → statement M
 shape-spec =
     tie.close
     (tie.spec
     fill-requires
-    measure-requires
     point-requires
     write-heights-requires
     same-length

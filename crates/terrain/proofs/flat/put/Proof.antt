@@ -1,6 +1,7 @@
 -- `terrain::flat::put` meets its contract. Assumes nothing.
 use native.Mathlib.Omega.{arith}
 use Rattle.terrain.specs.Wading.{queued, dropped}
+use Rattle.terrain.proofs.Stepping.{entry-is}
 use borrow.Author.Needs.{needs}
 use borrow.Author.Needs.{needs}
 use Rattle.terrain.proofs.flat.put.Statement.{statement}
@@ -21,11 +22,11 @@ returns c = dropped (c .if1 .taken)
 cast-queue : tie.Need-cast-queue
 cast-queue c = search needs
 
-mul-queue : tie.Need-mul-queue
-mul-queue c = search needs
+mul-t6 : tie.Need-mul-t6
+mul-t6 c = search needs
 
-slice-write-queue : tie.Need-slice-write-queue
-slice-write-queue c = search needs
+slice-set-from-queue : tie.Need-slice-set-from-queue
+slice-set-from-queue c = search needs
 
 add-result : tie.Need-add-result
 add-result c = search needs
@@ -37,7 +38,7 @@ same-length-3 : tie.Need-same-length-3
 same-length-3 c = search needs
 
 returns-2 : tie.Need-returns-2
-returns-2 c = queued (omega arith)
+returns-2 c = rw (entry-is (c .before .args .y) (c .before .pre .1)) (queued (omega arith))
 
 pub put-spec : {M : Type 1} → statement M
 put-spec =
@@ -48,8 +49,8 @@ put-spec =
     same-length
     returns
     cast-queue
-    mul-queue
-    slice-write-queue
+    mul-t6
+    slice-set-from-queue
     add-result
     same-length-2
     same-length-3

@@ -25,7 +25,7 @@ same-length-2 : tie.Need-same-length-2
 same-length-2 c = search needs
 
 returns-2 : tie.Need-returns-2
-returns-2 c = let r = c .before .before .before .before in lowered (omega (arith, r .before .before .before .if1 .left)) (r .put .ensures)
+returns-2 c = let r = c .before .before .before in lowered (omega (arith, r .before .before .before .if1 .left)) (r .put .ensures)
 
 pub reach-spec : {M : Type 1} → statement M
 reach-spec =

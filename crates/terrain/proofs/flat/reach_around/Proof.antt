@@ -21,12 +21,12 @@ loop-holds : tie.Need-loop-holds Inv-loop μ-loop
 loop-holds c = (refl, refl, omega arith, λ rows lv from l s. s)
 
 beside-requires : tie.Need-beside-requires Inv-loop μ-loop
-beside-requires c κs = let s = c .before .before .before .before .before .before in flat-beside (s .pre .3) (s .args .x) _ (s .pre .4 .flat) (omega arith)
+beside-requires c κs = let s = c .before .before .before .before .before in flat-beside (s .pre .3) (s .args .x) _ (s .pre .4 .flat) (omega arith)
 
 reach-requires : tie.Need-reach-requires Inv-loop μ-loop
 reach-requires c κs =
     let p = c .before .before .before .before in
-    let s = p .before .before .before in
+    let s = p .before .before in
     let t = p .loop .inv .3 (s .pre .0) (s .pre .1) (s .pre .2) (s .pre .3) (s .pre .4) in
     let near = flat-near (s .pre .3) (s .args .x) (p .loop .k) (t .flat) (omega arith) in
     let is = flat-is-beside (s .pre .3) (s .args .x) (p .loop .k) (t .flat) (omega arith) in
@@ -40,9 +40,9 @@ loop-less c = search needs
 
 loop-again : tie.Need-loop-again Inv-loop μ-loop
 loop-again c =
-    let r = c .before .before .before .before in
+    let r = c .before .before .before in
     let p = r .before .before .before .before .before in
-    let a = p .before .before .before .args in (
+    let a = p .before .before .args in (
       r .reach .kept .0 ∙ p .loop .inv .0,
       r .reach .kept .1 .0 ∙ p .loop .inv .1,
       omega arith,

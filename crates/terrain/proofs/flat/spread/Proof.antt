@@ -17,12 +17,12 @@ returns : tie.Need-returns
 returns c = λ rows lv from l w. wading-none l w (omega (arith, c .before .value-at .ensures))
 
 add-reach-around : tie.Need-add-reach-around
-add-reach-around c = let v = c .before .before .before in let s = v .before .before .before .before in omega (arith, v .value-at .ensures, s .pre .4 .kept .capped (s .args .x))
+add-reach-around c = let v = c .before .before .before in let s = v .before .before .before in omega (arith, v .value-at .ensures, s .pre .4 .kept .capped (s .args .x))
 
 reach-around-requires : tie.Need-reach-around-requires
 reach-around-requires c κs =
     let v = c .before .before .before in
-    let s = v .before .before .before .before in
+    let s = v .before .before .before in
     (s .pre .0, s .pre .1, s .pre .2, s .pre .3, spreading-none (s .pre .3) (s .pre .4) (omega (arith, v .value-at .ensures)) (ap (λ (n : ℕ). n + 1) (v .value-at .ensures)))
 
 same-length-2 : tie.Need-same-length-2
@@ -33,7 +33,7 @@ same-length-3 c = search needs
 
 returns-2 : tie.Need-returns-2
 returns-2 c =
-    let r = c .before .before .before .before in
+    let r = c .before .before .before in
     let v = r .before .before .before .before in
     λ rows lv from l w. r .reach-around .ensures rows lv from l (spreading-none l w (omega (arith, v .value-at .ensures)) (ap (λ (n : ℕ). n + 1) (v .value-at .ensures)))
 

@@ -18,23 +18,17 @@ abbrev μ-loop : tie.MeasureT-loop
 μ-loop columns steps₀ queue₀ shores end₀ at₀ steps queue end at = length queue₀ - at
 
 loop-holds : tie.Need-loop-holds Inv-loop μ-loop
-loop-holds c = (refl, refl, c .before .before .pre .3 .fits, λ rows lv l w. w)
+loop-holds c = (refl, refl, c .before .pre .3 .fits, λ rows lv l w. w)
 
-mul-wide : tie.Need-mul-wide Inv-loop μ-loop
-mul-wide c = search needs
-
-slice-read-wide : tie.Need-slice-read-wide Inv-loop μ-loop
-slice-read-wide c = search needs
-
-wide-requires : tie.Need-wide-requires Inv-loop μ-loop
-wide-requires c κs = search needs
+cell-in-requires : tie.Need-cell-in-requires Inv-loop μ-loop
+cell-in-requires c κs = search needs
 
 spread-requires : tie.Need-spread-requires Inv-loop μ-loop
 spread-requires c κs =
     let w = c .before .before in
     let p = w .before .before .before in
-    let s = p .before .before .before in
-    (s .pre .0, s .pre .1, _, s .pre .2, wading-take (s .pre .2) (p .loop .inv .3 (s .pre .0) (s .pre .1) (s .pre .2) (s .pre .3)) (w .before .before .loop-test .taken) (w .wide .ensures))
+    let s = p .before .before in
+    (s .pre .0, s .pre .1, _, s .pre .2, wading-take (s .pre .2) (p .loop .inv .3 (s .pre .0) (s .pre .1) (s .pre .2) (s .pre .3)) (w .before .before .loop-test .taken) (w .cell-in .ensures))
 
 add-at : tie.Need-add-at Inv-loop μ-loop
 add-at c = search needs
@@ -44,15 +38,15 @@ loop-less c = search needs
 
 loop-again : tie.Need-loop-again Inv-loop μ-loop
 loop-again c =
-    let r = c .before .before .before .before in
+    let r = c .before .before .before in
     let w = r .before .before .before in
     let p = w .before .before .before in
-    let s = p .before .before .before in
-    let t = wading-take (s .pre .2) (p .loop .inv .3 (s .pre .0) (s .pre .1) (s .pre .2) (s .pre .3)) (w .before .before .loop-test .taken) (w .wide .ensures) in (
+    let s = p .before .before in
+    let t = wading-take (s .pre .2) (p .loop .inv .3 (s .pre .0) (s .pre .1) (s .pre .2) (s .pre .3)) (w .before .before .loop-test .taken) (w .cell-in .ensures) in (
       r .spread .kept .1 .0 ∙ p .loop .inv .0,
       r .spread .kept .1 .1 .0 ∙ p .loop .inv .1,
       omega (arith, r .spread .ensures (s .pre .0) (s .pre .1) _ (s .pre .2) t .fits, r .spread .kept .1 .1 .0, p .loop .inv .1),
-      λ rows lv l s. r .spread .ensures rows lv _ l (wading-take l (p .loop .inv .3 rows lv l s) (w .before .before .loop-test .taken) (w .wide .ensures)),
+      λ rows lv l s. r .spread .ensures rows lv _ l (wading-take l (p .loop .inv .3 rows lv l s) (w .before .before .loop-test .taken) (w .cell-in .ensures)),
     )
 
 same-length : tie.Need-same-length Inv-loop μ-loop
@@ -71,9 +65,7 @@ wade-spec =
     Inv-loop
     μ-loop
     loop-holds
-    mul-wide
-    slice-read-wide
-    wide-requires
+    cell-in-requires
     spread-requires
     add-at
     loop-less
