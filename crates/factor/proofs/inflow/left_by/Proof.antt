@@ -1,0 +1,25 @@
+-- `factor::inflow::left_by` meets its contract. Assumes nothing.
+use mathlib.Core.Path.{sym}
+use native.Mathlib.Omega.{arith}
+use borrow.Author.Needs.{needs}
+use Rattle.factor.specs.Inner.{leftBy}
+use Rattle.factor.proofs.Cutoffs.{left-small, left-none}
+use Rattle.factor.proofs.inflow.left_by.Statement.{statement}
+use Rattle.factor.proofs.inflow.left_by.Tie as tie
+
+returns : tie.Need-returns
+returns c = sym (left-none (c .before .args .n) (omega arith))
+
+cast-rest : tie.Need-cast-rest
+cast-rest c = search needs
+
+mul-result : tie.Need-mul-result
+unfolding leftBy
+mul-result c = omega (arith, left-small (c .before .args .n))
+
+returns-2 : tie.Need-returns-2
+unfolding leftBy
+returns-2 c = search needs
+
+pub left-by-spec : {M : Type 1} → statement M
+left-by-spec = tie.close (tie.spec returns cast-rest mul-result returns-2)
