@@ -1,6 +1,6 @@
 -- Laws of cells that have all eight neighbours, and of where a neighbour lies. Assumes nothing.
 use mathlib.Core.Path.{_≡_, sym, ap, _∙_}
-use mathlib.Core.List.{List}
+use mathlib.Core.List.{List, [], _∷_}
 use mathlib.Core.Logic.{⊎-elim}
 use Prim.Native.Nat.{ℕ, _+_, _-_, _*_, _/_, _%_, _≤_, _<_}
 use native.Mathlib.Nat.{mul-le-mul-right, suc-mul, add-mul, div-add-mod', mod-lt}
@@ -9,8 +9,8 @@ use native.Mathlib.Decide.{decLt}
 use lib.ListN.{getD}
 use lib.IntN.{ℤ}
 use Rattle.terrain.specs.Cells.{rowSteps, colSteps, neighbour, Ready}
-use Rattle.terrain.specs.Inside.{Sized, Inside, RunsTo, besideOf, Beside}
-use Rattle.terrain.proofs.Neighbours.{row-step-le, col-step-le, cell-in, in-grid-lt, row-of, col-of, neighbour-cases}
+use Rattle.terrain.specs.Inside.{Sized, Inside, RunsTo, besideOf, Beside, Shifts}
+use Rattle.terrain.proofs.Neighbours.{each-side, row-step-le, col-step-le, cell-in, in-grid-lt, row-of, col-of, neighbour-cases}
 
 pub ready-sized : {rows cols : ℕ} {ground : List ℤ} → Ready rows cols ground → Sized rows cols
 ready-sized r = record { rows-small = r .rows-small; cols-small = r .cols-small; cols-some = r .cols-some; small = r .small }
@@ -37,6 +37,20 @@ placed {cols} {x} {k} b place e =
       down-few = omega (arith, mul-le-mul-right cols (row-step-le k (b .side-small)), b .cols-small);
       right = place-col k place (b .side-small) e;
       right-few = col-step-le k (b .side-small);
+    }
+
+-- ---- the shifts
+
+-- two rows and two columns at most
+pub shift-few : {cols x k : ℕ} → Beside cols x k → getD rowSteps k 0 * cols + getD colSteps k 0 ≤ 2050
+shift-few {cols} {x} {k} b = omega (arith, mul-le-mul-right cols (row-step-le k (b .side-small)), col-step-le k (b .side-small), b .cols-small)
+
+-- as the code works them out
+pub shifts-are : (cols : ℕ) → Shifts cols ((cols + 2) ∷ (cols + cols + 2) ∷ (cols + cols + 1) ∷ (cols + cols) ∷ cols ∷ 0 ∷ 1 ∷ 2 ∷ [])
+shifts-are cols =
+    record {
+      steps = each-side (λ k. getD ((cols + 2) ∷ (cols + cols + 2) ∷ (cols + cols + 1) ∷ (cols + cols) ∷ cols ∷ 0 ∷ 1 ∷ 2 ∷ []) k 0 ≡ getD rowSteps k 0 * cols + getD colSteps k 0)
+          (omega arith) (omega arith) (omega arith) (omega arith) (omega arith) (omega arith) (omega arith) (omega arith);
     }
 
 -- ---- where a neighbour lies

@@ -1,4 +1,6 @@
--- Cells that have all eight neighbours, and where a neighbour lies: for the contracts inside the crate; no promise of a public call cites this file. Assumes nothing.
+-- Cells that have all eight neighbours, and where a neighbour lies: for the contracts inside the crate. Of the public calls only `shifts_of` cites this file. Assumes nothing.
+use mathlib.Core.Path.{_≡_}
+use mathlib.Core.List.{List}
 use Prim.Native.Nat.{ℕ, _+_, _-_, _*_, _%_, _≤_, _<_}
 use lib.ListN.{getD}
 use Rattle.terrain.specs.Cells.{rowSteps, colSteps}
@@ -33,3 +35,7 @@ pub record Beside (cols x k : ℕ) : Type 0 where
   pub cell-small : x < 1048576
   pub side-small : k < 8
   pub room : cols + 1 ≤ x + getD rowSteps k 0 * cols + getD colSteps k 0
+
+-- how far on the neighbour at each side lies from the one at NW
+pub record Shifts (cols : ℕ) (shifts : List ℕ) : Type 0 where
+  pub steps : (k : ℕ) → k < 8 → getD shifts k 0 ≡ getD rowSteps k 0 * cols + getD colSteps k 0

@@ -8,7 +8,7 @@ ghost use mathlib.Core.Bool.{true};
 ghost use Prim.Native.Nat.{_+_, _*_, _≤_, _<_, min, max};
 ghost use lib.ListN.{length, getD, replicate};
 ghost use Rattle.terrain.specs.Cells.{rowSteps, colSteps, cellAt, neighbour};
-ghost use Rattle.terrain.specs.Inside.{Sized, Inside, RunsTo, besideOf, Beside};
+ghost use Rattle.terrain.specs.Inside.{Sized, Inside, RunsTo, besideOf, Beside, Shifts};
 
 // Where the neighbour at side k lies, counted from the one at NW: four times its row, plus its column.
 pub fn place_of(k: usize) -> usize
@@ -98,6 +98,26 @@ pub(crate) fn beside(columns: usize, x: usize, k: usize) -> usize
 {
     let place = place_of(k);
     x + place / 4 * columns + place % 4 - columns - 1
+}
+
+// How far each neighbour lies from the one at NW; any numbers where a row is too long for a grid. Worked out once for a grid, so
+// that following a direction takes a look at this table and no multiplication.
+pub fn shifts_of(columns: usize) -> [usize; 8]
+    ensures { λ r. ⌜ (columns ≤ 1024 → Shifts columns r) ⌝ }
+{
+    if 1024 < columns {
+        return [0; 8];
+    }
+    let below = columns + columns;
+    [columns + 2, below + 2, below + 1, below, columns, 0, 1, 2]
+}
+
+// The neighbour at side k of a cell x that has one there, by the shifts.
+pub(crate) fn shifted(columns: usize, shifts: &[usize; 8], x: usize, k: usize) -> usize
+    requires { ⌜ Beside columns x k × Shifts columns (now shifts) ⌝ }
+    ensures { λ r. ⌜ r ≡ besideOf columns x k ⌝ }
+{
+    x + shifts[k] - columns - 1
 }
 
 // Where the neighbour at side k of a cell x lies, if it has one there; else any place.

@@ -7,6 +7,7 @@ ghost use lib.Dec.{eqb};
 ghost use Rattle.laws.specs.Sums.{when};
 ghost use Rattle.terrain.specs.Directed.{Directed};
 ghost use Rattle.terrain.specs.Downhill.{Downhill, Awaiting, Peeled};
+ghost use Rattle.terrain.specs.Inside.{Shifts};
 use crate::direction::NO_CODE;
 use crate::trail::receiver;
 
@@ -33,11 +34,18 @@ fn start(rows: usize, columns: usize, direction: &[u8], waiting: &mut [u32])
 }
 
 // Lets the cell that the cell x points at wait for it.
-fn await_one(rows: usize, columns: usize, direction: &[u8], waiting: &mut [u32], x: usize)
-    requires { ⌜ Directed rows columns (now direction) × Awaiting rows columns (now direction) (now waiting) x × (x < rows * columns) ⌝ }
+fn await_one(
+    rows: usize,
+    columns: usize,
+    shifts: &[usize; 8],
+    direction: &[u8],
+    waiting: &mut [u32],
+    x: usize,
+)
+    requires { ⌜ Directed rows columns (now direction) × Awaiting rows columns (now direction) (now waiting) x × (x < rows * columns) × Shifts columns (now shifts) ⌝ }
     ensures { λ _. ⌜ Awaiting rows columns (now (direction .entry)) (now (waiting .exit)) (x + 1) ⌝ }
 {
-    let y = receiver(rows, columns, direction, x);
+    let y = receiver(rows, columns, shifts, direction, x);
     if waiting.len() <= y {
         return;
     }
@@ -45,14 +53,20 @@ fn await_one(rows: usize, columns: usize, direction: &[u8], waiting: &mut [u32],
 }
 
 // Notes for every valid cell how many cells point at it.
-fn await_all(rows: usize, columns: usize, direction: &[u8], waiting: &mut [u32])
-    requires { ⌜ Directed rows columns (now direction) × (length (now waiting) ≡ rows * columns) ⌝ }
+fn await_all(
+    rows: usize,
+    columns: usize,
+    shifts: &[usize; 8],
+    direction: &[u8],
+    waiting: &mut [u32],
+)
+    requires { ⌜ Directed rows columns (now direction) × (length (now waiting) ≡ rows * columns) × Shifts columns (now shifts) ⌝ }
     ensures { λ _. ⌜ Awaiting rows columns (now (direction .entry)) (now (waiting .exit)) (rows * columns) ⌝ }
 {
     start(rows, columns, direction, waiting);
     let mut x: usize = 0;
     while x < waiting.len() {
-        await_one(rows, columns, direction, waiting, x);
+        await_one(rows, columns, shifts, direction, waiting, x);
         x += 1;
     }
 }
@@ -61,18 +75,19 @@ fn await_all(rows: usize, columns: usize, direction: &[u8], waiting: &mut [u32])
 fn take(
     rows: usize,
     columns: usize,
+    shifts: &[usize; 8],
     direction: &[u8],
     waiting: &mut [u32],
     order: &mut [u32],
     place: usize,
     x: usize,
 ) -> usize
-    requires { ⌜ Directed rows columns (now direction) × Peeled rows columns (now direction) (now order) (now waiting) place 0 x × (x < rows * columns) ⌝ }
+    requires { ⌜ Directed rows columns (now direction) × Peeled rows columns (now direction) (now order) (now waiting) place 0 x × (x < rows * columns) × Shifts columns (now shifts) ⌝ }
     ensures { λ r. ⌜ ((b : ℕ) → Peeled rows columns (now (direction .entry)) (now (order .entry)) (now (waiting .entry)) place b x → Peeled rows columns (now (direction .entry)) (now (order .exit)) (now (waiting .exit)) (place + 1) b r) ⌝ }
 {
     order[place] = x as u32;
     waiting[x] = SHUT;
-    let y = receiver(rows, columns, direction, x);
+    let y = receiver(rows, columns, shifts, direction, x);
     if waiting.len() <= y {
         return y;
     }
@@ -87,19 +102,20 @@ fn take(
 fn follow(
     rows: usize,
     columns: usize,
+    shifts: &[usize; 8],
     direction: &[u8],
     waiting: &mut [u32],
     order: &mut [u32],
     place: usize,
     start: usize,
 ) -> usize
-    requires { ⌜ Directed rows columns (now direction) × Peeled rows columns (now direction) (now order) (now waiting) place (start + 1) start ⌝ }
+    requires { ⌜ Directed rows columns (now direction) × Peeled rows columns (now direction) (now order) (now waiting) place (start + 1) start × Shifts columns (now shifts) ⌝ }
     ensures { λ r. ⌜ Peeled rows columns (now (direction .entry)) (now (order .exit)) (now (waiting .exit)) r (start + 1) (rows * columns) ⌝ }
 {
     let mut at = place;
     let mut x = start;
     while x < waiting.len() {
-        x = take(rows, columns, direction, waiting, order, at, x);
+        x = take(rows, columns, shifts, direction, waiting, order, at, x);
         at += 1;
     }
     at
@@ -109,37 +125,39 @@ fn follow(
 fn begin(
     rows: usize,
     columns: usize,
+    shifts: &[usize; 8],
     direction: &[u8],
     waiting: &mut [u32],
     order: &mut [u32],
     place: usize,
     x: usize,
 ) -> usize
-    requires { ⌜ Directed rows columns (now direction) × Peeled rows columns (now direction) (now order) (now waiting) place x (rows * columns) × (x < rows * columns) ⌝ }
+    requires { ⌜ Directed rows columns (now direction) × Peeled rows columns (now direction) (now order) (now waiting) place x (rows * columns) × (x < rows * columns) × Shifts columns (now shifts) ⌝ }
     ensures { λ r. ⌜ Peeled rows columns (now (direction .entry)) (now (order .exit)) (now (waiting .exit)) r (x + 1) (rows * columns) ⌝ }
 {
     if 0 < waiting[x] {
         return place;
     }
-    follow(rows, columns, direction, waiting, order, place, x)
+    follow(rows, columns, shifts, direction, waiting, order, place, x)
 }
 
 // Notes the valid cells in `order` from the ridges down. How many there are; `waiting` is scratch.
 pub(crate) fn descend(
     rows: usize,
     columns: usize,
+    shifts: &[usize; 8],
     direction: &[u8],
     waiting: &mut [u32],
     order: &mut [u32],
 ) -> usize
-    requires { ⌜ Directed rows columns (now direction) × (length (now waiting) ≡ rows * columns) × (length (now order) ≡ rows * columns) ⌝ }
+    requires { ⌜ Directed rows columns (now direction) × (length (now waiting) ≡ rows * columns) × (length (now order) ≡ rows * columns) × Shifts columns (now shifts) ⌝ }
     ensures { λ r. ⌜ Downhill rows columns (now (direction .entry)) (now (order .exit)) r ⌝ }
 {
-    await_all(rows, columns, direction, waiting);
+    await_all(rows, columns, shifts, direction, waiting);
     let mut place: usize = 0;
     let mut x: usize = 0;
     while x < waiting.len() {
-        place = begin(rows, columns, direction, waiting, order, place, x);
+        place = begin(rows, columns, shifts, direction, waiting, order, place, x);
         x += 1;
     }
     place

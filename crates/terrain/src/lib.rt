@@ -12,6 +12,7 @@ mod queue;
 mod trail;
 
 pub use cells::place_of;
+pub use cells::shifts_of;
 ghost use mathlib.Core.Path.{_≡_};
 ghost use mathlib.Core.Bool.{true};
 ghost use Prim.Native.Nat.{ℕ, _*_};
@@ -129,9 +130,10 @@ fn route(
     requires { ⌜ Directed rows columns (now direction) × (length (now count) ≡ rows * columns) × (length (now workspace) ≡ rows * columns) ⌝ }
     ensures { λ r. ⌜ (now (count .exit) ≡ countsOf rows columns (now (direction .entry))) × ((places : ℕ) × Downhill rows columns (now (direction .entry)) (now (workspace .exit)) places × (r ≡ Accepted places (longestOf rows columns (now (direction .entry))))) ⌝ }
 {
-    let places = downhill::descend(rows, columns, direction, count, workspace);
-    let longest = trail::longest_trail(rows, columns, direction, workspace, places, count);
-    trail::count_flow(rows, columns, direction, workspace, places, count);
+    let shifts = shifts_of(columns);
+    let places = downhill::descend(rows, columns, &shifts, direction, count, workspace);
+    let longest = trail::longest_trail(rows, columns, &shifts, direction, workspace, places, count);
+    trail::count_flow(rows, columns, &shifts, direction, workspace, places, count);
     Answer::Accepted {
         valid: places as u32,
         longest: longest,

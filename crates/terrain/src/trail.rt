@@ -11,14 +11,21 @@ ghost use Rattle.laws.specs.Sums.{when};
 ghost use Rattle.terrain.specs.Trail.{mappedAt, countsOf, longestOf};
 ghost use Rattle.terrain.specs.Directed.{Directed, receiverOf};
 ghost use Rattle.terrain.specs.Downhill.{Downhill};
-use crate::cells::beside;
+ghost use Rattle.terrain.specs.Inside.{Shifts};
 use crate::cells::larger;
+use crate::cells::shifted;
 use crate::cells::value_at;
 use crate::direction::NO_CODE;
 
 // The cell that the cell x points at; the number of cells where it points nowhere.
-pub(crate) fn receiver(rows: usize, columns: usize, direction: &[u8], x: usize) -> usize
-    requires { ⌜ Directed rows columns (now direction) × (x < rows * columns) ⌝ }
+pub(crate) fn receiver(
+    rows: usize,
+    columns: usize,
+    shifts: &[usize; 8],
+    direction: &[u8],
+    x: usize,
+) -> usize
+    requires { ⌜ Directed rows columns (now direction) × (x < rows * columns) × Shifts columns (now shifts) ⌝ }
     ensures { λ r. ⌜ r ≡ receiverOf rows columns (now (direction .entry)) x ⌝ }
 {
     let code = direction[x];
@@ -29,7 +36,7 @@ pub(crate) fn receiver(rows: usize, columns: usize, direction: &[u8], x: usize) 
     if 8 <= k {
         return rows * columns;
     }
-    beside(columns, x, k)
+    shifted(columns, shifts, x, k)
 }
 
 // What a cell with this code counts for itself.
@@ -66,19 +73,20 @@ fn hand_on(count: &mut [u32], x: usize, y: usize)
 pub(crate) fn count_flow(
     rows: usize,
     columns: usize,
+    shifts: &[usize; 8],
     direction: &[u8],
     order: &[u32],
     places: usize,
     count: &mut [u32],
 )
-    requires { ⌜ Directed rows columns (now direction) × Downhill rows columns (now direction) (now order) places × (length (now count) ≡ rows * columns) ⌝ }
+    requires { ⌜ Directed rows columns (now direction) × Downhill rows columns (now direction) (now order) places × (length (now count) ≡ rows * columns) × Shifts columns (now shifts) ⌝ }
     ensures { λ _. ⌜ now (count .exit) ≡ countsOf rows columns (now (direction .entry)) ⌝ }
 {
     start(rows, columns, direction, count);
     let mut place: usize = 0;
     while place < places {
         let x = order[place] as usize;
-        let y = receiver(rows, columns, direction, x);
+        let y = receiver(rows, columns, shifts, direction, x);
         hand_on(count, x, y);
         place += 1;
     }
@@ -88,12 +96,13 @@ pub(crate) fn count_flow(
 pub(crate) fn longest_trail(
     rows: usize,
     columns: usize,
+    shifts: &[usize; 8],
     direction: &[u8],
     order: &[u32],
     places: usize,
     workspace: &mut [u32],
 ) -> u32
-    requires { ⌜ Directed rows columns (now direction) × Downhill rows columns (now direction) (now order) places × (length (now workspace) ≡ rows * columns) ⌝ }
+    requires { ⌜ Directed rows columns (now direction) × Downhill rows columns (now direction) (now order) places × (length (now workspace) ≡ rows * columns) × Shifts columns (now shifts) ⌝ }
     ensures { λ r. ⌜ r ≡ longestOf rows columns (now (direction .entry)) ⌝ }
 {
     let mut most: u32 = 0;
@@ -101,7 +110,7 @@ pub(crate) fn longest_trail(
     while 0 < place {
         place -= 1;
         let x = order[place] as usize;
-        let y = receiver(rows, columns, direction, x);
+        let y = receiver(rows, columns, shifts, direction, x);
         let cells = value_at(workspace, y) + 1;
         workspace[x] = cells;
         most = larger(most, cells);

@@ -10,6 +10,10 @@ use borrow.Author.Needs.{needs}
 use Rattle.terrain.proofs.downhill.take.Statement.{statement}
 use Rattle.terrain.proofs.downhill.take.Tie as tie
 
+-- the arguments, from the cell that x points at on
+abbrev start : tie.After-receiver → tie.Start
+start c = c .before .before .before .before
+
 cast-order : tie.Need-cast-order
 cast-order c = search needs
 
@@ -65,7 +69,11 @@ same-length-4 : tie.Need-same-length-4
 same-length-4 c = search needs
 
 returns-2 : tie.Need-returns-2
-returns-2 c = let s = c .before .before .before .before .before .before .before .before in let y = c .before .before .before .before .receiver in let w = set (s .args .waiting .now) (s .args .x) 4294967295 in λ b i. taken-next (s .pre .0) i (s .pre .2) (y .ensures) (omega (arith, c .before .before .before .if1 .left, marked-long (s .pre .0) (s .pre .1) (s .pre .2))) refl (λ e. absurd (omega (arith, c .if2 .taken))) (λ h. length-set w (y .result) (getD w (y .result) 0 - 1) ∙ marked-long (s .pre .0) (s .pre .1) (s .pre .2))
+returns-2 c =
+    let y = c .before .before .before .before in
+    let s = start y in
+    let w = set (s .args .waiting .now) (s .args .x) 4294967295 in
+    λ b i. taken-next (s .pre .0) i (s .pre .2) (y .receiver .ensures) (omega (arith, c .before .before .before .if1 .left, marked-long (s .pre .0) (s .pre .1) (s .pre .2))) refl (λ e. absurd (omega (arith, c .if2 .taken))) (λ h. length-set w (y .receiver .result) (getD w (y .receiver .result) 0 - 1) ∙ marked-long (s .pre .0) (s .pre .1) (s .pre .2))
 
 same-length-5 : tie.Need-same-length-5
 same-length-5 c = search needs
@@ -74,7 +82,10 @@ same-length-6 : tie.Need-same-length-6
 same-length-6 c = search needs
 
 returns-3 : tie.Need-returns-3
-returns-3 c = let s = c .before .before .before .before .before .before .before .before in let y = c .before .before .before .before .receiver in λ b i. taken-next (s .pre .0) i (s .pre .2) (y .ensures) (omega (arith, c .before .before .before .if1 .left, marked-long (s .pre .0) (s .pre .1) (s .pre .2))) refl (λ e. refl) (λ h. absurd (omega (arith, c .if2 .left)))
+returns-3 c =
+    let y = c .before .before .before .before in
+    let s = start y in
+    λ b i. taken-next (s .pre .0) i (s .pre .2) (y .receiver .ensures) (omega (arith, c .before .before .before .if1 .left, marked-long (s .pre .0) (s .pre .1) (s .pre .2))) refl (λ e. refl) (λ h. absurd (omega (arith, c .if2 .left)))
 
 pub take-spec : {M : Type 1} → statement M
 take-spec =

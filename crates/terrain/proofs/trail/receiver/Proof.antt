@@ -27,18 +27,18 @@ mul-result-2 c = search needs
 returns-2 : tie.Need-returns-2
 returns-2 c = let s = c .before .before .before .before in receiver-leaves (s .pre .0) (s .args .x) (s .pre .1) (c .if2 .taken)
 
-beside-requires : tie.Need-beside-requires
-beside-requires c κs =
+shifted-requires : tie.Need-shifted-requires
+shifted-requires c κs =
     let s = c .before .before .before .before in
     let k = trailingZeros 8 (getD (s .args .direction .now) (s .args .x) 0) in
-    beside-room (s .args .rows) (s .args .columns) (s .args .x) k (s .pre .0 .sized) (omega arith) (c .if2 .left) (receiver-near (s .pre .0) (s .args .x) (s .pre .1) (c .before .if1 .left) (c .if2 .left))
+    (beside-room (s .args .rows) (s .args .columns) (s .args .x) k (s .pre .0 .sized) (omega arith) (c .if2 .left) (receiver-near (s .pre .0) (s .args .x) (s .pre .1) (c .before .if1 .left) (c .if2 .left)), s .pre .2)
 
 returns-3 : tie.Need-returns-3
 returns-3 c =
     let s = c .before .before .before .before .before in
     let k = trailingZeros 8 (getD (s .args .direction .now) (s .args .x) 0) in
     let w = c .before in
-    c .beside .ensures ∙ beside-is (s .args .rows) (s .args .columns) (s .args .x) k (receiver-near (s .pre .0) (s .args .x) (s .pre .1) (w .before .if1 .left) (w .if2 .left))
+    c .shifted .ensures ∙ beside-is (s .args .rows) (s .args .columns) (s .args .x) k (receiver-near (s .pre .0) (s .args .x) (s .pre .1) (w .before .if1 .left) (w .if2 .left))
     ∙ receiver-beside (s .pre .0) (s .args .x) (s .pre .1) (w .before .if1 .left) (w .if2 .left)
 
 pub receiver-spec : {M : Type 1} → statement M
@@ -51,5 +51,5 @@ receiver-spec =
     cast-k
     mul-result-2
     returns-2
-    beside-requires
+    shifted-requires
     returns-3)
