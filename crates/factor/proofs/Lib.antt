@@ -5,7 +5,6 @@ pub mod Sines
 pub mod Factors
 pub mod Channels
 pub mod Slopes
-pub mod Cutoffs
 pub mod Lengths
 pub mod Gathering
 pub mod Turns

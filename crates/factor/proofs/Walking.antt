@@ -31,9 +31,8 @@ use Rattle.factor.specs.Channel.{channelAt}
 use Rattle.factor.specs.Length.{cutoffAt, broughtTo, lengthsOf}
 use Rattle.factor.specs.Cell.{factorOf}
 use Rattle.factor.specs.Grid.{factorAt, factorsOf}
-use Rattle.factor.specs.Inner.{greatestFall, steepnessOf, cutoffsOf, settledOf, broughtBy}
+use Rattle.factor.specs.Inner.{greatestFall, steepnessOf, settledOf, broughtBy}
 use Rattle.factor.specs.Pass.{sideAt, Turning, lengthNow, amountNow, Turned, Measuring}
-use Rattle.factor.specs.declared.inflow.Cutoffs.{Cutoffs}
 use Rattle.factor.specs.declared.pass.Terms.{Terms}
 use Rattle.factor.proofs.Slopes.{fall-steepness, fall-small}
 use Rattle.factor.proofs.Lengths.{lengths-long, lengths-at}
@@ -53,7 +52,6 @@ pub record Charted (rows : ℕ) (lv : List ℕ) (terms : Terms) (dir count order
   pub capped : (x : ℕ) → getD lv x 0 ≤ 1900000
   pub side-some : 1 ≤ terms .side
   pub side-small : terms .side ≤ 100000
-  pub cutoffs-are : terms .cutoffs ≡ cutoffsOf (terms .side) (terms .rules)
   pub count-long : length count ≡ rows * terms .columns
   pub channel : (x : ℕ) → x < rows * terms .columns → ltb (terms .most) (getD count x 0) ≡ channelAt rows (terms .columns) (terms .rules) count x
   pub order-is : Downhill rows (terms .columns) dir order places
@@ -157,7 +155,6 @@ module _ {rows : ℕ} {lv dir count order : List ℕ} {places : ℕ} {terms : Te
         record {
           side-some = c .side-some;
           side-small = c .side-small;
-          cutoffs-are = c .cutoffs-are;
           dir-in = omega (arith, here-in, c .directed .long);
           count-in = omega (arith, here-in, c .count-long);
           lengths-in = omega (arith, here-in, w .handing .long);
@@ -220,8 +217,8 @@ module _ {rows cols side : ℕ} {lv dir count order lengths factors : List ℕ} 
   abbrev cells : ℕ
   cells = rows * cols
 
-  pub measure-charted : {cutoffs : Cutoffs} {most : ℕ} → cutoffs ≡ cutoffsOf side rules → ((x : ℕ) → x < rows * cols → ltb most (getD count x 0) ≡ channelAt rows cols rules count x) → Charted rows lv (record { columns = cols; side = side; rules = rules; cutoffs = cutoffs; most = most }) dir count order places
-  measure-charted e q = record { directed = m .directed; capped = m .capped; side-some = m .side-some; side-small = m .side-small; cutoffs-are = e; count-long = m .count-long; channel = q; order-is = m .order-is }
+  pub measure-charted : {most : ℕ} → ((x : ℕ) → x < rows * cols → ltb most (getD count x 0) ≡ channelAt rows cols rules count x) → Charted rows lv (record { columns = cols; side = side; rules = rules; most = most }) dir count order places
+  measure-charted q = record { directed = m .directed; capped = m .capped; side-some = m .side-some; side-small = m .side-small; count-long = m .count-long; channel = q; order-is = m .order-is }
 
   falls-long : length (fallsOf rows cols lv dir) ≡ cells
   unfolding fallsOf

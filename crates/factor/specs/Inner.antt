@@ -17,7 +17,6 @@ use Rattle.terrain.specs.Drainage.{Trails, Totals, Surface}
 use Rattle.terrain.specs.Answers.{validOf}
 use Rattle.factor.specs.Answers.{Grids, placesOf, answer, after, accepts}
 use Rattle.factor.specs.declared.Answer.{Answer}
-use Rattle.factor.specs.declared.inflow.Cutoffs.{Cutoffs}
 use Rattle.factor.specs.declared.judge.Judgement.{Judgement}
 use Rattle.factor.specs.declared.judge.Judgement.the-variants.{Sound, Unsound}
 
@@ -61,13 +60,6 @@ steepnessOf fall = cond (eqb (fall % 2) 0) (2 * ((fall / 2) * (fall / 2))) ((fal
 -- the length of a cell that is a channel or not, from one more than the greatest amount brought, 0 for none
 unfoldable pub settledOf : Bool → ℕ → ℕ
 settledOf channel gathered = cond channel 0 (cond (ltb gathered 1) startLength (gathered - 1))
-
--- what a cutoff of n percent leaves of 100 percent, squared; and the side's square, and what the cutoffs of these rules leave
-unfoldable pub leftBy : ℕ → ℕ
-leftBy n = (100 - n) * (100 - n)
-
-abbrev pub cutoffsOf : ℕ → Rules → Cutoffs
-cutoffsOf side rules = record { square = side * side; low = leftBy (rules .low); high = leftBy (rules .high) }
 
 -- what an inflow of steepness p and this length brings over the side k to a cell of steepness q
 unfoldable pub broughtBy : ℕ → Rules → ℕ → ℕ → ℕ → ℕ → ℕ

@@ -10,7 +10,7 @@ use Rattle.terrain.specs.Falls.{fallsOf}
 use Rattle.terrain.specs.Directed.{Directed}
 use Rattle.terrain.specs.Downhill.{Downhill}
 use Rattle.factor.specs.Cell.{factorOf}
-use Rattle.factor.specs.Inner.{greatestFall, greatestLength, steepnessOf, cutoffsOf, settledOf, broughtBy}
+use Rattle.factor.specs.Inner.{greatestFall, greatestLength, steepnessOf, settledOf, broughtBy}
 use Rattle.factor.specs.declared.pass.Terms.{Terms}
 
 -- ---- the turn of one cell
@@ -23,7 +23,6 @@ sideAt dir x = trailingZeros 8 (getD dir x 0)
 pub record Turning (terms : Terms) (dir count lengths factors : List ℕ) (x : ℕ) : Type 0 where
   pub side-some : 1 ≤ terms .side
   pub side-small : terms .side ≤ 100000
-  pub cutoffs-are : terms .cutoffs ≡ cutoffsOf (terms .side) (terms .rules)
   pub dir-in : x < length dir
   pub count-in : x < length count
   pub lengths-in : x < length lengths

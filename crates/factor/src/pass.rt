@@ -11,30 +11,26 @@ ghost use Prim.Native.Nat.{ℕ, _*_, _≤_, _<_, max};
 ghost use Rattle.terrain.specs.Inside.{Beside, besideOf};
 ghost use Rattle.factor.specs.Length.{lengthsOf};
 ghost use Rattle.factor.specs.Grid.{factorsOf};
-ghost use Rattle.factor.specs.Inner.{steepest, greatestLength, cutoffsOf, settledOf, broughtBy, Listed};
+ghost use Rattle.factor.specs.Inner.{steepest, greatestLength, settledOf, broughtBy, Listed};
 ghost use Rattle.factor.specs.Pass.{Turning, Turned, Measuring};
 use crate::cell::factor_of;
 use crate::channel::channel_bound;
 use crate::channel::largest;
 use crate::guess::Guesses;
-use crate::inflow::Cutoffs;
 use crate::inflow::START;
 use crate::inflow::amount_of;
-use crate::inflow::cutoffs_of;
-use crate::inflow::left_for;
+use crate::inflow::cutoff_for;
 use crate::inflow::step_over;
 use crate::slope::steepness_of;
 use crate::thresholds;
 use crate::thresholds::Lists;
 use settings::Rules;
 
-// What lengths are measured by: the columns of the map, its cell side in cm, the rules, what their cutoffs leave, and the greatest count
-// that is no channel's.
+// What lengths are measured by: the columns of the map, its cell side in cm, the rules, and the greatest count that is no channel's.
 pub(crate) struct Terms {
     columns: usize,
     side: u32,
     rules: Rules,
-    cutoffs: Cutoffs,
     most: u64,
 }
 
@@ -68,11 +64,11 @@ fn beside(columns: usize, x: usize, k: usize) -> usize
 
 // What an inflow of steepness p and this length brings over side k to a cell of steepness q.
 fn brought(terms: Terms, k: usize, p: u64, q: u64, length: u64) -> u64
-    requires { ⌜ (terms .cutoffs ≡ cutoffsOf (terms .side) (terms .rules)) × (p ≤ steepest) × (q ≤ steepest) × (length ≤ greatestLength) ⌝ }
+    requires { ⌜ (p ≤ steepest) × (q ≤ steepest) × (length ≤ greatestLength) ⌝ }
     ensures { λ r. ⌜ r ≡ broughtBy (terms .side) (terms .rules) k p q length ⌝ }
 {
-    let left = left_for(terms.cutoffs, q);
-    amount_of(left, q, p, step_over(k), length)
+    let n = cutoff_for(terms.side, terms.rules, q);
+    amount_of(n, q, p, step_over(k), length)
 }
 
 // The turn of the cell x.
@@ -134,7 +130,6 @@ pub(crate) fn measure(
         columns: columns,
         side: side,
         rules: rules,
-        cutoffs: cutoffs_of(side, rules),
         most: channel_bound(threshold, largest(count)),
     };
     let lists = thresholds::all();

@@ -22,12 +22,9 @@ abbrev μ-loop : tie.MeasureT-loop
 μ-loop columns side direction count order places lengths₀ factors₀ terms lists guesses₀ place₀ lengths factors guesses place =
     places - place
 
--- what the cutoffs leave, and the arguments, from the channel rule's bound on; and the cleared lengths, from the loop on
-abbrev cutoffs : tie.After-channel-bound Inv-loop μ-loop → tie.After-cutoffs-of Inv-loop μ-loop
-cutoffs c = c .before .before
-
+-- the arguments, from the channel rule's bound on; and the cleared lengths, from the loop on
 abbrev start : tie.After-channel-bound Inv-loop μ-loop → tie.Start Inv-loop μ-loop
-start c = cutoffs c .before .before .before .before .before .before
+start c = c .before .before .before .before .before .before .before
 
 abbrev cleared : tie.At-loop Inv-loop μ-loop → tie.After-clear Inv-loop μ-loop
 cleared c = c .before .before .before
@@ -41,9 +38,6 @@ channels c rows e =
     let s = start c in
     bounded rows (s .args .columns) (s .args .rules) (c .channel-bound .result) (s .args .count .now) e
     (subst (λ (n : ℕ). (k : ℕ) → k ≤ n → ltb (c .channel-bound .result) k ≡ isChannel (s .args .rules .threshold) n k) (c .before .largest .ensures) (c .channel-bound .ensures))
-
-cutoffs-of-requires : tie.Need-cutoffs-of-requires Inv-loop μ-loop
-cutoffs-of-requires c κs = search needs
 
 largest-requires : tie.Need-largest-requires Inv-loop μ-loop
 largest-requires c κs = search needs
@@ -75,7 +69,7 @@ turn-requires c κs =
     let b = bound l in
     let s = start b in
     let m = s .pre .2 in
-    let q = measure-charted m (s .args .rules) (cutoffs b .cutoffs-of .ensures) (channels b (s .pre .0) (m .count-long)) in
+    let q = measure-charted m (s .args .rules) (channels b (s .pre .0) (m .count-long)) in
     (walk-turning q (l .loop .inv .3 (s .pre .0) (s .pre .1) q (walk-start m (s .args .rules) (cleared l .clear .ensures))) (omega arith) refl, cleared l .before .before .all .ensures)
 
 add-place : tie.Need-add-place Inv-loop μ-loop
@@ -110,7 +104,7 @@ returns c =
     let b = bound l in
     let s = start b in
     let e : l .loop .place ≡ s .args .places = omega arith in
-    λ rows lv m. walk-all m (s .args .rules) (rw e at (l .loop .inv .3 rows lv (measure-charted m (s .args .rules) (cutoffs b .cutoffs-of .ensures) (channels b rows (m .count-long))) (walk-start m (s .args .rules) (cleared l .clear .ensures))))
+    λ rows lv m. walk-all m (s .args .rules) (rw e at (l .loop .inv .3 rows lv (measure-charted m (s .args .rules) (channels b rows (m .count-long))) (walk-start m (s .args .rules) (cleared l .clear .ensures))))
 
 pub measure-spec : {M : Type 1} → statement M
 measure-spec =
@@ -118,7 +112,6 @@ measure-spec =
     (tie.spec
     Inv-loop
     μ-loop
-    cutoffs-of-requires
     largest-requires
     channel-bound-requires
     all-requires

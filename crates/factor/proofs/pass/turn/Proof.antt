@@ -125,7 +125,6 @@ brought-requires c κs =
     let t = settled-at (b .before) in
     let s = start t in
     let other = getD-set-other (s .args .factors .now) (s .args .x) (b .beside .result) (f .factor-of .result) 0 (next-other b) in (
-      s .pre .0 .cutoffs-are,
       omega (arith, f .before .before .steepness-of .ensures, steepness-small {fall = getD (s .args .factors .now) (s .args .x) 0} (s .pre .0 .fall-small)),
       omega (arith, c .steepness-of2 .ensures, steepness-small {fall = getD (set (s .args .factors .now) (s .args .x) (f .factor-of .result)) (b .beside .result) 0} (omega (arith, other, next-small b))),
       length-small t,
