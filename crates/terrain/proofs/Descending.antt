@@ -143,9 +143,12 @@ module _ {rows cols : ℕ} {dir : List ℕ} (d : Directed rows cols dir) where
       let e = order-places o (pointing d .within) in
       record { room = omega (arith, e, s .long, sum-ones n (λ x. when (valid x) 1) (λ x l. when-under (valid x) 1)); cells = o }
 
-  -- a place of the order holds a cell
+  -- a place of the order holds a valid cell
+  pub place-valid : {order : List ℕ} {m p x : ℕ} → Downhill rows cols dir order m → p < m → x ≡ getD order p 0 → mappedAt rows cols dir x ≡ true
+  place-valid {order} {m} {p} o h e = ap (mappedAt rows cols dir) e ∙ order-cell (o .cells) p h
+
   pub place-cell : {order : List ℕ} {m p x : ℕ} → Downhill rows cols dir order m → p < m → x ≡ getD order p 0 → x < rows * cols
-  place-cell {order} {m} {p} o h e = omega (arith, e, pointing d .within (getD order p 0) (order-cell (o .cells) p h))
+  place-cell {order} {m} {p} {x} o h e = pointing d .within x (place-valid o h e)
 
 -- an order has no more places than the grid has cells
 pub downhill-few : {rows cols : ℕ} {dir order : List ℕ} {m : ℕ} → Directed rows cols dir → Downhill rows cols dir order m → m ≤ rows * cols

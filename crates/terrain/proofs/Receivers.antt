@@ -16,7 +16,7 @@ use Rattle.terrain.specs.Cells.{neighbour, codeOf, sideOf}
 use Rattle.terrain.specs.Trail.{mappedAt, flowsAt, nextAt, stepsIn}
 use Rattle.terrain.specs.Directed.{Directed, receiverOf}
 use Rattle.terrain.proofs.Neighbours.{each-side, side-none}
-use Rattle.terrain.proofs.Trails.{Falls, is-mapped, mapped-in, flows-mapped, flows-code, code-next, receiver-flows, receiver-stops, receiver-points}
+use Rattle.terrain.proofs.Trails.{Falls, mapped-is, is-mapped, mapped-in, flows-mapped, flows-code, code-next, receiver-flows, receiver-stops, receiver-points}
 
 -- the side of a code, as its lowest bit
 bit-side : (k : ℕ) → k < 8 → trailingZeros 8 (codeOf k) ≡ k
@@ -62,6 +62,13 @@ module _ {rows cols : ℕ} {dir : List ℕ} (d : Directed rows cols dir) where
   unfolding mappedAt
   mapped-read x h = ap (λ (c : ℕ). not (eqb c 255)) (code-read x h)
 
+  -- a cell is valid if its code is not NoData's, and only then
+  pub code-mapped : (x : ℕ) → x < rows * cols → (getD dir x 0 ≡ 255 → ⊥) → mappedAt rows cols dir x ≡ true
+  code-mapped x h v = is-mapped rows cols dir x (λ e. v (sym (code-read x h) ∙ e))
+
+  pub mapped-code : (x : ℕ) → mappedAt rows cols dir x ≡ true → getD dir x 0 ≡ 255 → ⊥
+  mapped-code x v e = mapped-is rows cols dir x v (code-read x (pointing .within x v) ∙ e)
+
   pub receiver-none : (x : ℕ) → x < rows * cols → getD dir x 0 ≡ 255 → rows * cols ≡ receiverOf rows cols dir x
   unfolding flowsAt
   receiver-none x h e = sym (receiver-stops rows cols dir x (le-ltb (sideOf (getD dir x 255)) 8 (omega (arith, ap sideOf (code-read x h ∙ e) ∙ side-none))))
@@ -76,7 +83,7 @@ module _ {rows cols : ℕ} {dir : List ℕ} (d : Directed rows cols dir) where
     bit-flows : flowsAt rows cols dir x ≡ true
     bit-flows =
         ⊎-elim (λ q. q)
-        (λ q. absurd (omega (arith, ap (trailingZeros 8) (sym (code-read x h) ∙ d .stops x (is-mapped rows cols dir x (λ e. v (sym (code-read x h) ∙ e))) q) ∙ trailing-of-zero 8))) (two (flowsAt rows cols dir x))
+        (λ q. absurd (omega (arith, ap (trailingZeros 8) (sym (code-read x h) ∙ d .stops x (code-mapped x h v) q) ∙ trailing-of-zero 8))) (two (flowsAt rows cols dir x))
 
     pub receiver-beside : neighbour rows cols x (trailingZeros 8 (getD dir x 0)) ≡ receiverOf rows cols dir x
     receiver-beside =

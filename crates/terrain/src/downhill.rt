@@ -33,7 +33,7 @@ fn start(rows: usize, columns: usize, direction: &[u8], waiting: &mut [u32])
     }
 }
 
-// Lets the cell that the cell x points at wait for it.
+// Lets the cell that the cell x points at, if x is valid, wait for it.
 fn await_one(
     rows: usize,
     columns: usize,
@@ -45,6 +45,9 @@ fn await_one(
     requires { ⌜ Directed rows columns (now direction) × Awaiting rows columns (now direction) (now waiting) x × (x < rows * columns) × Shifts columns (now shifts) ⌝ }
     ensures { λ _. ⌜ Awaiting rows columns (now (direction .entry)) (now (waiting .exit)) (x + 1) ⌝ }
 {
+    if direction[x] == NO_CODE {
+        return;
+    }
     let y = receiver(rows, columns, shifts, direction, x);
     if waiting.len() <= y {
         return;

@@ -2,7 +2,7 @@
 // loop along the order from the ridges down: counts are handed on forwards, since a cell's turn comes after all its inflows;
 // the cells of trails are noted backwards, since the cell that a cell points at comes later.
 ghost use mathlib.Core.Path.{_≡_};
-ghost use mathlib.Core.Bool.{not};
+ghost use mathlib.Core.Bool.{true, not};
 ghost use Prim.Native.Nat.{_+_, _*_, _<_};
 ghost use lib.ListN.{length, getD, set};
 ghost use lib.Dec.{eqb};
@@ -17,7 +17,7 @@ use crate::cells::shifted;
 use crate::cells::value_at;
 use crate::direction::NO_CODE;
 
-// The cell that the cell x points at; the number of cells where it points nowhere.
+// The cell that the valid cell x points at; the number of cells where it points nowhere.
 pub(crate) fn receiver(
     rows: usize,
     columns: usize,
@@ -25,14 +25,10 @@ pub(crate) fn receiver(
     direction: &[u8],
     x: usize,
 ) -> usize
-    requires { ⌜ Directed rows columns (now direction) × (x < rows * columns) × Shifts columns (now shifts) ⌝ }
+    requires { ⌜ Directed rows columns (now direction) × (mappedAt rows columns (now direction) x ≡ true) × Shifts columns (now shifts) ⌝ }
     ensures { λ r. ⌜ r ≡ receiverOf rows columns (now (direction .entry)) x ⌝ }
 {
-    let code = direction[x];
-    if code == NO_CODE {
-        return rows * columns;
-    }
-    let k = u8::trailing_zeros(code) as usize;
+    let k = u8::trailing_zeros(direction[x]) as usize;
     if 8 <= k {
         return rows * columns;
     }

@@ -2,7 +2,7 @@
 use Prim.Native.Nat.{_-_}
 use lib.ListN.{getD, set, length-set}
 use mathlib.Core.Path.{refl, _∙_}
-use Rattle.laws.proofs.Peel.{hand-room}
+use Rattle.laws.proofs.Peel.{hand-cell, hand-room}
 use Rattle.terrain.proofs.Receivers.{pointing}
 use Rattle.terrain.proofs.Descending.{marked-long, taken-last, taken-waits, taken-next}
 use native.Mathlib.Omega.{arith}
@@ -30,7 +30,9 @@ slice-write-waiting : tie.Need-slice-write-waiting
 slice-write-waiting c = search needs
 
 receiver-requires : tie.Need-receiver-requires
-receiver-requires c κs = search needs
+receiver-requires c κs =
+    let s = c .before .before .before in
+    (s .pre .0, hand-cell (pointing (s .pre .0)) (s .pre .1) (s .pre .2), s .pre .3)
 
 same-length : tie.Need-same-length
 same-length c = search needs

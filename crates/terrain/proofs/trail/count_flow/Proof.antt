@@ -1,5 +1,5 @@
 -- `terrain::trail::count_flow` meets its contract. Assumes nothing.
-use Rattle.terrain.proofs.Descending.{place-cell}
+use Rattle.terrain.proofs.Descending.{place-valid, place-cell}
 use Rattle.terrain.proofs.Passing.{Passing, pass-start, pass-step, pass-fits, pass-all}
 use Prim.Native.Nat.{ℕ, _≤_, _+_, _-_}
 use mathlib.Core.List.{List}
@@ -45,7 +45,7 @@ cast-x c =
 receiver-requires : tie.Need-receiver-requires Inv-loop μ-loop
 receiver-requires c κs =
     let s = args (started (c .before .before)) in
-    (s .pre .0, place-cell (s .pre .0) (s .pre .1) (omega arith) refl, s .pre .3)
+    (s .pre .0, place-valid (s .pre .0) (s .pre .1) (omega arith) refl, s .pre .3)
 
 hand-on-requires : tie.Need-hand-on-requires Inv-loop μ-loop
 hand-on-requires c κs =

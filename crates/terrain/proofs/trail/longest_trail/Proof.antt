@@ -1,5 +1,5 @@
 -- `terrain::trail::longest_trail` meets its contract. Assumes nothing.
-use Rattle.terrain.proofs.Descending.{place-cell}
+use Rattle.terrain.proofs.Descending.{place-valid, place-cell}
 use Rattle.terrain.proofs.Following.{Backing, back-start, back-small, back-more, back-all}
 use Prim.Native.Nat.{_≤_, _-_}
 use mathlib.Core.Path.{refl, sym, _∙_}
@@ -37,7 +37,7 @@ cast-x c =
     omega (arith, place-cell (s .pre .0) {p = p .place - 1} (s .pre .1) (omega arith) refl, s .pre .0 .sized .small)
 
 receiver-requires : tie.Need-receiver-requires Inv-loop μ-loop
-receiver-requires c κs = let s = args (c .before .before) in (s .pre .0, place-cell (s .pre .0) (s .pre .1) (omega arith) refl, s .pre .3)
+receiver-requires c κs = let s = args (c .before .before) in (s .pre .0, place-valid (s .pre .0) (s .pre .1) (omega arith) refl, s .pre .3)
 
 value-at-requires : tie.Need-value-at-requires Inv-loop μ-loop
 value-at-requires c κs = search needs
