@@ -6,6 +6,7 @@ ghost use mathlib.Core.Path.{_≡_};
 ghost use mathlib.Core.List.{map};
 ghost use Prim.Native.Nat.{ℕ, _*_, _≤_, _<_};
 ghost use lib.ListN.{length, getD};
+ghost use lib.Dec.{ltb};
 ghost use lib.IntN.{pos};
 ghost use Rattle.laws.specs.Settle.{startOf};
 ghost use Rattle.terrain.specs.Cells.{Fine, levelsOf, heightOf, Ready};
@@ -44,22 +45,22 @@ fn height_of(level: u32) -> i32
     level as i32 - 999900
 }
 
-// The lowest level beside a cell x that is inside.
-pub(crate) fn lowest_inside(columns: usize, level: &[u32], x: usize) -> u32
+// Whether the lowest level beside a cell x that is inside is below v. Comparing costs half of what the lowest itself would.
+fn has_lower(columns: usize, level: &[u32], x: usize, v: u32) -> bool
     requires { ⌜ ((rows : ℕ) × Sized rows columns × (length (now level) ≡ rows * columns) × Inside rows columns x) ⌝ }
-    ensures { λ r. ⌜ ((rows : ℕ) → Inside rows columns x → r ≡ lowestOf rows columns (now (level .entry)) x 8) ⌝ }
+    ensures { λ r. ⌜ ((rows : ℕ) → Inside rows columns x → r ≡ ltb (lowestOf rows columns (now (level .entry)) x 8) v) ⌝ }
 {
-    let mut low: u32 = UNREACHED;
+    let mut found = UNREACHED < v;
     let mut k: usize = 0;
     while k < 8 {
-        low = smaller(low, level[beside(columns, x, k)]);
+        found = found | (level[beside(columns, x, k)] < v);
         k += 1;
     }
-    low
+    found
 }
 
 // The lowest level beside any cell x.
-pub(crate) fn lowest_near(rows: usize, columns: usize, level: &[u32], x: usize) -> u32
+fn lowest_near(rows: usize, columns: usize, level: &[u32], x: usize) -> u32
     requires { ⌜ Sized rows columns × (x < 1048576) ⌝ }
     ensures { λ r. ⌜ r ≡ lowestOf rows columns (now (level .entry)) x 8 ⌝ }
 {
@@ -153,14 +154,14 @@ fn flood(rows: usize, columns: usize, words: &mut [u32])
     }
 }
 
-// 1 if a level is below its ground, or above what the ground and the lowest level beside it allow; else 0.
-fn faulty(v: u32, ground: u32, low: u32) -> u32
-    ensures { λ r. ⌜ FaultyCell v ground low r ⌝ }
+// 1 if a level is below its ground, or above it with a lower level beside it; else 0.
+fn faulty(v: u32, ground: u32, lower: bool) -> u32
+    ensures { λ r. ⌜ ((low : ℕ) → lower ≡ ltb low v → FaultyCell v ground low r) ⌝ }
 {
-    if larger(ground, smaller(v, low)) == v {
-        0
-    } else {
+    if (v < ground) | ((ground < v) & lower) {
         1
+    } else {
+        0
     }
 }
 
@@ -175,7 +176,7 @@ fn faulty_run(columns: usize, ground: &[i32], level: &[u32], from: usize, to: us
         sum += faulty(
             level[x],
             ground_level(ground, x),
-            lowest_inside(columns, level, x),
+            has_lower(columns, level, x, level[x]),
         );
         x += 1;
     }
@@ -195,7 +196,7 @@ fn faulty_cells(rows: usize, columns: usize, ground: &[i32], level: &[u32]) -> u
         sum += faulty(
             level[end],
             ground_level(ground, end),
-            lowest_near(rows, columns, level, end),
+            lowest_near(rows, columns, level, end) < level[end],
         );
         x = end + 1;
     }

@@ -2,9 +2,11 @@
 use mathlib.Core.Path.{_≡_, refl, subst}
 use Prim.Native.Nat.{ℕ, _-_, _≤_}
 use native.Mathlib.Omega.{arith}
+use lib.ListN.{getD}
 use Rattle.laws.proofs.Search.{failing-none, failing-join}
 use Rattle.terrain.specs.Inside.{RunsTo}
-use Rattle.terrain.specs.Flood.{Faulty}
+use Rattle.terrain.specs.Filled.{lowestOf}
+use Rattle.terrain.specs.Flood.{FaultyCell, Faulty}
 use Rattle.terrain.proofs.Interior.{ready-sized}
 use Rattle.terrain.proofs.Flooding.{ground-read, cell-faulty}
 use borrow.Author.Needs.{needs}
@@ -29,20 +31,35 @@ shared-slice-read-faulty c = search needs
 ground-level-requires : tie.Need-ground-level-requires Inv-loop μ-loop
 ground-level-requires c κs = let s = c .before .before .before .before in ground-read (s .pre .1) (c .before .before .loop .x) (omega (arith, s .pre .3 .within))
 
-lowest-inside-requires : tie.Need-lowest-inside-requires Inv-loop μ-loop
-lowest-inside-requires c κs =
-    let s = c .before .before .before .before .before in
-    let p = c .before .before .before .loop in
-    (s .pre .0, ready-sized (s .pre .1), s .pre .2, s .pre .3 .inside (p .x) (omega arith) (omega arith))
+mul-has-lower : tie.Need-mul-has-lower Inv-loop μ-loop
+mul-has-lower c = search needs
+
+shared-slice-read-has-lower : tie.Need-shared-slice-read-has-lower Inv-loop μ-loop
+shared-slice-read-has-lower c = search needs
+
+has-lower-requires : tie.Need-has-lower-requires Inv-loop μ-loop
+has-lower-requires c κs =
+    let p = c .before .before .before .before in
+    let s = p .before .before in
+    (s .pre .0, ready-sized (s .pre .1), s .pre .2, s .pre .3 .inside (p .loop .x) (omega arith) (omega arith))
 
 faulty-requires : tie.Need-faulty-requires Inv-loop μ-loop
 faulty-requires c κs = search needs
 
+-- the arguments, the cells passed, and what is told of the cell
+abbrev passed : tie.After-faulty Inv-loop μ-loop → tie.At-loop Inv-loop μ-loop
+passed c = c .before .before .before .before .before .before
+
+abbrev start : tie.After-faulty Inv-loop μ-loop → tie.Start Inv-loop μ-loop
+start c = passed c .before .before
+
+told : (c : tie.After-faulty Inv-loop μ-loop) (rows : ℕ) → RunsTo rows (start c .args .columns) (start c .args .from) (start c .args .to) → FaultyCell (getD (start c .args .level .now) (passed c .loop .x) 0) (c .before .before .before .ground-level .result) (lowestOf rows (start c .args .columns) (start c .args .level .now) (passed c .loop .x) 8) (c .faulty .result)
+told c rows t = c .faulty .ensures _ (c .before .has-lower .ensures rows (t .inside (passed c .loop .x) (omega arith) (omega arith)))
+
 add-sum : tie.Need-add-sum Inv-loop μ-loop
 add-sum c =
-    let s = c .before .before .before .before .before .before .before in
-    let p = c .before .before .before .before .before .loop in
-    omega (arith, p .inv .2 (s .pre .0) (s .pre .3) .few, s .pre .3 .within, s .pre .1 .small, c .faulty .ensures .few)
+    let s = start c in
+    omega (arith, passed c .loop .inv .2 (s .pre .0) (s .pre .3) .few, s .pre .3 .within, s .pre .1 .small, told c (s .pre .0) (s .pre .3) .few)
 
 add-x : tie.Need-add-x Inv-loop μ-loop
 add-x c = search needs
@@ -52,11 +69,11 @@ loop-less c = search needs
 
 loop-again : tie.Need-loop-again Inv-loop μ-loop
 loop-again c =
-    let s = c .before .before .before .before .before .before .before in
-    let p = c .before .before .before .before .before .loop in (
+    let p = passed c .loop in
+    let a = start c .args in (
       omega arith,
       omega arith,
-      λ rows t. failing-join (p .inv .2 rows t) (cell-faulty rows (s .args .columns) (s .args .ground .now) (s .args .level .now) (p .x) _ _ _ _ refl (c .before .before .ground-level .ensures) (c .before .lowest-inside .ensures rows (t .inside (p .x) (omega arith) (omega arith))) (c .faulty .ensures)),
+      λ rows t. failing-join (p .inv .2 rows t) (cell-faulty rows (a .columns) (a .ground .now) (a .level .now) (p .x) _ _ _ _ refl (c .before .before .before .ground-level .ensures) refl (told c rows t)),
     )
 
 returns : tie.Need-returns Inv-loop μ-loop
@@ -76,7 +93,9 @@ faulty-run-spec =
     mul-faulty
     shared-slice-read-faulty
     ground-level-requires
-    lowest-inside-requires
+    mul-has-lower
+    shared-slice-read-has-lower
+    has-lower-requires
     faulty-requires
     add-sum
     add-x
