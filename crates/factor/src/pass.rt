@@ -8,7 +8,7 @@ ghost use mathlib.Core.List.{List};
 ghost use lib.ListN.{length, replicate};
 ghost use lib.Dec.{ltb};
 ghost use Prim.Native.Nat.{ℕ, _*_, _≤_, _<_, max};
-ghost use Rattle.terrain.specs.Inside.{Beside, besideOf};
+ghost use Rattle.terrain.specs.Inside.{Beside, besideOf, Shifts};
 ghost use Rattle.factor.specs.Length.{lengthsOf};
 ghost use Rattle.factor.specs.Grid.{factorsOf};
 ghost use Rattle.factor.specs.Inner.{steepest, greatestLength, settledOf, broughtBy, Listed};
@@ -53,13 +53,12 @@ fn settled(most: u64, count: u32, gathered: u64) -> u64
     gathered - 1
 }
 
-// The neighbour at side k of a cell x that has one there.
-fn beside(columns: usize, x: usize, k: usize) -> usize
-    requires { ⌜ Beside columns x k ⌝ }
+// The neighbour at side k of a cell x that has one there, by the shifts.
+fn beside(columns: usize, shifts: &[usize; 8], x: usize, k: usize) -> usize
+    requires { ⌜ Beside columns x k × Shifts columns (now shifts) ⌝ }
     ensures { λ r. ⌜ r ≡ besideOf columns x k ⌝ }
 {
-    let place = terrain::place_of(k);
-    x + place / 4 * columns + place % 4 - columns - 1
+    x + shifts[k] - columns - 1
 }
 
 // What an inflow of steepness p and this length brings over side k to a cell of steepness q.
@@ -79,10 +78,11 @@ fn turn(
     lengths: &mut [u64],
     factors: &mut [u32],
     x: usize,
+    shifts: &[usize; 8],
     lists: &Lists,
     guesses: &mut Guesses,
 )
-    requires { ⌜ Turning terms (now direction) (now count) (now lengths) (now factors) x × Listed (now lists) ⌝ }
+    requires { ⌜ Turning terms (now direction) (now count) (now lengths) (now factors) x × Listed (now lists) × Shifts (terms .columns) (now shifts) ⌝ }
     ensures { λ _. ⌜ Turned terms (now (direction .entry)) (now (count .entry)) (now (lengths .entry)) (now (factors .entry)) x (now (lengths .exit)) (now (factors .exit)) ⌝ }
 {
     let length = settled(terms.most, count[x], lengths[x]);
@@ -94,7 +94,7 @@ fn turn(
     if 8 <= k {
         return;
     }
-    let y = beside(terms.columns, x, k);
+    let y = beside(terms.columns, shifts, x, k);
     let amount = brought(terms, k, p, steepness_of(factors[y]), length);
     lengths[y] = longer(lengths[y], amount + 1);
 }
@@ -132,6 +132,7 @@ pub(crate) fn measure(
         rules: rules,
         most: channel_bound(threshold, largest(count)),
     };
+    let shifts = terrain::shifts_of(columns);
     let lists = thresholds::all();
     let mut guesses: Guesses = [0; 7708];
     clear(lengths);
@@ -144,6 +145,7 @@ pub(crate) fn measure(
             lengths,
             factors,
             order[place] as usize,
+            &shifts,
             &lists,
             &mut guesses,
         );

@@ -14,12 +14,12 @@ use Rattle.factor.proofs.pass.measure.Statement.{statement}
 use Rattle.factor.proofs.pass.measure.Tie as tie
 
 abbrev Inv-loop : tie.InvT-loop
-Inv-loop columns side direction count order places lengths₀ factors₀ terms lists guesses₀ place₀ lengths factors guesses place =
+Inv-loop columns side direction count order places lengths₀ factors₀ terms shifts lists guesses₀ place₀ lengths factors guesses place =
     (length lengths ≡ length lengths₀) × (length factors ≡ length factors₀) × (place ≤ places)
     × ((rows : ℕ) (lv : List ℕ) → Charted rows lv terms direction count order places → Walking rows (terms .columns) (terms .side) (terms .rules) lv direction count order lengths₀ factors₀ 0 → Walking rows (terms .columns) (terms .side) (terms .rules) lv direction count order lengths factors place)
 
 abbrev μ-loop : tie.MeasureT-loop
-μ-loop columns side direction count order places lengths₀ factors₀ terms lists guesses₀ place₀ lengths factors guesses place =
+μ-loop columns side direction count order places lengths₀ factors₀ terms shifts lists guesses₀ place₀ lengths factors guesses place =
     places - place
 
 -- the arguments, from the channel rule's bound on; and the cleared lengths, from the loop on
@@ -30,7 +30,7 @@ abbrev cleared : tie.At-loop Inv-loop μ-loop → tie.After-clear Inv-loop μ-lo
 cleared c = c .before .before .before
 
 abbrev bound : tie.At-loop Inv-loop μ-loop → tie.After-channel-bound Inv-loop μ-loop
-bound c = cleared c .before .before .before
+bound c = cleared c .before .before .before .before
 
 -- the bound tells channels
 channels : (c : tie.After-channel-bound Inv-loop μ-loop) (rows : ℕ) → length (start c .args .count .now) ≡ rows * start c .args .columns → (x : ℕ) → x < rows * start c .args .columns → ltb (c .channel-bound .result) (getD (start c .args .count .now) x 0) ≡ channelAt rows (start c .args .columns) (start c .args .rules) (start c .args .count .now) x
@@ -44,6 +44,9 @@ largest-requires c κs = search needs
 
 channel-bound-requires : tie.Need-channel-bound-requires Inv-loop μ-loop
 channel-bound-requires c κs = search needs
+
+shifts-of-requires : tie.Need-shifts-of-requires Inv-loop μ-loop
+shifts-of-requires c κs = search needs
 
 all-requires : tie.Need-all-requires Inv-loop μ-loop
 all-requires c κs = search needs
@@ -65,17 +68,18 @@ cast-turn c = let l = c .before .before .before .before in let m = start (bound 
 
 turn-requires : tie.Need-turn-requires Inv-loop μ-loop
 turn-requires c κs =
-    let l = c .before .before .before .before .before .before in
+    let l = c .before .before .before .before .before .before .before in
     let b = bound l in
     let s = start b in
     let m = s .pre .2 in
     let q = measure-charted m (s .args .rules) (channels b (s .pre .0) (m .count-long)) in
-    (walk-turning q (l .loop .inv .3 (s .pre .0) (s .pre .1) q (walk-start m (s .args .rules) (cleared l .clear .ensures))) (omega arith) refl, cleared l .before .before .all .ensures)
+    (walk-turning q (l .loop .inv .3 (s .pre .0) (s .pre .1) q (walk-start m (s .args .rules) (cleared l .clear .ensures))) (omega arith) refl, cleared l .before .before .all .ensures, cleared l .before .before .before .shifts-of .ensures (m .directed .sized .cols-small))
 
 add-place : tie.Need-add-place Inv-loop μ-loop
 add-place c =
     let t = c .before .before .before .before in
-    let l = t .before .before .before .before .before .before .before in
+    let a = t .before .before .before .before in
+    let l = a .before .before .before .before in
     let m = start (bound l) .pre .2 in
     omega (arith, downhill-few (m .directed) (m .order-is), m .directed .sized .small)
 
@@ -85,7 +89,8 @@ loop-less c = search needs
 loop-again : tie.Need-loop-again Inv-loop μ-loop
 loop-again c =
     let t = c .before .before .before .before in
-    let l = t .before .before .before .before .before .before .before in (
+    let a = t .before .before .before .before in
+    let l = a .before .before .before .before in (
       c .before .before .before .lengths2 .given ∙ l .loop .inv .0,
       c .before .factors .given ∙ l .loop .inv .1,
       omega arith,
@@ -114,6 +119,7 @@ measure-spec =
     μ-loop
     largest-requires
     channel-bound-requires
+    shifts-of-requires
     all-requires
     clear-requires
     loop-holds

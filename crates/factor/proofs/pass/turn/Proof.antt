@@ -104,7 +104,7 @@ returns c =
     turned-off (s .args .terms) (s .args .direction .now) (s .args .count .now) (s .args .lengths .now) (s .args .factors .now) (s .args .x) (t .settled .ensures) (f .before .before .steepness-of .ensures) (f .factor-of .ensures) (c .if1 .taken)
 
 beside-requires : tie.Need-beside-requires
-beside-requires c κs = start (settled-at c) .pre .0 .beside-room (c .if1 .left)
+beside-requires c κs = let s = start (settled-at c) in (s .pre .0 .beside-room (c .if1 .left), s .pre .2)
 
 mul-steepness-of : tie.Need-mul-steepness-of
 mul-steepness-of c = omega (arith, next-in c .1, start (settled-at (c .before)) .pre .0 .factors-few)
