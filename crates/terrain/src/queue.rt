@@ -192,11 +192,7 @@ fn reach_from(columns: usize, heads: &mut [u32; 2048], words: &mut [u32], x: usi
     if 0 < words[x] {
         return;
     }
-    let mut k: usize = 0;
-    while k < 8 {
-        reach(heads, words, 1024, 0, around(columns, x, k));
-        k += 1;
-    }
+    spread(columns, heads, words, 1024, 0, x);
 }
 
 // Reaches every rim cell: those of the edge, then those beside NoData.
