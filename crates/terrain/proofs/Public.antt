@@ -1,7 +1,7 @@
 -- What the layers above may cite of this one, besides its promise and its definitions: no other file of proofs/ is open to them. Assumes nothing.
 
 -- where a neighbour lies
-pub use Rattle.terrain.proofs.Interior.{placed, beside-room, beside-is}
+pub use Rattle.terrain.proofs.Interior.{shift-few, beside-room, beside-is}
 -- an accepted ground, its filled levels and its directions
 pub use Rattle.terrain.proofs.Answers.{passed-ready}
 pub use Rattle.terrain.proofs.Filling.{filled-small}

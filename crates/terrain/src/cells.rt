@@ -11,7 +11,7 @@ ghost use Rattle.terrain.specs.Cells.{rowSteps, colSteps, cellAt, neighb
 ghost use Rattle.terrain.specs.Inside.{Sized, Inside, RunsTo, besideOf, Beside, Shifts};
 
 // Where the neighbour at side k lies, counted from the one at NW: four times its row, plus its column.
-pub fn place_of(k: usize) -> usize
+fn place_of(k: usize) -> usize
     ensures { λ r. ⌜ r ≡ getD rowSteps k 0 * 4 + getD colSteps k 0 ⌝ }
 {
     match k {

@@ -11,7 +11,6 @@ mod flat;
 mod queue;
 mod trail;
 
-pub use cells::place_of;
 pub use cells::shifts_of;
 ghost use mathlib.Core.Path.{_≡_};
 ghost use mathlib.Core.Bool.{true};
