@@ -54,9 +54,9 @@ pub fn map(
     let rules = judged(shape, side, settings, ground, &grids)?;
     let Grids { filled, direction, count, lengths, factors, workspace } = grids;
     fill::fill(shape, ground, workspace);
-    if direction::point(shape, workspace, direction, factors, count) {
-        flat::drain(shape, workspace, direction, count, filled);
-    }
+    direction::point(shape, workspace, direction, factors, count);
+    flat::measure(shape, workspace, count, filled);
+    flat::point(shape, workspace, count, direction);
     fill::write_heights(workspace, filled);
     let valid = downhill::descend(shape, direction, count, workspace);
     let order = &workspace[..valid];

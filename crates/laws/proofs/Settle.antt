@@ -12,7 +12,7 @@ use lib.Dec.{ltb}
 use borrow.Author.Tests.{ltb-true, ltb-false, lt-ltb, le-ltb}
 use borrow.Author.Count.{below-more}
 use Rattle.laws.specs.Lists.{total}
-use Rattle.laws.specs.Settle.{Lowering, startOf, roundOf, settleOf, settledOf, relaxedOf, Still, dueOf, Kept, Rule, Eased, Sweeping, Loose, Settling}
+use Rattle.laws.specs.Settle.{Lowering, startOf, roundOf, settleOf, settledOf, relaxedOf, Still, dueOf, Kept, Rule, Eased, Sweeping, Settling}
 use Rattle.laws.proofs.Tests.{two}
 use Rattle.laws.proofs.Lists.{length-tab, getD-tab, getD-tab-past, in-list, total-set, total-same}
 
@@ -171,10 +171,6 @@ module _ (w : Lowering) (P : ℕ → ℕ → Type 0) where
         go true q false s = sweep-lower l₀ l x false s (ltb-true (w .offer l x) (getD l x 0) q)
         go false q true s = sweep-pass l₀ l x true s (ltb-false (w .offer l x) (getD l x 0) q)
         go false q false s = sweep-pass l₀ l x false s (ltb-false (w .offer l x) (getD l x 0) q)
-
-    -- a search that finds none in the whole list
-    pub loose-still : (l : List ℕ) (n : ℕ) → Loose w l 0 (w .size) n → n ≡ 0 → Still w l
-    loose-still l n s e x a = s .all e x (omega arith) (rule .within x a)
 
     -- ---- sweeps until one lowers nothing
 

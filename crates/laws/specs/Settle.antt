@@ -6,7 +6,6 @@ use Prim.Native.Nat.{ℕ, zero, suc, _≤_, _<_, min}
 use lib.ListN.{length, getD, set}
 use lib.Dec.{ltb}
 use Rattle.laws.specs.Lists.{tab, total}
-use Rattle.laws.specs.Search.{Failing}
 
 -- size: the cells; an active cell begins at far, and any other stands at 0; offer l x is what the list l lets the active cell x stand at
 pub record Lowering : Type 0 where
@@ -73,10 +72,6 @@ pub record Sweeping (w : Lowering) (P : ℕ → ℕ → Type 0) (l₀ l : List �
   pub fell : lowered ≡ true → total l < total l₀
   pub same : lowered ≡ false → total l ≡ total l₀
   pub still : lowered ≡ false → (y : ℕ) → y < x → getD l y 0 ≤ w .offer l y
-
--- a search for cells that an offer lowers
-abbrev pub Loose : Lowering → List ℕ → ℕ → ℕ → ℕ → Type 0
-Loose w l = Failing (λ (x : ℕ). getD l x 0 ≤ w .offer l x)
 
 -- sweeps until one lowers nothing: the list, and whether another is due
 pub record Settling (w : Lowering) (P : ℕ → ℕ → Type 0) (l : List ℕ) (again : Bool) : Type 0 where

@@ -9,21 +9,21 @@ use native.Mathlib.Numerals.{add-one}
 use native.Mathlib.Decide.{decLe, decLt, ℕ-discrete}
 use lib.ListN.{length, getD}
 use lib.IntN.{ℤ}
-use lib.Dec.{ltb, leb, eqb}
-use borrow.Author.Tests.{ltb-true, lt-ltb, le-ltb, le-leb, lt-leb, eq-eqb, ne-eqb}
+use lib.Dec.{ltb, eqb}
+use borrow.Author.Tests.{ltb-true, lt-ltb, eq-eqb, ne-eqb}
 use Rattle.laws.specs.Settle.{Rule}
 use Rattle.laws.proofs.Tests.{two, and-both}
 use Rattle.laws.proofs.Lists.{in-list}
-use Rattle.laws.proofs.First.{some-is, none-at}
+use Rattle.laws.proofs.First.{none-at}
 use Rattle.laws.proofs.Pigeon.{pigeon}
 use Rattle.laws.proofs.Settle.{settled-done, done-is}
 use Rattle.terrain.specs.Cells.{neighbour, validAt, rimAt, levelsOf, Ready}
 use Rattle.terrain.specs.Surfaces.{Run, last, step, NeverRises}
-use Rattle.terrain.specs.Filled.{top, lowestOf, filledLevels, filledOf}
+use Rattle.terrain.specs.Filled.{filledLevels, filledOf}
 use Rattle.terrain.specs.Flat.{farSteps, lowerAt, hasLower, flatAt, seenAt, nearestOf, flatStepping, flatSteps, Walk, there, on, walked, Within, StepsKept, StepsStill}
 use Rattle.terrain.specs.Drainage.{surfaceOf}
-use Rattle.terrain.proofs.Neighbours.{rim-open, inland-valid, level-le, none-level, level-valid}
-use Rattle.terrain.proofs.Filling.{lowest-le, lowest-is, filled-long, filled-clear, filled-some, filled-above, level-filled}
+use Rattle.terrain.proofs.Neighbours.{inland-valid, level-le, none-level, level-valid}
+use Rattle.terrain.proofs.Filling.{filled-long, filled-clear, filled-some, filled-above, level-filled}
 use Rattle.terrain.proofs.Neighbours.{valid-level}
 use Rattle.terrain.proofs.Surfaces.{drain}
 
@@ -68,31 +68,6 @@ module _ (rows cols : ℕ) (lv : List ℕ) where
 
   pub low-not-flat : (x k : ℕ) → k < 8 → getD lv (neighbour rows cols x k) 0 < getD lv x 0 → flatAt rows cols lv x ≡ false
   low-not-flat x k h l = ⊎-elim (λ e. absurd (omega (arith, flat-high x k e h))) (λ e. e) (two (flatAt rows cols lv x))
-
-  pub not-flat-low : (x : ℕ) → 0 < getD lv x 0 → flatAt rows cols lv x ≡ false → (k : ℕ) × (k < 8) × (getD lv (neighbour rows cols x k) 0 < getD lv x 0)
-  unfolding hasLower
-  not-flat-low x v e =
-      ⊎-elim (λ l. let i = some-is (lowerAt rows cols lv x) 8 l in (i .0, i .1, lower-is x (i .0) (i .2) .1))
-      (λ l. ⊎-elim (λ r. let i = rim-open rows cols lv x r in (i .0, i .1, omega (arith, i .2)))
-      (λ r. absurd (true≢false (sym (flat-is x v l r) ∙ e))) (two (rimAt rows cols lv x)))
-      (two (hasLower rows cols lv x))
-
-  -- the one test that a program makes
-  pub flat-lowest : (x : ℕ) → getD lv x 0 ≤ top → flatAt rows cols lv x ≡ (ltb 0 (getD lv x 0) && leb (getD lv x 0) (lowestOf rows cols lv x 8))
-  flat-lowest x h = ⊎-elim yes-flat no-flat (two (flatAt rows cols lv x))
-    where
-      high : flatAt rows cols lv x ≡ true → getD lv x 0 ≤ lowestOf rows cols lv x 8
-      high e = elim (decLt (lowestOf rows cols lv x 8) top) [ yes l ↦ (let i = lowest-is rows cols lv x 8 l in omega (arith, flat-high x (i .0) e (i .1), i .2)) | no f ↦ omega arith ]
-
-      yes-flat : flatAt rows cols lv x ≡ true → flatAt rows cols lv x ≡ (ltb 0 (getD lv x 0) && leb (getD lv x 0) (lowestOf rows cols lv x 8))
-      yes-flat e = e ∙ sym (simp (lt-ltb 0 (getD lv x 0) (flat-valid x e), le-leb (getD lv x 0) (lowestOf rows cols lv x 8) (high e)))
-
-      no-flat : flatAt rows cols lv x ≡ false → flatAt rows cols lv x ≡ (ltb 0 (getD lv x 0) && leb (getD lv x 0) (lowestOf rows cols lv x 8))
-      no-flat e =
-          elim (decLt 0 (getD lv x 0)) [
-            | yes v ↦ (let i = not-flat-low x v e in e ∙ sym (simp (lt-ltb 0 (getD lv x 0) v, lt-leb (getD lv x 0) (lowestOf rows cols lv x 8) (omega (arith, i .2, lowest-le rows cols lv x (i .0) 8 (i .1))))))
-            | no f ↦ e ∙ sym (simp (le-ltb 0 (getD lv x 0) (omega arith)))
-          ]
 
   -- ---- the nearest neighbour of the same level
 

@@ -8,8 +8,8 @@ ghost use lib.Dec.{ltb, eqb};
 ghost use Rattle.laws.specs.Lists.{tab};
 ghost use Rattle.terrain.specs.Cells.{neighbour, codeOf};
 ghost use Rattle.terrain.specs.Inside.{Sized, Inside, RunsTo};
-ghost use Rattle.terrain.specs.Flat.{farSteps, flatSteps, StepsKept};
-ghost use Rattle.terrain.specs.Direction.{nearerSide, directionsOf};
+ghost use Rattle.terrain.specs.Flat.{farSteps, flatSteps};
+ghost use Rattle.terrain.specs.Direction.{directionsOf};
 ghost use Rattle.terrain.specs.Falls.{noFall, fallsOf};
 ghost use Rattle.terrain.specs.Filled.{top};
 ghost use Rattle.terrain.specs.Levels.{Levels, openAt, dropOf, keyOf, sideKey, Chosen, downAt, FallTo, Down};
@@ -226,25 +226,7 @@ fn is_nearer(level: &[u32], steps: &[u32], v: u32, d: u32, y: usize) -> bool
     level[y] == v
 }
 
-// The code of the first neighbour of a flat cell x that has the same level and is one step nearer. All its neighbours are on
-// the grid.
-fn flat_code(columns: usize, level: &[u32], steps: &[u32], x: usize) -> u8
-    requires { ⌜ ((rows : ℕ) × Levels rows columns (now level) × StepsKept rows columns (now level) (now steps) × (0 < getD (now steps) x 0)) ⌝ }
-    ensures { λ r. ⌜ ((rows : ℕ) → Levels rows columns (now (level .entry)) → StepsKept rows columns (now (level .entry)) (now (steps .entry)) → r ≡ codeOf (nearerSide rows columns (now (level .entry)) (now (steps .entry)) x)) ⌝ }
-{
-    let v = level[x];
-    let d = steps[x] - 1;
-    let mut k: usize = 0;
-    while k < 8 {
-        if is_nearer(level, steps, v, d, beside(columns, x, k)) {
-            return code_of(k);
-        }
-        k += 1;
-    }
-    0
-}
-
-// Points every flat cell at its first neighbour of the same level that is one step nearer.
+// Points every flat cell at its first neighbour of the same level that is one step nearer. All its neighbours are on the grid.
 fn point_flats(rows: usize, columns: usize, level: &[u32], steps: &[u32], direction: &mut [u8])
     requires { ⌜ Levels rows columns (now level) × (now steps ≡ flatSteps rows columns (now level)) × (now direction ≡ tab (rows * columns) (downAt rows columns (now level))) ⌝ }
     ensures { λ r. ⌜ now (direction .exit) ≡ directionsOf rows columns (now (level .entry)) ⌝ }
@@ -252,7 +234,19 @@ fn point_flats(rows: usize, columns: usize, level: &[u32], steps: &[u32], direct
     let mut x: usize = 0;
     while x < direction.len() {
         if 0 < steps[x] {
-            direction[x] = flat_code(columns, level, steps, x);
+            let v = level[x];
+            let d = steps[x] - 1;
+            let mut k: usize = 0;
+            let code = loop {
+                if 8 <= k {
+                    break 0;
+                }
+                if is_nearer(level, steps, v, d, beside(columns, x, k)) {
+                    break code_of(k);
+                }
+                k += 1;
+            };
+            direction[x] = code;
         }
         x += 1;
     }
