@@ -6,7 +6,7 @@ ghost use lib.ListN.{length};
 ghost use lib.Dec.{eqb};
 ghost use Rattle.laws.specs.Sums.{when};
 ghost use Rattle.terrain.specs.Directed.{Directed};
-ghost use Rattle.terrain.specs.Downhill.{Downhill, Awaiting, Peeled};
+ghost use Rattle.terrain.specs.Downhill.{Downhill, Awaiting, Peeled, Onward};
 ghost use Rattle.terrain.specs.Inside.{Shifts};
 use crate::direction::NO_CODE;
 use crate::trail::receiver;
@@ -74,7 +74,7 @@ fn await_all(
     }
 }
 
-// Takes the cell x at a place of the order. The cell that it points at, if that waits for none now; else the number of cells.
+// Takes the cell x at a place of the order: the cell that it points at waits for one less. That cell.
 fn take(
     rows: usize,
     columns: usize,
@@ -86,7 +86,7 @@ fn take(
     x: usize,
 ) -> usize
     requires { ⌜ Directed rows columns (now direction) × Peeled rows columns (now direction) (now order) (now waiting) place 0 x × (x < rows * columns) × Shifts columns (now shifts) ⌝ }
-    ensures { λ r. ⌜ ((b : ℕ) → Peeled rows columns (now (direction .entry)) (now (order .entry)) (now (waiting .entry)) place b x → Peeled rows columns (now (direction .entry)) (now (order .exit)) (now (waiting .exit)) (place + 1) b r) ⌝ }
+    ensures { λ r. ⌜ ((b hand : ℕ) → Peeled rows columns (now (direction .entry)) (now (order .entry)) (now (waiting .entry)) place b x → Onward (rows * columns) (now (waiting .exit)) r hand → Peeled rows columns (now (direction .entry)) (now (order .exit)) (now (waiting .exit)) (place + 1) b hand) ⌝ }
 {
     order[place] = x as u32;
     waiting[x] = SHUT;
@@ -95,13 +95,11 @@ fn take(
         return y;
     }
     waiting[y] = waiting[y] - 1;
-    if 0 < waiting[y] {
-        return waiting.len();
-    }
     y
 }
 
-// Takes the cells of the trail from the cell in hand, as far as no cell waits. The next place of the order.
+// Takes the cells of the trail from the cell in hand, as far as no cell waits. The next place of the order. It returns where a
+// cell waits, so that the processor can foresee the next cell without what that waits for.
 fn follow(
     rows: usize,
     columns: usize,
@@ -112,16 +110,22 @@ fn follow(
     place: usize,
     start: usize,
 ) -> usize
-    requires { ⌜ Directed rows columns (now direction) × Peeled rows columns (now direction) (now order) (now waiting) place (start + 1) start × Shifts columns (now shifts) ⌝ }
+    requires { ⌜ Directed rows columns (now direction) × Peeled rows columns (now direction) (now order) (now waiting) place (start + 1) start × (start < rows * columns) × Shifts columns (now shifts) ⌝ }
     ensures { λ r. ⌜ Peeled rows columns (now (direction .entry)) (now (order .exit)) (now (waiting .exit)) r (start + 1) (rows * columns) ⌝ }
 {
     let mut at = place;
     let mut x = start;
-    while x < waiting.len() {
-        x = take(rows, columns, shifts, direction, waiting, order, at, x);
+    loop {
+        let y = take(rows, columns, shifts, direction, waiting, order, at, x);
         at += 1;
+        if waiting.len() <= y {
+            return at;
+        }
+        if 0 < waiting[y] {
+            return at;
+        }
+        x = y;
     }
-    at
 }
 
 // The same from the cell x, if it waits for none.

@@ -16,7 +16,7 @@ returns : tie.Need-returns
 returns c = let s = c .before .before .before .before .before in peel-pass (pointing (s .pre .0)) (s .pre .1) (omega arith) (c .if1 .taken)
 
 follow-requires : tie.Need-follow-requires
-follow-requires c κs = let s = c .before .before .before .before .before .before .before in (s .pre .0, peel-begin (pointing (s .pre .0)) (s .pre .1) (omega arith) (omega (arith, c .before .before .if1 .left)), s .pre .3)
+follow-requires c κs = let s = c .before .before .before .before .before .before .before in (s .pre .0, peel-begin (pointing (s .pre .0)) (s .pre .1) (omega arith) (omega (arith, c .before .before .if1 .left)), s .pre .2, s .pre .3)
 
 same-length : tie.Need-same-length
 same-length c = search needs

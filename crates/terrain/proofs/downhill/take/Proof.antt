@@ -1,11 +1,11 @@
 -- `terrain::downhill::take` meets its contract. Assumes nothing.
-use Prim.Native.Nat.{_-_}
-use lib.ListN.{getD, set, length-set}
-use mathlib.Core.Path.{refl, _∙_}
+use mathlib.Core.Path.{refl, sym, subst}
+use Prim.Native.Nat.{_*_, _≤_, _<_}
+use native.Mathlib.Omega.{arith}
 use Rattle.laws.proofs.Peel.{hand-cell, hand-room}
+use Rattle.terrain.specs.Downhill.{Peeled}
 use Rattle.terrain.proofs.Receivers.{pointing}
 use Rattle.terrain.proofs.Descending.{marked-long, taken-last, taken-waits, taken-next}
-use native.Mathlib.Omega.{arith}
 use borrow.Author.Needs.{needs}
 use Rattle.terrain.proofs.downhill.take.Statement.{statement}
 use Rattle.terrain.proofs.downhill.take.Tie as tie
@@ -30,9 +30,7 @@ slice-write-waiting : tie.Need-slice-write-waiting
 slice-write-waiting c = search needs
 
 receiver-requires : tie.Need-receiver-requires
-receiver-requires c κs =
-    let s = c .before .before .before in
-    (s .pre .0, hand-cell (pointing (s .pre .0)) (s .pre .1) (s .pre .2), s .pre .3)
+receiver-requires c κs = let s = c .before .before .before in (s .pre .0, hand-cell (pointing (s .pre .0)) (s .pre .1) (s .pre .2), s .pre .3)
 
 same-length : tie.Need-same-length
 same-length c = search needs
@@ -41,7 +39,11 @@ same-length-2 : tie.Need-same-length-2
 same-length-2 c = search needs
 
 returns : tie.Need-returns
-returns c = let s = c .before .before .before .before .before in λ b i. taken-last (s .pre .0) i (s .pre .2) (c .before .receiver .ensures) (omega (arith, c .if1 .taken, marked-long (s .pre .0) (s .pre .1) (s .pre .2)))
+returns c =
+    let s = start (c .before) in
+    let a = s .args in
+    let past : a .rows * a .columns ≤ c .before .receiver .result = omega (arith, c .if1 .taken, marked-long (s .pre .0) (s .pre .1) (s .pre .2)) in
+    λ b hand i o. subst (Peeled (a .rows) (a .columns) (a .direction .now) _ _ _ b) (sym (o .past past)) (taken-last (s .pre .0) i (s .pre .2) (c .before .receiver .ensures) past)
 
 mul-waiting-2 : tie.Need-mul-waiting-2
 mul-waiting-2 c = search needs
@@ -50,19 +52,13 @@ slice-read-waiting : tie.Need-slice-read-waiting
 slice-read-waiting c = search needs
 
 sub-waiting : tie.Need-sub-waiting
-sub-waiting c = let s = c .before .before .before .before .before .before in taken-waits (s .pre .0) (s .pre .1) (s .pre .2) (c .before .before .receiver .ensures) (omega (arith, c .before .if1 .left, marked-long (s .pre .0) (s .pre .1) (s .pre .2)))
+sub-waiting c = let y = c .before .before in let s = start y in taken-waits (s .pre .0) (s .pre .1) (s .pre .2) (y .receiver .ensures) (omega (arith, c .before .if1 .left, marked-long (s .pre .0) (s .pre .1) (s .pre .2)))
 
 mul-waiting-3 : tie.Need-mul-waiting-3
-mul-waiting-3 c = let s = c .before .before .before .before .before .before in omega (arith, c .before .if1 .left, marked-long (s .pre .0) (s .pre .1) (s .pre .2), s .pre .0 .sized .small)
+mul-waiting-3 c = let s = start (c .before .before) in omega (arith, c .before .if1 .left, marked-long (s .pre .0) (s .pre .1) (s .pre .2), s .pre .0 .sized .small)
 
 slice-write-waiting-2 : tie.Need-slice-write-waiting-2
 slice-write-waiting-2 c = search needs
-
-mul-if2 : tie.Need-mul-if2
-mul-if2 c = let s = c .before .before .before .before .before .before in omega (arith, c .before .if1 .left, marked-long (s .pre .0) (s .pre .1) (s .pre .2), s .pre .0 .sized .small)
-
-slice-read-if2 : tie.Need-slice-read-if2
-slice-read-if2 c = search needs
 
 same-length-3 : tie.Need-same-length-3
 same-length-3 c = search needs
@@ -72,22 +68,10 @@ same-length-4 c = search needs
 
 returns-2 : tie.Need-returns-2
 returns-2 c =
-    let y = c .before .before .before .before in
+    let y = c .before .before in
     let s = start y in
-    let w = set (s .args .waiting .now) (s .args .x) 4294967295 in
-    λ b i. taken-next (s .pre .0) i (s .pre .2) (y .receiver .ensures) (omega (arith, c .before .before .before .if1 .left, marked-long (s .pre .0) (s .pre .1) (s .pre .2))) refl (λ e. absurd (omega (arith, c .if2 .taken))) (λ h. length-set w (y .receiver .result) (getD w (y .receiver .result) 0 - 1) ∙ marked-long (s .pre .0) (s .pre .1) (s .pre .2))
-
-same-length-5 : tie.Need-same-length-5
-same-length-5 c = search needs
-
-same-length-6 : tie.Need-same-length-6
-same-length-6 c = search needs
-
-returns-3 : tie.Need-returns-3
-returns-3 c =
-    let y = c .before .before .before .before in
-    let s = start y in
-    λ b i. taken-next (s .pre .0) i (s .pre .2) (y .receiver .ensures) (omega (arith, c .before .before .before .if1 .left, marked-long (s .pre .0) (s .pre .1) (s .pre .2))) refl (λ e. refl) (λ h. absurd (omega (arith, c .if2 .left)))
+    let in-grid : y .receiver .result < s .args .rows * s .args .columns = omega (arith, c .before .if1 .left, marked-long (s .pre .0) (s .pre .1) (s .pre .2)) in
+    λ b hand i o. taken-next (s .pre .0) i (s .pre .2) (y .receiver .ensures) in-grid refl (o .free in-grid) (o .held in-grid)
 
 pub take-spec : {M : Type 1} → statement M
 take-spec =
@@ -107,11 +91,6 @@ take-spec =
     sub-waiting
     mul-waiting-3
     slice-write-waiting-2
-    mul-if2
-    slice-read-if2
     same-length-3
     same-length-4
-    returns-2
-    same-length-5
-    same-length-6
-    returns-3)
+    returns-2)
