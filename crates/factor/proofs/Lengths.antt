@@ -3,9 +3,12 @@ use mathlib.Core.Path.{_≡_, refl, sym, ap, _∙_}
 use mathlib.Core.List.{List}
 use mathlib.Core.Bool.{Bool, true, false, cond, _&&_}
 use Prim.Native.Nat.{ℕ, zero, suc, _+_, _-_, _*_, _≤_, _<_}
+use native.Mathlib.Nat.{mul-le-mul}
 use native.Mathlib.Omega.{arith}
+use native.Mathlib.Decide.{decLt}
 use lib.ListN.{length, getD}
-use lib.Dec.{eqb}
+use lib.Dec.{ltb, leb, eqb}
+use borrow.Author.Tests.{lt-ltb, le-ltb}
 use Rattle.laws.specs.First.{someOf}
 use Rattle.laws.specs.Sums.{greatestTo, when}
 use Rattle.laws.proofs.Lists.{length-tab, getD-tab}
@@ -19,6 +22,7 @@ use Rattle.terrain.proofs.Public.{into-above}
 use Rattle.factor.specs.Slope.{steepnessAt}
 use Rattle.factor.specs.Channel.{channelAt}
 use Rattle.factor.specs.Inflow.{isCut, startLength, stepOver, amountOf}
+use Rattle.factor.specs.Inner.{leftBy}
 use Rattle.factor.specs.Length.{cutoffAt, broughtTo, lengthFrom, lengthIn, lengthsOf}
 
 -- ---- what one inflow brings
@@ -31,6 +35,31 @@ step-le k = go (cardinal k)
     go : (c : Bool) → cond c 10000 14142 ≤ 14142
     go true = omega arith
     go false = omega arith
+
+-- a cutoff leaves at most all of 100 percent
+pub left-small : (n : ℕ) → leftBy n ≤ 10000
+unfolding leftBy
+left-small n = let h : 100 - n ≤ 100 = omega arith in omega (arith, mul-le-mul h h)
+
+-- and leaves some just where it is below 100 percent
+left-some : (n : ℕ) → ltb 0 (leftBy n) ≡ ltb n 100
+unfolding leftBy
+left-some n =
+    elim (decLt n 100) [
+      | yes h ↦ lt-ltb 0 (leftBy n) (some h) ∙ sym (lt-ltb n 100 h)
+      | no f ↦ let h : 100 ≤ n = omega arith in le-ltb 0 (leftBy n) (none h) ∙ sym (le-ltb n 100 h)
+    ]
+  where
+    some : n < 100 → 0 < leftBy n
+    some h = let g : 1 ≤ 100 - n = omega arith in omega (arith, mul-le-mul g g)
+
+    none : 100 ≤ n → leftBy n ≤ 0
+    none h = let g : 100 - n ≤ 0 = omega arith in omega (arith, mul-le-mul g g)
+
+-- so a cut is told by what is left
+pub cut-is : {left : ℕ} (n q p : ℕ) → left ≡ leftBy n → (ltb 0 left && ltb q p) && leb (10000 * q) (left * p) ≡ isCut n q p
+unfolding isCut leftBy
+cut-is n q p e = rw (e, left-some n)
 
 -- at most one step more than a bound of the inflow's length
 pub amount-le : (n q p s a b : ℕ) → s ≤ 14142 → startLength ≤ b → a ≤ b → amountOf n q p s a ≤ b + 14142

@@ -1,5 +1,5 @@
 -- The turn of one cell, as the code makes it. Assumes nothing.
-use mathlib.Core.Path.{_≡_, sym, ap, ap₂, subst, _∙_}
+use mathlib.Core.Path.{_≡_, ap, ap₂, _∙_}
 use mathlib.Core.List.{List}
 use mathlib.Core.Bool.{Bool, true, false, cond}
 use Prim.Native.Nat.{ℕ, _+_, _-_, _≤_, _<_, max}
@@ -12,7 +12,7 @@ use Rattle.terrain.specs.Inside.{besideOf}
 use Rattle.factor.specs.Cell.{factorOf}
 use Rattle.factor.specs.Inflow.{cutoffFor, startLength, stepOver}
 use Rattle.factor.specs.Inner.{greatestLength, steepnessOf, settledOf, broughtBy}
-use Rattle.factor.specs.Pass.{sideAt, lengthNow, amountNow, Turned}
+use Rattle.factor.specs.Pass.{Ruled, sideAt, lengthNow, amountNow, lengthsNext, Turned}
 use Rattle.factor.specs.declared.pass.Terms.{Terms}
 use Rattle.factor.proofs.Lengths.{step-le, amount-le}
 
@@ -36,21 +36,27 @@ module _ (terms : Terms) (dir count lengths factors : List ℕ) (x : ℕ) {len f
   factors-now = ap (set factors x) (e ∙ ap₂ (factorOf (terms .side)) s l)
 
   pub turned-off : 8 ≤ sideAt dir x → Turned terms dir count lengths factors x (set lengths x len) (set factors x f)
-  turned-off h = record { factors-are = factors-now; leaves = (λ k. ap (set lengths x) l); hands-on = (λ k. absurd (omega arith)) }
+  turned-off h = record { factors-are = factors-now; leaves = (λ k. ap (set lengths x) l); hands-on = (λ rules r k. absurd (omega arith)) }
 
-  module _ {y q b m : ℕ} (i : y ≡ besideOf (terms .columns) x (sideAt dir x)) (d : y ≡ x → ⊥) (g : q ≡ steepnessOf (getD (set factors x f) y 0)) (a : b ≡ broughtBy (terms .side) (terms .rules) (sideAt dir x) p q len) (o : m ≡ max (getD (set lengths x len) y 0) (b + 1)) where
-    amount-is : b ≡ amountNow terms dir count lengths factors x y
-    amount-is =
-        a ∙ ap (λ (u : ℕ). broughtBy (terms .side) (terms .rules) (sideAt dir x) u q len) s
-        ∙ ap₂ (λ (u v : ℕ). broughtBy (terms .side) (terms .rules) (sideAt dir x) (steepnessOf (getD factors x 0)) u v) (g ∙ ap steepnessOf (getD-set-other factors x y f 0 d)) l
+  module _ {y q b m : ℕ} (i : y ≡ besideOf (terms .columns) x (sideAt dir x)) (d : y ≡ x → ⊥) (g : q ≡ steepnessOf (getD (set factors x f) y 0))
+      (a : (rules : Rules) → Ruled rules terms → b ≡ broughtBy (terms .side) rules (sideAt dir x) p q len)
+      (o : m ≡ max (getD (set lengths x len) y 0) (b + 1)) where
+    module _ (rules : Rules) (r : Ruled rules terms) where
+      amount-is : b ≡ amountNow terms dir count lengths factors x rules y
+      amount-is =
+          a rules r ∙ ap (λ (u : ℕ). broughtBy (terms .side) rules (sideAt dir x) u q len) s
+          ∙ ap₂ (broughtBy (terms .side) rules (sideAt dir x) (steepnessOf (getD factors x 0))) (g ∙ ap steepnessOf (getD-set-other factors x y f 0 d)) l
 
-    there : set (set lengths x len) y m ≡ set (set lengths x (lengthNow terms dir count lengths factors x)) y (max (getD lengths y 0) (amountNow terms dir count lengths factors x y + 1))
-    there = ap₂ (λ (u v : ℕ). set (set lengths x u) y v) l (o ∙ ap₂ max (getD-set-other lengths x y len 0 d) (ap (λ (u : ℕ). u + 1) amount-is))
+      amount-max : m ≡ max (getD lengths y 0) (amountNow terms dir count lengths factors x rules y + 1)
+      amount-max = o ∙ ap₂ max (getD-set-other lengths x y len 0 d) (ap (λ (u : ℕ). u + 1) amount-is)
+
+      there : set (set lengths x len) y m ≡ lengthsNext terms dir count lengths factors x rules (besideOf (terms .columns) x (sideAt dir x))
+      there = ap₂ (λ (u v : ℕ). set (set lengths x u) y v) l amount-max ∙ ap (lengthsNext terms dir count lengths factors x rules) i
 
     pub turned-on : sideAt dir x < 8 → Turned terms dir count lengths factors x (set (set lengths x len) y m) (set factors x f)
     turned-on h =
         record {
           factors-are = factors-now;
           leaves = (λ k. absurd (omega arith));
-          hands-on = (λ k. there ∙ ap (λ (z : ℕ). set (set lengths x (lengthNow terms dir count lengths factors x)) z (max (getD lengths z 0) (amountNow terms dir count lengths factors x z + 1))) i);
+          hands-on = (λ rules r k. there rules r);
         }

@@ -31,8 +31,8 @@ use Rattle.factor.specs.Channel.{channelAt}
 use Rattle.factor.specs.Length.{cutoffAt, broughtTo, lengthsOf}
 use Rattle.factor.specs.Cell.{factorOf}
 use Rattle.factor.specs.Grid.{factorAt, factorsOf}
-use Rattle.factor.specs.Inner.{greatestFall, steepnessOf, settledOf, broughtBy}
-use Rattle.factor.specs.Pass.{sideAt, Turning, lengthNow, amountNow, Turned, Measuring}
+use Rattle.factor.specs.Inner.{greatestFall, steepnessOf, settledOf, leftBy, broughtBy}
+use Rattle.factor.specs.Pass.{Ruled, sideAt, Turning, lengthNow, amountNow, lengthsNext, Turned, Measuring}
 use Rattle.factor.specs.declared.pass.Terms.{Terms}
 use Rattle.factor.proofs.Slopes.{fall-steepness, fall-small}
 use Rattle.factor.proofs.Lengths.{lengths-long, lengths-at}
@@ -46,14 +46,15 @@ module _ (rows cols side : ℕ) (rules : Rules) (lv dir count : List ℕ) where
     pub falls : (z : ℕ) → z < rows * cols → standsIn order p z ≡ 0 → getD factors z 0 ≡ fallAt rows cols lv dir z
     pub done : (z : ℕ) → 0 < standsIn order p z → getD factors z 0 ≡ factorOf side (steepnessAt rows cols lv dir z) (lengthAt rows cols side rules lv dir count z)
 
--- what the pass assumes of a map: its levels lv, directions, counts, and an order of its cells
-pub record Charted (rows : ℕ) (lv : List ℕ) (terms : Terms) (dir count order : List ℕ) (places : ℕ) : Type 0 where
+-- what the pass assumes of a map: its levels lv, rules, directions, counts, and an order of its cells
+pub record Charted (rows : ℕ) (lv : List ℕ) (rules : Rules) (terms : Terms) (dir count order : List ℕ) (places : ℕ) : Type 0 where
   pub directed : Directed rows (terms .columns) dir
   pub capped : (x : ℕ) → getD lv x 0 ≤ 1900000
+  pub ruled : Ruled rules terms
   pub side-some : 1 ≤ terms .side
   pub side-small : terms .side ≤ 100000
   pub count-long : length count ≡ rows * terms .columns
-  pub channel : (x : ℕ) → x < rows * terms .columns → ltb (terms .most) (getD count x 0) ≡ channelAt rows (terms .columns) (terms .rules) count x
+  pub channel : (x : ℕ) → x < rows * terms .columns → ltb (terms .most) (getD count x 0) ≡ channelAt rows (terms .columns) rules count x
   pub order-is : Downhill rows (terms .columns) dir order places
 
 -- ---- the map as the code reads it
@@ -84,7 +85,7 @@ module _ (rows cols : ℕ) (lv dir : List ℕ) (capped : (x : ℕ) → getD lv x
 
 -- ---- the turn of one cell
 
-module _ {rows : ℕ} {lv dir count order : List ℕ} {places : ℕ} {terms : Terms} (c : Charted rows lv terms dir count order places) where
+module _ {rows : ℕ} {lv dir count order : List ℕ} {places : ℕ} {rules : Rules} {terms : Terms} (c : Charted rows lv rules terms dir count order places) where
   abbrev cols : ℕ
   cols = terms .columns
 
@@ -95,16 +96,19 @@ module _ {rows : ℕ} {lv dir count order : List ℕ} {places : ℕ} {terms : Te
   to = receiverOf rows cols dir
 
   abbrev whole : ℕ → ℕ
-  whole = gatheredAt rows cols (terms .side) (terms .rules) lv dir count
+  whole = gatheredAt rows cols (terms .side) rules lv dir count
 
   abbrev final : ℕ → ℕ
-  final = lengthAt rows cols (terms .side) (terms .rules) lv dir count
+  final = lengthAt rows cols (terms .side) rules lv dir count
 
   abbrev Walks : List ℕ → List ℕ → ℕ → Type 0
-  Walks lengths factors p = Walking rows cols (terms .side) (terms .rules) lv dir count order lengths factors p
+  Walks lengths factors p = Walking rows cols (terms .side) rules lv dir count order lengths factors p
 
-  abbrev handed : Handed max greatestTo size (mappedAt rows cols dir) to (givenBy rows cols (terms .side) (terms .rules) lv dir count) (λ z. 0) whole
-  handed = lengths-handed (c .directed) (terms .side) (terms .rules) lv count
+  abbrev handed : Handed max greatestTo size (mappedAt rows cols dir) to (givenBy rows cols (terms .side) rules lv dir count) (λ z. 0) whole
+  handed = lengths-handed (c .directed) (terms .side) rules lv count
+
+  abbrev Turns : List ℕ → List ℕ → ℕ → Type 0
+  Turns = Turn max size to (givenBy rows cols (terms .side) rules lv dir count) whole (settledAt rows cols (terms .side) rules lv dir count)
 
   module _ {lengths factors : List ℕ} {p x : ℕ} (w : Walks lengths factors p) (h : p < places) (e : x ≡ getD order p 0) where
     here-valid : mappedAt rows cols dir x ≡ true
@@ -127,12 +131,12 @@ module _ {rows : ℕ} {lv dir count order : List ℕ} {places : ℕ} {terms : Te
     code-some q = mapped-is rows cols dir x here-valid (code-read (c .directed) x here-in ∙ q)
 
     -- its length
-    here-length : lengthNow terms dir count lengths factors x ≡ settledAt rows cols (terms .side) (terms .rules) lv dir count x (whole x)
+    here-length : lengthNow terms dir count lengths factors x ≡ settledAt rows cols (terms .side) rules lv dir count x (whole x)
     unfolding settledAt
     here-length = ap₂ settledOf (c .channel x here-in) here-whole
 
     here-final : lengthNow terms dir count lengths factors x ≡ final x
-    here-final = here-length ∙ settled-is (c .directed) (terms .side) (terms .rules) lv count x here-valid
+    here-final = here-length ∙ settled-is (c .directed) (terms .side) rules lv count x here-valid
 
     module _ (k : sideAt dir x < 8) where
       -- the cell that it points at
@@ -146,13 +150,15 @@ module _ {rows : ℕ} {lv dir count order : List ℕ} {places : ℕ} {terms : Te
       next-fall = valid-fall rows cols lv dir (c .capped) (to x) (pointing (c .directed) .stays x next-in) (w .falls (to x) next-in (hand-next handed (w .handing) x here-new))
 
       -- what it hands on
-      here-given : amountNow terms dir count lengths factors x (to x) + 1 ≡ givenBy rows cols (terms .side) (terms .rules) lv dir count x (whole x)
+      here-given : amountNow terms dir count lengths factors x rules (to x) + 1 ≡ givenBy rows cols (terms .side) rules lv dir count x (whole x)
       unfolding givenBy broughtTo broughtBy cutoffAt
       here-given = rw (here-fall .1, next-fall .1, receiver-side (c .directed) x here-in code-some k, here-length)
 
     pub walk-turning : Turning terms dir count lengths factors x
     walk-turning =
         record {
+          rules = rules;
+          ruled = c .ruled;
           side-some = c .side-some;
           side-small = c .side-small;
           dir-in = omega (arith, here-in, c .directed .long);
@@ -162,7 +168,7 @@ module _ {rows : ℕ} {lv dir count order : List ℕ} {places : ℕ} {terms : Te
           lengths-few = omega (arith, w .handing .long, c .directed .sized .small);
           factors-few = omega (arith, w .factors-long, c .directed .sized .small);
           fall-small = here-fall .0;
-          gathered-small = omega (arith, here-whole, gathered-small (c .directed) (terms .side) (terms .rules) lv count x);
+          gathered-small = omega (arith, here-whole, gathered-small (c .directed) (terms .side) rules lv count x);
           beside-room = (λ k. beside-room rows cols x (sideAt dir x) (c .directed .sized) (omega (arith, here-in, c .directed .sized .small)) k (receiver-near (c .directed) x here-in code-some k));
           next-other = (λ k q. pointing (c .directed) .apart x (next-in k) (sym (next-is k) ∙ q));
           next-lengths = (λ k. omega (arith, next-is k, next-in k, w .handing .long));
@@ -174,21 +180,21 @@ module _ {rows : ℕ} {lv dir count order : List ℕ} {places : ℕ} {terms : Te
       abbrev now : ℕ
       now = lengthNow terms dir count lengths factors x
 
-      stored : getD (set lengths x now) x 0 ≡ settledAt rows cols (terms .side) (terms .rules) lv dir count x (whole x)
+      stored : getD (set lengths x now) x 0 ≡ settledAt rows cols (terms .side) rules lv dir count x (whole x)
       stored = getD-set-same lengths x now 0 (omega (arith, here-in, w .handing .long)) ∙ here-length
 
-      turn-of : Turn max size to (givenBy rows cols (terms .side) (terms .rules) lv dir count) whole (settledAt rows cols (terms .side) (terms .rules) lv dir count) lengths lengths′ x
+      turn-of : Turns lengths lengths′ x
       turn-of =
           turn-stored handed now
           (elim (decLt (sideAt dir x) 8) [
-            | yes k ↦ subst (λ (l : List ℕ). Turn max size to (givenBy rows cols (terms .side) (terms .rules) lv dir count) whole (settledAt rows cols (terms .side) (terms .rules) lv dir count) (set lengths x now) l x) (sym (on k))
+            | yes k ↦ subst (λ (l : List ℕ). Turns (set lengths x now) l x) (sym (on k))
                 (turn-on handed (length-set lengths x now ∙ w .handing .long) (next-in k) stored (ap₂ max (sym (getD-set-other lengths x (to x) now 0 (pointing (c .directed) .apart x (next-in k)))) (here-given k)))
-            | no f ↦ subst (λ (l : List ℕ). Turn max size to (givenBy rows cols (terms .side) (terms .rules) lv dir count) whole (settledAt rows cols (terms .side) (terms .rules) lv dir count) (set lengths x now) l x) (sym (t .leaves (omega arith)))
+            | no f ↦ subst (λ (l : List ℕ). Turns (set lengths x now) l x) (sym (t .leaves (omega arith)))
                 (turn-off handed (omega (arith, receiver-leaves (c .directed) x here-in (omega arith))) stored)
           ])
         where
-          on : (k : sideAt dir x < 8) → lengths′ ≡ set (set lengths x now) (to x) (max (getD lengths (to x) 0) (amountNow terms dir count lengths factors x (to x) + 1))
-          on k = t .hands-on k ∙ ap (λ (y : ℕ). set (set lengths x now) y (max (getD lengths y 0) (amountNow terms dir count lengths factors x y + 1))) (next-is k)
+          on : (k : sideAt dir x < 8) → lengths′ ≡ lengthsNext terms dir count lengths factors x rules (to x)
+          on k = t .hands-on rules (c .ruled) k ∙ ap (lengthsNext terms dir count lengths factors x rules) (next-is k)
 
       stands : (z : ℕ) → standsIn order (p + 1) z ≡ standsIn order p z + when (eqb x z) 1
       stands z = stands-more order p z ∙ ap (λ (y : ℕ). standsIn order p z + when (eqb y z) 1) (sym e)
@@ -202,10 +208,10 @@ module _ {rows : ℕ} {lv dir count order : List ℕ} {places : ℕ} {terms : Te
       same : getD factors′ x 0 ≡ factorOf (terms .side) (steepnessAt rows cols lv dir x) (final x)
       same = ap (λ (l : List ℕ). getD l x 0) (t .factors-are) ∙ getD-set-same factors x made 0 (omega (arith, here-in, w .factors-long)) ∙ ap₂ (factorOf (terms .side)) (here-fall .1) here-final
 
-      pub walk-turn : Walking rows (terms .columns) (terms .side) (terms .rules) lv dir count order lengths′ factors′ (p + 1)
+      pub walk-turn : Walking rows (terms .columns) (terms .side) rules lv dir count order lengths′ factors′ (p + 1)
       walk-turn =
           record {
-            handing = next-turn handed (c .order-is .cells) (w .handing) h (subst (Turn max size to (givenBy rows cols (terms .side) (terms .rules) lv dir count) whole (settledAt rows cols (terms .side) (terms .rules) lv dir count) lengths lengths′) e turn-of);
+            handing = next-turn handed (c .order-is .cells) (w .handing) h (subst (Turns lengths lengths′) e turn-of);
             factors-long = ap length (t .factors-are) ∙ length-set factors x made ∙ w .factors-long;
             falls = (λ z l q. let f : z ≡ x → ⊥ = λ g. omega (arith, stands z, when-yes 1 (eq-eqb x z (sym g))) in other z f ∙ w .falls z l (omega (arith, stands z)));
             done = (λ z q. elim (ℕ-discrete z x) [ yes g ↦ ap (λ (y : ℕ). getD factors′ y 0) g ∙ same ∙ ap (λ (y : ℕ). factorOf (terms .side) (steepnessAt rows cols lv dir y) (final y)) (sym g) | no f ↦ other z f ∙ w .done z (omega (arith, stands z, when-no 1 (ne-eqb x z (λ g. f (sym g))))) ]);
@@ -217,8 +223,20 @@ module _ {rows cols side : ℕ} {lv dir count order lengths factors : List ℕ} 
   abbrev cells : ℕ
   cells = rows * cols
 
-  pub measure-charted : {most : ℕ} → ((x : ℕ) → x < rows * cols → ltb most (getD count x 0) ≡ channelAt rows cols rules count x) → Charted rows lv (record { columns = cols; side = side; rules = rules; most = most }) dir count order places
-  measure-charted q = record { directed = m .directed; capped = m .capped; side-some = m .side-some; side-small = m .side-small; count-long = m .count-long; channel = q; order-is = m .order-is }
+  pub measure-charted : {low high most : ℕ} → low ≡ leftBy (rules .low) → high ≡ leftBy (rules .high) →
+      ((x : ℕ) → x < rows * cols → ltb most (getD count x 0) ≡ channelAt rows cols rules count x) →
+      Charted rows lv rules (record { columns = cols; side = side; square = side * side; low = low; high = high; most = most }) dir count order places
+  measure-charted l h q =
+      record {
+        directed = m .directed;
+        capped = m .capped;
+        ruled = record { square-is = refl; low-is = l; high-is = h };
+        side-some = m .side-some;
+        side-small = m .side-small;
+        count-long = m .count-long;
+        channel = q;
+        order-is = m .order-is;
+      }
 
   falls-long : length (fallsOf rows cols lv dir) ≡ cells
   unfolding fallsOf

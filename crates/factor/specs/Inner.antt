@@ -61,6 +61,10 @@ steepnessOf fall = cond (eqb (fall % 2) 0) (2 * ((fall / 2) * (fall / 2))) ((fal
 unfoldable pub settledOf : Bool → ℕ → ℕ
 settledOf channel gathered = cond channel 0 (cond (ltb gathered 1) startLength (gathered - 1))
 
+-- what a cutoff of n percent leaves of 100, squared
+unfoldable pub leftBy : ℕ → ℕ
+leftBy n = (100 - n) * (100 - n)
+
 -- what an inflow of steepness p and this length brings over the side k to a cell of steepness q
 unfoldable pub broughtBy : ℕ → Rules → ℕ → ℕ → ℕ → ℕ → ℕ
 unfolding cutoffFor amountOf stepOver

@@ -5,13 +5,20 @@ use Prim.Native.Nat.{ℕ, _+_, _*_, _≤_, _<_, max}
 use lib.Count.{trailingZeros}
 use lib.Dec.{ltb}
 use lib.ListN.{length, getD, set}
+use Rattle.settings.specs.declared.Rules.{Rules}
 use Rattle.terrain.specs.Inside.{Beside, besideOf}
 use Rattle.terrain.specs.Falls.{fallsOf}
 use Rattle.terrain.specs.Directed.{Directed}
 use Rattle.terrain.specs.Downhill.{Downhill}
 use Rattle.factor.specs.Cell.{factorOf}
-use Rattle.factor.specs.Inner.{greatestFall, greatestLength, steepnessOf, settledOf, broughtBy}
+use Rattle.factor.specs.Inner.{greatestFall, greatestLength, steepnessOf, settledOf, leftBy, broughtBy}
 use Rattle.factor.specs.declared.pass.Terms.{Terms}
+
+-- the terms are those of these rules: the square of the cell side, and what the cutoffs leave, squared
+pub record Ruled (rules : Rules) (terms : Terms) : Type 0 where
+  pub square-is : terms .square ≡ terms .side * terms .side
+  pub low-is : terms .low ≡ leftBy (rules .low)
+  pub high-is : terms .high ≡ leftBy (rules .high)
 
 -- ---- the turn of one cell
 
@@ -19,8 +26,10 @@ use Rattle.factor.specs.declared.pass.Terms.{Terms}
 abbrev pub sideAt : List ℕ → ℕ → ℕ
 sideAt dir x = trailingZeros 8 (getD dir x 0)
 
--- the cell x, and the cell that it points at, have small falls and gathered amounts, and places in every grid
+-- the terms are those of some rules; the cell x, and the cell that it points at, have small falls and gathered amounts, and places in every grid
 pub record Turning (terms : Terms) (dir count lengths factors : List ℕ) (x : ℕ) : Type 0 where
+  pub rules : Rules
+  pub ruled : Ruled rules terms
   pub side-some : 1 ≤ terms .side
   pub side-small : terms .side ≤ 100000
   pub dir-in : x < length dir
@@ -37,19 +46,23 @@ pub record Turning (terms : Terms) (dir count lengths factors : List ℕ) (x : �
   pub next-factors : sideAt dir x < 8 → besideOf (terms .columns) x (sideAt dir x) < length factors
   pub next-small : sideAt dir x < 8 → getD factors (besideOf (terms .columns) x (sideAt dir x)) 0 ≤ greatestFall
 
--- the length of the cell x, and its amount for the cell y, by the lists at its turn
+-- the length of the cell x, and its amount for the cell y by these rules, by the lists at its turn
 module _ (terms : Terms) (dir count lengths factors : List ℕ) (x : ℕ) where
   abbrev pub lengthNow : ℕ
   lengthNow = settledOf (ltb (terms .most) (getD count x 0)) (getD lengths x 0)
 
-  abbrev pub amountNow : ℕ → ℕ
-  amountNow y = broughtBy (terms .side) (terms .rules) (sideAt dir x) (steepnessOf (getD factors x 0)) (steepnessOf (getD factors y 0)) lengthNow
+  abbrev pub amountNow : Rules → ℕ → ℕ
+  amountNow rules y = broughtBy (terms .side) rules (sideAt dir x) (steepnessOf (getD factors x 0)) (steepnessOf (getD factors y 0)) lengthNow
+
+  -- the lengths once it has handed on to the cell y
+  abbrev pub lengthsNext : Rules → ℕ → List ℕ
+  lengthsNext rules y = set (set lengths x lengthNow) y (max (getD lengths y 0) (amountNow rules y + 1))
 
   -- the lists after its turn
   pub record Turned (lengths′ factors′ : List ℕ) : Type 0 where
     pub factors-are : factors′ ≡ set factors x (factorOf (terms .side) (steepnessOf (getD factors x 0)) lengthNow)
     pub leaves : 8 ≤ sideAt dir x → lengths′ ≡ set lengths x lengthNow
-    pub hands-on : sideAt dir x < 8 → let y = besideOf (terms .columns) x (sideAt dir x) in lengths′ ≡ set (set lengths x lengthNow) y (max (getD lengths y 0) (amountNow y + 1))
+    pub hands-on : (rules : Rules) → Ruled rules terms → sideAt dir x < 8 → lengths′ ≡ lengthsNext rules (besideOf (terms .columns) x (sideAt dir x))
 
 -- ---- the pass
 

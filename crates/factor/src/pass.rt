@@ -9,28 +9,33 @@ ghost use lib.ListN.{length, replicate};
 ghost use lib.Dec.{ltb};
 ghost use Prim.Native.Nat.{ℕ, _*_, _≤_, _<_, max};
 ghost use Rattle.terrain.specs.Inside.{Beside, besideOf, Shifts};
+ghost use Rattle.settings.specs.declared.Rules.{Rules};
+ghost use Rattle.factor.specs.Inflow.{cutoffFor};
 ghost use Rattle.factor.specs.Length.{lengthsOf};
 ghost use Rattle.factor.specs.Grid.{factorsOf};
-ghost use Rattle.factor.specs.Inner.{steepest, greatestLength, settledOf, broughtBy, Listed};
-ghost use Rattle.factor.specs.Pass.{Turning, Turned, Measuring};
+ghost use Rattle.factor.specs.Inner.{steepest, greatestLength, settledOf, leftBy, broughtBy, Listed};
+ghost use Rattle.factor.specs.Pass.{Ruled, Turning, Turned, Measuring};
 use crate::cell::factor_of;
 use crate::channel::channel_bound;
 use crate::channel::largest;
 use crate::guess::Guesses;
 use crate::inflow::START;
 use crate::inflow::amount_of;
-use crate::inflow::cutoff_for;
+use crate::inflow::left_by;
 use crate::inflow::step_over;
 use crate::slope::steepness_of;
 use crate::thresholds;
 use crate::thresholds::Lists;
 use settings::Rules;
 
-// What lengths are measured by: the columns of the map, its cell side in cm, the rules, and the greatest count that is no channel's.
+// What lengths are measured by: the columns of the map, its cell side in cm and the square of that, what the low and the high cutoff
+// leave, squared, and the greatest count that is no channel's. The squares are made once for a map, and each cell compares with them.
 pub(crate) struct Terms {
     columns: usize,
     side: u32,
-    rules: Rules,
+    square: u64,
+    low: u64,
+    high: u64,
     most: u64,
 }
 
@@ -61,13 +66,24 @@ fn beside(columns: usize, shifts: &[usize; 8], x: usize, k: usize) -> usize
     x + shifts[k] - columns - 1
 }
 
+// What is left, squared, by the cutoff that a cell of steepness q uses for its inflows.
+fn left_for(terms: Terms, q: u64) -> u64
+    requires { ⌜ q ≤ steepest ⌝ }
+    ensures { λ r. ⌜ ((rules : Rules) → Ruled rules terms → r ≡ leftBy (cutoffFor (rules .low) (rules .high) (terms .side) q)) ⌝ }
+{
+    if 200 * q < terms.square {
+        return terms.low;
+    }
+    terms.high
+}
+
 // What an inflow of steepness p and this length brings over side k to a cell of steepness q.
 fn brought(terms: Terms, k: usize, p: u64, q: u64, length: u64) -> u64
-    requires { ⌜ (p ≤ steepest) × (q ≤ steepest) × (length ≤ greatestLength) ⌝ }
-    ensures { λ r. ⌜ r ≡ broughtBy (terms .side) (terms .rules) k p q length ⌝ }
+    requires { ⌜ (p ≤ steepest) × (q ≤ steepest) × (length ≤ greatestLength) × ((rules : Rules) × Ruled rules terms) ⌝ }
+    ensures { λ r. ⌜ ((rules : Rules) → Ruled rules terms → r ≡ broughtBy (terms .side) rules k p q length) ⌝ }
 {
-    let n = cutoff_for(terms.side, terms.rules, q);
-    amount_of(n, q, p, step_over(k), length)
+    let left = left_for(terms, q);
+    amount_of(left, q, p, step_over(k), length)
 }
 
 // The turn of the cell x.
@@ -125,11 +141,14 @@ pub(crate) fn measure(
     requires { ⌜ ((rows : ℕ) × (lv : List ℕ) × Measuring rows columns side lv (now direction) (now count) (now order) places (now lengths) (now factors)) ⌝ }
     ensures { λ _. ⌜ ((rows : ℕ) (lv : List ℕ) → Measuring rows columns side lv (now (direction .entry)) (now (count .entry)) (now (order .entry)) places (now (lengths .entry)) (now (factors .entry)) → (now (lengths .exit) ≡ lengthsOf rows columns side rules lv (now (direction .entry)) (now (count .entry))) × (now (factors .exit) ≡ factorsOf rows columns side lv (now (direction .entry)) (now (lengths .exit)))) ⌝ }
 {
+    let square = (side as u64) * (side as u64);
     let threshold = rules.threshold;
     let terms = Terms {
         columns: columns,
         side: side,
-        rules: rules,
+        square: square,
+        low: left_by(rules.low),
+        high: left_by(rules.high),
         most: channel_bound(threshold, largest(count)),
     };
     let shifts = terrain::shifts_of(columns);

@@ -2,10 +2,12 @@
 use mathlib.Core.Path.{_≡_, refl, subst, _∙_}
 use mathlib.Core.List.{List}
 use Prim.Native.Nat.{ℕ, _*_, _-_, _≤_, _<_}
+use native.Mathlib.Nat.{mul-le-mul}
 use native.Mathlib.Omega.{arith}
 use lib.Dec.{ltb}
 use lib.ListN.{length, getD}
 use borrow.Author.Needs.{needs}
+use Rattle.settings.specs.declared.Rules.{Rules}
 use Rattle.terrain.proofs.Public.{place-cell, downhill-few}
 use Rattle.factor.specs.Channel.{isChannel, channelAt}
 use Rattle.factor.proofs.Channels.{bounded}
@@ -14,17 +16,22 @@ use Rattle.factor.proofs.pass.measure.Statement.{statement}
 use Rattle.factor.proofs.pass.measure.Tie as tie
 
 abbrev Inv-loop : tie.InvT-loop
-Inv-loop columns side direction count order places lengths₀ factors₀ terms shifts lists guesses₀ place₀ lengths factors guesses place =
+Inv-loop columns side direction count order places lengths₀ factors₀ square terms shifts lists guesses₀ place₀ lengths factors guesses place =
     (length lengths ≡ length lengths₀) × (length factors ≡ length factors₀) × (place ≤ places)
-    × ((rows : ℕ) (lv : List ℕ) → Charted rows lv terms direction count order places → Walking rows (terms .columns) (terms .side) (terms .rules) lv direction count order lengths₀ factors₀ 0 → Walking rows (terms .columns) (terms .side) (terms .rules) lv direction count order lengths factors place)
+    × ((rows : ℕ) (lv : List ℕ) (rules : Rules) → Charted rows lv rules terms direction count order places →
+    Walking rows (terms .columns) (terms .side) rules lv direction count order lengths₀ factors₀ 0 →
+    Walking rows (terms .columns) (terms .side) rules lv direction count order lengths factors place)
 
 abbrev μ-loop : tie.MeasureT-loop
-μ-loop columns side direction count order places lengths₀ factors₀ terms shifts lists guesses₀ place₀ lengths factors guesses place =
+μ-loop columns side direction count order places lengths₀ factors₀ square terms shifts lists guesses₀ place₀ lengths factors guesses place =
     places - place
 
--- the arguments, from the channel rule's bound on; and the cleared lengths, from the loop on
+-- the arguments, and what the cutoffs leave, from the channel rule's bound on; and the cleared lengths, from the loop on
+abbrev lefts : tie.After-channel-bound Inv-loop μ-loop → tie.After-left-by2 Inv-loop μ-loop
+lefts c = c .before .before
+
 abbrev start : tie.After-channel-bound Inv-loop μ-loop → tie.Start Inv-loop μ-loop
-start c = c .before .before .before .before .before .before .before
+start c = lefts c .before .before .before .before .before .before .before
 
 abbrev cleared : tie.At-loop Inv-loop μ-loop → tie.After-clear Inv-loop μ-loop
 cleared c = c .before .before .before
@@ -38,6 +45,15 @@ channels c rows e =
     let s = start c in
     bounded rows (s .args .columns) (s .args .rules) (c .channel-bound .result) (s .args .count .now) e
     (subst (λ (n : ℕ). (k : ℕ) → k ≤ n → ltb (c .channel-bound .result) k ≡ isChannel (s .args .rules .threshold) n k) (c .before .largest .ensures) (c .channel-bound .ensures))
+
+mul-square : tie.Need-mul-square Inv-loop μ-loop
+mul-square c = let h = c .before .before .before .before .before .pre .2 .side-small in omega (arith, mul-le-mul h h)
+
+left-by-requires : tie.Need-left-by-requires Inv-loop μ-loop
+left-by-requires c κs = search needs
+
+left-by-requires-2 : tie.Need-left-by-requires-2 Inv-loop μ-loop
+left-by-requires-2 c κs = search needs
 
 largest-requires : tie.Need-largest-requires Inv-loop μ-loop
 largest-requires c κs = search needs
@@ -55,7 +71,7 @@ clear-requires : tie.Need-clear-requires Inv-loop μ-loop
 clear-requires c κs = search needs
 
 loop-holds : tie.Need-loop-holds Inv-loop μ-loop
-loop-holds c = (refl, refl, omega arith, λ rows lv m w. w)
+loop-holds c = (refl, refl, omega arith, λ rows lv rules m w. w)
 
 mul-turn : tie.Need-mul-turn Inv-loop μ-loop
 mul-turn c = let m = start (bound (c .before .before .before)) .pre .2 in omega (arith, downhill-few (m .directed) (m .order-is), m .directed .sized .small)
@@ -68,12 +84,17 @@ cast-turn c = let l = c .before .before .before .before in let m = start (bound 
 
 turn-requires : tie.Need-turn-requires Inv-loop μ-loop
 turn-requires c κs =
-    let l = c .before .before .before .before .before .before .before in
+    let i = c .before .before .before .before .before .before in
+    let l = i .before in
     let b = bound l in
     let s = start b in
     let m = s .pre .2 in
-    let q = measure-charted m (s .args .rules) (channels b (s .pre .0) (m .count-long)) in
-    (walk-turning q (l .loop .inv .3 (s .pre .0) (s .pre .1) q (walk-start m (s .args .rules) (cleared l .clear .ensures))) (omega arith) refl, cleared l .before .before .all .ensures, cleared l .before .before .before .shifts-of .ensures (m .directed .sized .cols-small))
+    let q = measure-charted m (s .args .rules) (lefts b .before .left-by .ensures) (lefts b .left-by2 .ensures) (channels b (s .pre .0) (m .count-long)) in
+    let w = l .loop .inv .3 (s .pre .0) (s .pre .1) (s .args .rules) q (walk-start m (s .args .rules) (cleared l .clear .ensures)) in (
+      walk-turning q w (i .loop-test .taken) refl,
+      cleared l .before .before .all .ensures,
+      cleared l .before .before .before .shifts-of .ensures (m .directed .sized .cols-small),
+    )
 
 add-place : tie.Need-add-place Inv-loop μ-loop
 add-place c =
@@ -94,7 +115,7 @@ loop-again c =
       c .before .before .before .lengths2 .given ∙ l .loop .inv .0,
       c .before .factors .given ∙ l .loop .inv .1,
       omega arith,
-      λ rows lv m w. walk-turn m (l .loop .inv .3 rows lv m w) (omega arith) refl (t .turn .ensures),
+      λ rows lv rules m w. walk-turn m (l .loop .inv .3 rows lv rules m w) (omega arith) refl (t .turn .ensures),
     )
 
 same-length : tie.Need-same-length Inv-loop μ-loop
@@ -107,9 +128,13 @@ returns : tie.Need-returns Inv-loop μ-loop
 returns c =
     let l = c .before in
     let b = bound l in
-    let s = start b in
-    let e : l .loop .place ≡ s .args .places = omega arith in
-    λ rows lv m. walk-all m (s .args .rules) (rw e at (l .loop .inv .3 rows lv (measure-charted m (s .args .rules) (channels b rows (m .count-long))) (walk-start m (s .args .rules) (cleared l .clear .ensures))))
+    let a = start b .args in
+    let e : l .loop .place ≡ a .places = omega arith in
+    λ rows lv m.
+    let q = measure-charted m (a .rules) (lefts b .before .left-by .ensures) (lefts b .left-by2 .ensures) (channels b rows (m .count-long)) in
+    walk-all m (a .rules)
+    (subst (Walking rows (a .columns) (a .side) (a .rules) lv (a .direction .now) (a .count .now) (a .order .now) (l .loop .lengths) (l .loop .factors)) e
+    (l .loop .inv .3 rows lv (a .rules) q (walk-start m (a .rules) (cleared l .clear .ensures))))
 
 pub measure-spec : {M : Type 1} → statement M
 measure-spec =
@@ -117,6 +142,9 @@ measure-spec =
     (tie.spec
     Inv-loop
     μ-loop
+    mul-square
+    left-by-requires
+    left-by-requires-2
     largest-requires
     channel-bound-requires
     shifts-of-requires

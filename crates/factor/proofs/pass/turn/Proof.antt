@@ -128,6 +128,7 @@ brought-requires c κs =
       omega (arith, f .before .before .steepness-of .ensures, steepness-small {fall = getD (s .args .factors .now) (s .args .x) 0} (s .pre .0 .fall-small)),
       omega (arith, c .steepness-of2 .ensures, steepness-small {fall = getD (set (s .args .factors .now) (s .args .x) (f .factor-of .result)) (b .beside .result) 0} (omega (arith, other, next-small b))),
       length-small t,
+      (s .pre .0 .rules, s .pre .0 .ruled),
     )
 
 mul-longer : tie.Need-mul-longer
@@ -143,7 +144,11 @@ add-longer c =
     let f = b .before .before .before in
     let t = settled-at (b .before) in
     let s = start t in
-    omega (arith, w .brought .ensures, brought-small (s .args .terms .side) (s .args .terms .rules) (trailingZeros 8 (getD (s .args .direction .now) (s .args .x) 0)) (f .before .before .steepness-of .result) (w .before .steepness-of2 .result) (t .settled .result) (length-small t))
+    let rules = s .pre .0 .rules in
+    let k = trailingZeros 8 (getD (s .args .direction .now) (s .args .x) 0) in
+    let p = f .before .before .steepness-of .result in
+    let small = brought-small (s .args .terms .side) rules k p (w .before .steepness-of2 .result) (t .settled .result) (length-small t) in
+    omega (arith, w .brought .ensures rules (s .pre .0 .ruled), small)
 
 longer-requires : tie.Need-longer-requires
 longer-requires c κs = search needs
