@@ -59,7 +59,7 @@ module _ {rows cols : ℕ} {ground : List ℤ} (ready : Ready rows cols ground) 
 
 -- ---- the levels beside a cell, compared one by one
 
-lower-either : (a b v : ℕ) → (ltb a v || ltb b v) ≡ ltb (min a b) v
+pub lower-either : (a b v : ℕ) → (ltb a v || ltb b v) ≡ ltb (min a b) v
 lower-either a b v =
     elim (decLt a v) [
       | yes h ↦ rw (lt-ltb a v h) (sym (lt-ltb (min a b) v (omega arith)))

@@ -30,14 +30,17 @@ pub record Placed (cols k place : ℕ) : Type 0 where
   pub right : place % 4 ≡ getD colSteps k 0
   pub right-few : getD colSteps k 0 ≤ 2
 
-pub placed : {cols x k : ℕ} → Beside cols x k → (place : ℕ) → place ≡ getD rowSteps k 0 * 4 + getD colSteps k 0 → Placed cols k place
-placed {cols} {x} {k} b place e =
+pub placed-at : {cols k : ℕ} → cols ≤ 1024 → k < 8 → (place : ℕ) → place ≡ getD rowSteps k 0 * 4 + getD colSteps k 0 → Placed cols k place
+placed-at {cols} {k} small h place e =
     record {
-      down = ap (λ (r : ℕ). r * cols) (place-row k place (b .side-small) e);
-      down-few = omega (arith, mul-le-mul-right cols (row-step-le k (b .side-small)), b .cols-small);
-      right = place-col k place (b .side-small) e;
-      right-few = col-step-le k (b .side-small);
+      down = ap (λ (r : ℕ). r * cols) (place-row k place h e);
+      down-few = omega (arith, mul-le-mul-right cols (row-step-le k h));
+      right = place-col k place h e;
+      right-few = col-step-le k h;
     }
+
+pub placed : {cols x k : ℕ} → Beside cols x k → (place : ℕ) → place ≡ getD rowSteps k 0 * 4 + getD colSteps k 0 → Placed cols k place
+placed b place e = placed-at (b .cols-small) (b .side-small) place e
 
 -- ---- the shifts
 

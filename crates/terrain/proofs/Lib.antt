@@ -20,4 +20,6 @@ mod Falls
 mod Dropping
 mod Surveying
 mod Words
+mod Edges
+mod Queueing
 pub mod Public

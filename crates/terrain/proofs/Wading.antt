@@ -2,13 +2,15 @@
 use mathlib.Core.Path.{_≡_, refl, sym, ap, subst, _∙_}
 use mathlib.Core.List.{List}
 use mathlib.Core.Logic.{_⊎_, inl, inr, ⊎-elim}
-use mathlib.Core.Bool.{Bool, true, false, cond}
+use mathlib.Core.Bool.{Bool, true, false, cond, _&&_, _||_}
 use Prim.Native.Nat.{ℕ, _+_, _*_, _≤_, _<_}
 use native.Mathlib.Omega.{arith}
 use native.Mathlib.Decide.{decLt, ℕ-discrete}
 use lib.ListN.{length, getD, set, length-set}
 use lib.Seq.{getD-set-same, getD-set-other}
 use lib.IntN.{ℤ, pos}
+use lib.Dec.{ltb, eqb}
+use borrow.Author.Tests.{le-ltb}
 use borrow.Author.Count.{below-more}
 use Rattle.laws.specs.Settle.{startOf}
 use Rattle.laws.proofs.Lists.{in-list, getD-tab, getD-tab-past}
@@ -20,7 +22,26 @@ use Rattle.terrain.specs.Levels.{Levels}
 use Rattle.terrain.specs.Wading.{Put, queued, dropped, Reached, near, lowered, Waits, Calm, Shores, Wading, Spreading, Waded}
 use Rattle.terrain.proofs.Neighbours.{across, across-small, neighbour-back, inland-valid}
 use Rattle.terrain.proofs.Interior.{beside-room, beside-is}
-use Rattle.terrain.proofs.Flats.{flat-valid, flat-inland, flat-high, nearest-some, nearest-le, nearest-is, seen-same, seen-level, within-beside, flat-rule}
+use Rattle.terrain.proofs.Flooding.{lower-either}
+use Rattle.terrain.proofs.Flats.{nearest-none, nearest-more, flat-valid, flat-inland, flat-high, nearest-some, nearest-le, nearest-is, seen-same, seen-level, within-beside, flat-rule}
+
+-- ---- a cell beside one that has 0 steps
+
+shore-seen : (b : Bool) (s : ℕ) → (b && ltb s 1) ≡ ltb (cond b s farSteps) 1
+shore-seen true s = refl
+shore-seen false s = sym (le-ltb farSteps 1 (omega arith))
+
+module _ (rows cols : ℕ) (lv d : List ℕ) (x : ℕ) where
+  pub shore-none : false ≡ ltb (nearestOf rows cols lv d x 0) 1
+  shore-none = sym (le-ltb (nearestOf rows cols lv d x 0) 1 (omega (arith, nearest-none rows cols lv d x)))
+
+  pub shore-more : (k : ℕ) {b : Bool} {y : ℕ} → b ≡ ltb (nearestOf rows cols lv d x k) 1 → y ≡ neighbour rows cols x k → (b || (eqb (getD lv y 0) (getD lv x 0) && ltb (getD d y 0) 1)) ≡ ltb (nearestOf rows cols lv d x (k + 1)) 1
+  shore-more k {b} {y} e q =
+      ap (λ (c : Bool). c || (eqb (getD lv y 0) (getD lv x 0) && ltb (getD d y 0) 1)) e
+      ∙ ap (λ (z : ℕ). ltb (nearestOf rows cols lv d x k) 1 || (eqb (getD lv z 0) (getD lv x 0) && ltb (getD d z 0) 1)) q
+      ∙ ap (λ (c : Bool). ltb (nearestOf rows cols lv d x k) 1 || c) (shore-seen (eqb (getD lv (neighbour rows cols x k) 0) (getD lv x 0)) (getD d (neighbour rows cols x k) 0))
+      ∙ lower-either (nearestOf rows cols lv d x k) (seenAt rows cols lv d x k) 1
+      ∙ ap (λ (n : ℕ). ltb n 1) (sym (nearest-more rows cols lv d x k))
 
 -- ---- a cell that waits
 

@@ -4,7 +4,7 @@ use mathlib.Core.List.{List, [], _∷_, map}
 use Prim.Native.Nat.{ℕ, zero, suc, _+_, _*_, _≤_, _<_, min}
 use native.Mathlib.Omega.{arith}
 use native.Mathlib.Decide.{decLt, ℕ-discrete}
-use lib.ListN.{length, getD, set, length-map, length-set, List·getD-map, List·getD-eq-default}
+use lib.ListN.{length, getD, set, length-map, length-set, List·getD-map}
 use lib.Seq.{ext-getD, map-set-same, getD-set-same, getD-set-other}
 use lib.IntN.{ℤ}
 use borrow.Author.Tests.{ltb-true}
@@ -13,11 +13,9 @@ use Rattle.laws.proofs.Lists.{in-list}
 use Rattle.laws.proofs.Settle.{kept-active, store-kept, start-kept}
 use Rattle.terrain.specs.Cells.{neighbour, levelsOf, Ready}
 use Rattle.terrain.specs.Filled.{top, lowestOf, filling, filledLevels, Stands}
-use Rattle.terrain.specs.Inside.{Sized, besideOf, Beside}
-use Rattle.terrain.specs.Flood.{FillKept, Steady, doneOf, Reached, Spread, Above, Flooded}
+use Rattle.terrain.specs.Flood.{FillKept, Steady, doneOf, Above, Flooded}
 use Rattle.terrain.proofs.Neighbours.{level-top, levels-long}
-use Rattle.terrain.proofs.Interior.{beside-is, beside-room}
-use Rattle.terrain.proofs.Filling.{lowest-none, lowest-more, lowest-is, lowest-top, stands-beside, filling-rule, filled-is}
+use Rattle.terrain.proofs.Filling.{lowest-is, lowest-top, stands-beside, filling-rule, filled-is}
 
 pub done-at : (l : List ℕ) (x : ℕ) → getD (doneOf l) x 0 ≡ min (getD l x 0) top
 unfolding doneOf
@@ -46,34 +44,6 @@ pub lowest-done : (rows cols : ℕ) (l : List ℕ) (x k : ℕ) → lowestOf rows
 unfolding lowestOf
 lowest-done rows cols l x zero = refl
 lowest-done rows cols l x (suc k) = omega (arith, lowest-done rows cols l x k, lowest-top rows cols l x k, done-at l (neighbour rows cols x k))
-
--- ---- the neighbours of a cell, reached in turn
-
--- what stands where a neighbour would be, past a side of the grid too, is not below what counts for the neighbour
-around-least : {rows cols : ℕ} → Sized rows cols → (l : List ℕ) → length l ≡ rows * cols → (x k y : ℕ) → x < 1048576 → k < 8 → (Beside cols x k → y ≡ besideOf cols x k) → getD l (neighbour rows cols x k) 0 ≤ getD l y 0
-around-least {rows} {cols} s l e x k y h j at =
-    elim (decLt (neighbour rows cols x k) (rows * cols)) [
-      | yes lt ↦ omega (arith, ap (λ (z : ℕ). getD l z 0) (at (beside-room rows cols x k s h j lt) ∙ beside-is rows cols x k lt))
-      | no f ↦ omega (arith, List·getD-eq-default l 0 {n = neighbour rows cols x k} (omega arith))
-    ]
-
-module _ {cols : ℕ} where
-  pub spread-none : (l : List ℕ) (x r : ℕ) → top ≤ r → Spread cols l l x 0 r
-  spread-none l x r h = record { same = refl; least = (λ rows s e. omega (arith, lowest-none rows cols (doneOf l) x)) }
-
-  pub spread-more : {l₀ l m : List ℕ} {x k low y w : ℕ} → Spread cols l₀ l x k low → Reached l m y w → x < 1048576 → k < 8 → (Beside cols x k → y ≡ besideOf cols x k) → Spread cols l₀ m x (k + 1) (min low w)
-  spread-more {l₀} {l} {m} {x} {k} {low} {y} {w} p r h j at =
-      record {
-        same = r .same ∙ p .same;
-        least = (λ rows s e. omega (arith, lowest-more rows cols (doneOf l₀) x k, p .least rows s e, around-least s (doneOf l₀) (done-long l₀ ∙ e) x k y h j at, ap (λ (n : List ℕ). getD n y 0) (p .same), done-at l y, r .word));
-      }
-
-  -- a cell that waits still does
-  pub spread-waits : {l₀ l : List ℕ} {x k r : ℕ} → Spread cols l₀ l x k r → top ≤ getD l₀ x 0 → top ≤ getD l x 0
-  spread-waits {l₀} {l} {x} p h = omega (arith, done-at l₀ x, done-at l x, ap (λ (n : List ℕ). getD n x 0) (p .same))
-
-  pub spread-least : {rows : ℕ} {l₀ l : List ℕ} {x r : ℕ} → Spread cols l₀ l x 8 r → Sized rows cols → length l₀ ≡ rows * cols → lowestOf rows cols l x 8 ≤ r
-  spread-least {rows} {l₀} {l} {x} p s e = omega (arith, p .least rows s e, lowest-done rows cols l x 8, ap (λ (n : List ℕ). lowestOf rows cols n x 8) (p .same))
 
 -- ---- from words to words
 

@@ -3,7 +3,7 @@
 use mathlib.Core.Path.{_≡_}
 use mathlib.Core.List.{List, map}
 use mathlib.Core.Bool.{Bool}
-use Prim.Native.Nat.{ℕ, _*_, _≤_, _<_, min, max}
+use Prim.Native.Nat.{ℕ, _+_, _*_, _≤_, _<_, min, max}
 use lib.ListN.{length, getD}
 use lib.IntN.{ℤ}
 use lib.Dec.{ltb}
@@ -51,20 +51,38 @@ module _ (rows cols : ℕ) (ground : List ℤ) where
 unfoldable pub doneOf : List ℕ → List ℕ
 doneOf words = map (λ w. min w top) words
 
--- the word r of the cell y was read, and the words stand for the levels that they stood for
-pub record Reached (l₀ l : List ℕ) (y r : ℕ) : Type 0 where
-  pub same : doneOf l ≡ doneOf l₀
-  pub word : r ≡ getD l₀ y 0
+-- words from here on are those of cells that wait in a list
+abbrev pub queuedFrom : ℕ
+queuedFrom = 2147483648
 
--- the cells around x were reached at the first k sides, and its lowest neighbour there is not above r
-pub record Spread (cols : ℕ) (l₀ l : List ℕ) (x k r : ℕ) : Type 0 where
+-- from l₀ to l every word goes on standing for its level, and every cell that was queued is one of P
+pub record Queueing (P : ℕ → Type 0) (l₀ l : List ℕ) : Type 0 where
   pub same : doneOf l ≡ doneOf l₀
-  pub least : (rows : ℕ) → Sized rows cols → length l₀ ≡ rows * cols → lowestOf rows cols (doneOf l₀) x k ≤ r
+  pub new : (z : ℕ) → getD l₀ z 0 < queuedFrom → queuedFrom ≤ getD l z 0 → P z
 
--- the cell r that came off a list: none, or one that is not done
+-- the cell z is one of from, from + step and so on, before `to`
+pub record OnLine (from step to z : ℕ) : Type 0 where
+  pub turns : ℕ
+  pub is : z ≡ from + turns * step
+  pub before : z < to
+
+-- beside every cell that waits in a list lies one that is not above b
+pub record Waiting (rows cols : ℕ) (l : List ℕ) (b : ℕ) : Type 0 where
+  pub low : (y : ℕ) → queuedFrom ≤ getD l y 0 → lowestOf rows cols l y 8 ≤ b
+
+-- from l₀ to l rim cells were queued, and nothing else
+pub record Rimming (cols : ℕ) (l₀ l : List ℕ) : Type 0 where
+  pub same : doneOf l ≡ doneOf l₀
+  pub waiting : (rows : ℕ) → Sized rows cols → length l₀ ≡ rows * cols → Waiting rows cols l₀ 0 → Waiting rows cols l 0
+
+-- the cell r that came off a list: none, or one that waits
 pub record Popped (words : List ℕ) (r : ℕ) : Type 0 where
   pub within : r ≤ length words
-  pub waits : r < length words → top ≤ getD words r 0
+  pub waits : r < length words → queuedFrom ≤ getD words r 0
+
+-- the level of a list, while a band is being emptied
+abbrev pub levelIn : ℕ → ℕ → ℕ
+levelIn band list = (band + 926) * 1024 + list
 
 -- no cell that is done is below its ground
 abbrev pub Above : List ℤ → List ℕ → Type 0
@@ -75,3 +93,8 @@ pub record Flooded (rows cols : ℕ) (l₀ l : List ℕ) : Type 0 where
   pub long : length l ≡ length l₀
   pub above : (ground : List ℤ) → Above ground (doneOf l) → Above ground (doneOf l₀)
   pub kept : (ground : List ℤ) → Ready rows cols ground → Above ground (doneOf l) → FillKept rows cols ground (doneOf l₀) → FillKept rows cols ground (doneOf l)
+
+-- and every cell that waits has one beside it that is not above b, the level in hand: what is done is not above that, and a cell is queued beside one that is done
+pub record FloodedTo (rows cols : ℕ) (l₀ l : List ℕ) (b : ℕ) : Type 0 where
+  pub flooded : Flooded rows cols l₀ l
+  pub waiting : Waiting rows cols l b

@@ -3,7 +3,7 @@ use mathlib.Core.Path.{_≡_}
 use mathlib.Core.List.{List}
 use Prim.Native.Nat.{ℕ, _+_, _-_, _*_, _%_, _≤_, _<_}
 use lib.ListN.{getD}
-use Rattle.terrain.specs.Cells.{rowSteps, colSteps}
+use Rattle.terrain.specs.Cells.{rowSteps, colSteps, neighbour}
 
 -- the size of an accepted grid
 pub record Sized (rows cols : ℕ) : Type 0 where
@@ -35,6 +35,18 @@ pub record Beside (cols x k : ℕ) : Type 0 where
   pub cell-small : x < 1048576
   pub side-small : k < 8
   pub room : cols + 1 ≤ x + getD rowSteps k 0 * cols + getD colSteps k 0
+
+-- the place z lies around x, at some side: it is the neighbour there or, past a side of the grid, a cell of the edge
+pub record Around (cols x z : ℕ) : Type 0 where
+  pub side : ℕ
+  pub room : Beside cols x side
+  pub is : z ≡ besideOf cols x side
+
+-- the cell x is on the edge: at some side it has no neighbour
+pub record Edge (rows cols x : ℕ) : Type 0 where
+  pub side : ℕ
+  pub small : side < 8
+  pub none : rows * cols ≤ neighbour rows cols x side
 
 -- how far on the neighbour at each side lies from the one at NW
 pub record Shifts (cols : ℕ) (shifts : List ℕ) : Type 0 where

@@ -8,7 +8,7 @@ ghost use mathlib.Core.Bool.{true};
 ghost use Prim.Native.Nat.{_+_, _*_, _≤_, _<_, min, max};
 ghost use lib.ListN.{length, getD, replicate};
 ghost use Rattle.terrain.specs.Cells.{rowSteps, colSteps, cellAt, neighbour};
-ghost use Rattle.terrain.specs.Inside.{Sized, Inside, RunsTo, besideOf, Beside, Shifts};
+ghost use Rattle.terrain.specs.Inside.{Sized, Inside, RunsTo, besideOf, Beside, Around, Shifts};
 
 // Where the neighbour at side k lies, counted from the one at NW: four times its row, plus its column.
 fn place_of(k: usize) -> usize
@@ -120,10 +120,10 @@ pub(crate) fn shifted(columns: usize, shifts: &[usize; 8], x: usize, k: usize) -
     x + shifts[k] - columns - 1
 }
 
-// Where the neighbour at side k of a cell x lies, if it has one there; else any place.
+// Where the neighbour at side k of a cell x lies, if it has one there; else a cell of the edge, or a place past all cells.
 pub(crate) fn around(columns: usize, x: usize, k: usize) -> usize
     requires { ⌜ (columns ≤ 1024) × (x < 1048576) × (k < 8) ⌝ }
-    ensures { λ r. ⌜ (Beside columns x k → r ≡ besideOf columns x k) ⌝ }
+    ensures { λ r. ⌜ (r < 1048576 → Around columns x r) ⌝ }
 {
     let place = place_of(k);
     std::num::wrapping_sub_usize(x + place / 4 * columns + place % 4, columns + 1)

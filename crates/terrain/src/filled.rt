@@ -1,10 +1,11 @@
 // Filled heights: depression filling by priority flood with buckets (Barnes, Lehman and Mulla 2014), in one word for each cell.
-// The flood gives a cell a level that is not below its lowest neighbour's; if in the end no cell is below its ground, every level
-// can stand, and a cell that nothing can lower any more has its filled level. Sweeps start anew if that fails, which does not happen.
+// The flood gives a cell a level that is not below its lowest neighbour's: a cell is queued beside one that is done, and what is done
+// is not above the level in hand. If in the end no cell is below its ground, every level can stand, and a cell that nothing can
+// lower any more has its filled level. Sweeps start anew if that fails, which does not happen.
 // A level is a height plus 999,900, so NoData is 0, and a place off the grid reads as 0 too: a rim cell is one that sees a 0.
 ghost use mathlib.Core.Path.{_≡_};
 ghost use mathlib.Core.List.{map};
-ghost use Prim.Native.Nat.{ℕ, _*_, _≤_, _<_};
+ghost use Prim.Native.Nat.{ℕ, _+_, _*_, _≤_, _<_};
 ghost use lib.ListN.{length, getD};
 ghost use lib.Dec.{ltb};
 ghost use lib.IntN.{pos};
@@ -12,7 +13,7 @@ ghost use Rattle.laws.specs.Settle.{startOf};
 ghost use Rattle.terrain.specs.Cells.{Fine, levelsOf, heightOf, Ready};
 ghost use Rattle.terrain.specs.Inside.{Sized, Inside, RunsTo};
 ghost use Rattle.terrain.specs.Filled.{top, lowestOf, filling, filledLevels};
-ghost use Rattle.terrain.specs.Flood.{FaultyCell, Faulty, FillSweeping, Lowered, doneOf, Flooded};
+ghost use Rattle.terrain.specs.Flood.{FaultyCell, Faulty, FillSweeping, Lowered, doneOf, queuedFrom, Waiting, Flooded, FloodedTo, levelIn};
 use crate::cells::beside;
 use crate::cells::larger;
 use crate::cells::near;
@@ -76,7 +77,7 @@ fn lowest_near(rows: usize, columns: usize, level: &[u32], x: usize) -> u32
 // Sets every word to where it starts from.
 fn start(ground: &[i32], words: &mut [u32])
     requires { ⌜ ((rows : ℕ) × (columns : ℕ) × Ready rows columns (now ground) × (length (now words) ≡ rows * columns)) ⌝ }
-    ensures { λ r. ⌜ ((rows columns : ℕ) → length (now (words .entry)) ≡ rows * columns → doneOf (now (words .exit)) ≡ startOf (filling rows columns (levelsOf (now (ground .entry))))) ⌝ }
+    ensures { λ r. ⌜ ((rows columns : ℕ) → length (now (words .entry)) ≡ rows * columns → doneOf (now (words .exit)) ≡ startOf (filling rows columns (levelsOf (now (ground .entry))))) × ((x : ℕ) → getD (now (words .exit)) x 0 < queuedFrom) ⌝ }
 {
     let mut x: usize = 0;
     while x < words.len() {
@@ -85,21 +86,7 @@ fn start(ground: &[i32], words: &mut [u32])
     }
 }
 
-// Gives the cell x, which waits, this level, if that is not below its lowest neighbour, which is not above `low`.
-// Only a cell of the edge, around which lie cells that are no neighbours, can be below `low`.
-fn finish(rows: usize, columns: usize, words: &mut [u32], level: u32, low: u32, x: usize)
-    requires { ⌜ Sized rows columns × (length (now words) ≡ rows * columns) × (x < rows * columns) × (top ≤ getD (now words) x 0) × (lowestOf rows columns (now words) x 8 ≤ low) ⌝ }
-    ensures { λ r. ⌜ Flooded rows columns (now (words .entry)) (now (words .exit)) ⌝ }
-{
-    if level < low {
-        if level < lowest_near(rows, columns, words, x) {
-            return;
-        }
-    }
-    words[x] = level;
-}
-
-// Takes the cells of the list of a level, until it is empty: each reaches its neighbours, and is done at this level.
+// Takes the cells of the list of a level, until it is empty: each is done at this level, and reaches its neighbours.
 fn drain(
     rows: usize,
     columns: usize,
@@ -108,8 +95,8 @@ fn drain(
     band: usize,
     list: usize,
 )
-    requires { ⌜ Sized rows columns × (length (now words) ≡ rows * columns) × (band < 1024) × (1024 ≤ list) × (list < 2048) ⌝ }
-    ensures { λ r. ⌜ Flooded rows columns (now (words .entry)) (now (words .exit)) ⌝ }
+    requires { ⌜ Sized rows columns × (length (now words) ≡ rows * columns) × (band < 1024) × (list < 2048) × Waiting rows columns (now words) (levelIn band list) ⌝ }
+    ensures { λ r. ⌜ FloodedTo rows columns (now (words .entry)) (now (words .exit)) (levelIn band list) ⌝ }
 {
     let level = level_of(band, list);
     let mut turns: usize = 0;
@@ -118,16 +105,16 @@ fn drain(
         if words.len() <= x {
             return;
         }
-        let low = spread(columns, heads, words, band, level, x);
-        finish(rows, columns, words, level, low, x);
+        words[x] = level;
+        spread(columns, heads, words, band, level, x);
         turns += 1;
     }
 }
 
 // Takes the cells of a band, the lowest first.
 fn flood_band(rows: usize, columns: usize, heads: &mut [u32; 2048], words: &mut [u32], band: usize)
-    requires { ⌜ Sized rows columns × (length (now words) ≡ rows * columns) × (band < 1024) ⌝ }
-    ensures { λ r. ⌜ Flooded rows columns (now (words .entry)) (now (words .exit)) ⌝ }
+    requires { ⌜ Sized rows columns × (length (now words) ≡ rows * columns) × (band < 1024) × Waiting rows columns (now words) (levelIn band 1024) ⌝ }
+    ensures { λ r. ⌜ FloodedTo rows columns (now (words .entry)) (now (words .exit)) (levelIn (band + 1) 1024) ⌝ }
 {
     if heads[band] < 1 {
         return;
@@ -142,7 +129,7 @@ fn flood_band(rows: usize, columns: usize, heads: &mut [u32; 2048], words: &mut 
 
 // Goes from the rim inwards, the lowest cells first.
 fn flood(rows: usize, columns: usize, words: &mut [u32])
-    requires { ⌜ Sized rows columns × (length (now words) ≡ rows * columns) ⌝ }
+    requires { ⌜ Sized rows columns × (length (now words) ≡ rows * columns) × ((x : ℕ) → getD (now words) x 0 < queuedFrom) ⌝ }
     ensures { λ r. ⌜ Flooded rows columns (now (words .entry)) (now (words .exit)) ⌝ }
 {
     let mut heads: [u32; 2048] = [0; 2048];

@@ -9,7 +9,7 @@ ghost use mathlib.Core.Bool.{true, cond};
 ghost use Prim.Native.Nat.{ℕ, _+_, _*_, _≤_, _<_};
 ghost use lib.ListN.{length, getD};
 ghost use lib.IntN.{pos};
-ghost use lib.Dec.{eqb};
+ghost use lib.Dec.{eqb, ltb};
 ghost use Rattle.laws.specs.Settle.{startOf, Sweeping};
 ghost use Rattle.terrain.specs.Flat.{farSteps, flatAt, nearestOf, flatStepping, flatSteps, Within, StepsKept};
 ghost use Rattle.terrain.specs.Levels.{Levels, LoweredSteps};
@@ -29,20 +29,20 @@ fn seen(v: u32, w: u32, steps: u32) -> u32
     if w == v { steps } else { FAR }
 }
 
-// The fewest steps beside a flat cell x, among the cells of its level. All its neighbours are on the grid.
-fn nearest_flat(columns: usize, level: &[u32], steps: &[u32], x: usize) -> u32
+// Whether a flat cell x has a cell of its level beside it that has 0 steps. All its neighbours are on the grid.
+fn is_shore(columns: usize, level: &[u32], steps: &[u32], x: usize) -> bool
     requires { ⌜ ((rows : ℕ) × Levels rows columns (now level) × (flatAt rows columns (now level) x ≡ true) × (length (now steps) ≡ rows * columns)) ⌝ }
-    ensures { λ r. ⌜ ((rows : ℕ) → Levels rows columns (now (level .entry)) → flatAt rows columns (now (level .entry)) x ≡ true → r ≡ nearestOf rows columns (now (level .entry)) (now (steps .entry)) x 8) ⌝ }
+    ensures { λ r. ⌜ ((rows : ℕ) → Levels rows columns (now (level .entry)) → flatAt rows columns (now (level .entry)) x ≡ true → r ≡ ltb (nearestOf rows columns (now (level .entry)) (now (steps .entry)) x 8) 1) ⌝ }
 {
     let v = level[x];
-    let mut low: u32 = FAR;
+    let mut found = false;
     let mut k: usize = 0;
     while k < 8 {
         let y = beside(columns, x, k);
-        low = smaller(low, seen(v, level[y], steps[y]));
+        found = found | ((level[y] == v) & (steps[y] < 1));
         k += 1;
     }
-    low
+    found
 }
 
 // The fewest steps beside any cell x, among the cells of its level.
@@ -112,10 +112,10 @@ fn reach_shore(
     if steps[x] < FAR {
         return end;
     }
-    if 0 < nearest_flat(columns, level, steps, x) {
-        return end;
+    if is_shore(columns, level, steps, x) {
+        return put(steps, queue, end, 1, x);
     }
-    put(steps, queue, end, 1, x)
+    end
 }
 
 // Reaches every cell one step from where its flat ends. The number of entries.

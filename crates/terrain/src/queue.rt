@@ -1,5 +1,5 @@
 // The flood's words, one for each cell, and lists of the cells that wait in the order of their levels: a two-level bucket
-// queue whose links stand in the words themselves. Only speed rests on the order. A word is
+// queue whose links stand in the words themselves. A word is
 //
 //     a level, below 1,900,000       the cell is done (NoData is 0)
 //     2^30 + level                   fresh: the flood has not come here yet, and this is the level of its ground
@@ -12,11 +12,11 @@ ghost use mathlib.Core.Bool.{cond};
 ghost use Prim.Native.Nat.{_≤_, _<_, min};
 ghost use lib.ListN.{length, getD};
 ghost use lib.Dec.{ltb};
+ghost use Rattle.terrain.specs.Inside.{Around};
 ghost use Rattle.terrain.specs.Filled.{top};
-ghost use Rattle.terrain.specs.Flood.{doneOf, Reached, Spread, Popped};
+ghost use Rattle.terrain.specs.Flood.{Queueing, OnLine, Rimming, Popped, levelIn};
 use crate::cells::around;
 use crate::cells::larger;
-use crate::cells::smaller;
 use crate::cells::value_at;
 
 const FRESH: u32 = 1073741824;
@@ -28,7 +28,7 @@ const LINKS: u32 = 2097152;
 // The word that a cell with this level of ground starts from.
 pub(crate) fn start_word(g: u32) -> u32
     requires { ⌜ g < top ⌝ }
-    ensures { λ r. ⌜ min r top ≡ cond (ltb 0 g) top 0 ⌝ }
+    ensures { λ r. ⌜ (min r top ≡ cond (ltb 0 g) top 0) × (r < 2147483648) ⌝ }
 {
     if g < 1 { 0 } else { FRESH + g }
 }
@@ -61,6 +61,7 @@ fn list_of(level: u32, band: usize) -> usize
 // The level of a list, while the given band is being emptied.
 pub(crate) fn level_of(band: usize, list: usize) -> u32
     requires { ⌜ (band < 1024) × (list < 2048) ⌝ }
+    ensures { λ r. ⌜ r ≡ levelIn band list ⌝ }
 {
     ((band + 926) * 1024 + list) as u32
 }
@@ -75,7 +76,7 @@ fn wide(head: u32) -> usize
 // Puts the cell x, which is not done, at the front of a list.
 fn push(heads: &mut [u32; 2048], words: &mut [u32], list: usize, level: u32, x: usize)
     requires { ⌜ (length (now words) ≤ 1048576) × (list < 2048) × (top ≤ getD (now words) x 0) ⌝ }
-    ensures { λ r. ⌜ doneOf (now (words .exit)) ≡ doneOf (now (words .entry)) ⌝ }
+    ensures { λ r. ⌜ Queueing (λ z. z ≡ x) (now (words .entry)) (now (words .exit)) ⌝ }
 {
     words[x] = queued_word(level, heads[list]);
     heads[list] = (x + 1) as u32;
@@ -104,7 +105,7 @@ pub(crate) fn pop(heads: &mut [u32; 2048], words: &[u32], list: usize) -> usize
 // Moves the cells of a band's list to the lists of their levels.
 pub(crate) fn open_band(heads: &mut [u32; 2048], words: &mut [u32], band: usize)
     requires { ⌜ (length (now words) ≤ 1048576) × (band < 1024) ⌝ }
-    ensures { λ r. ⌜ doneOf (now (words .exit)) ≡ doneOf (now (words .entry)) ⌝ }
+    ensures { λ r. ⌜ Queueing (λ z. ⊥) (now (words .entry)) (now (words .exit)) ⌝ }
 {
     let mut turns: usize = 0;
     while turns < words.len() {
@@ -118,25 +119,24 @@ pub(crate) fn open_band(heads: &mut [u32; 2048], words: &mut [u32], band: usize)
     }
 }
 
-// Queues the cell y, if it is fresh, at the level that its ground and a neighbour of level h allow. The word that it had.
-fn reach(heads: &mut [u32; 2048], words: &mut [u32], band: usize, h: u32, y: usize) -> u32
+// Queues the cell y, if it is fresh, at the level that its ground and a neighbour of level h allow.
+fn reach(heads: &mut [u32; 2048], words: &mut [u32], band: usize, h: u32, y: usize)
     requires { ⌜ length (now words) ≤ 1048576 ⌝ }
-    ensures { λ r. ⌜ Reached (now (words .entry)) (now (words .exit)) y r ⌝ }
+    ensures { λ r. ⌜ Queueing (λ z. z ≡ y) (now (words .entry)) (now (words .exit)) ⌝ }
 {
     let word = value_at(words, y);
     if word < FRESH {
-        return word;
+        return;
     }
     if QUEUED <= word {
-        return word;
+        return;
     }
     let level = larger(word - FRESH, h);
     push(heads, words, list_of(level, band), level, y);
-    word
 }
 
-// Reaches the neighbours of the cell x of level h. The least word that they had: the lowest neighbour's level, if one is done.
-// Past a side of the grid these are cells of the edge, which have been reached before.
+// Reaches the neighbours of the cell x of level h. Past a side of the grid these are cells of the edge, which have been reached
+// before.
 pub(crate) fn spread(
     columns: usize,
     heads: &mut [u32; 2048],
@@ -144,23 +144,21 @@ pub(crate) fn spread(
     band: usize,
     h: u32,
     x: usize,
-) -> u32
+)
     requires { ⌜ (length (now words) ≤ 1048576) × (columns ≤ 1024) × (x < 1048576) ⌝ }
-    ensures { λ r. ⌜ Spread columns (now (words .entry)) (now (words .exit)) x 8 r ⌝ }
+    ensures { λ r. ⌜ Queueing (Around columns x) (now (words .entry)) (now (words .exit)) ⌝ }
 {
-    let mut low = FRESH;
     let mut k: usize = 0;
     while k < 8 {
-        low = smaller(low, reach(heads, words, band, h, around(columns, x, k)));
+        reach(heads, words, band, h, around(columns, x, k));
         k += 1;
     }
-    low
 }
 
 // Reaches every step-th cell of those from `from` up to `to`.
 fn reach_line(heads: &mut [u32; 2048], words: &mut [u32], from: usize, step: usize, to: usize)
     requires { ⌜ (length (now words) ≤ 1048576) × (0 < step) × (step ≤ 1024) × (to ≤ 1048576) ⌝ }
-    ensures { λ r. ⌜ doneOf (now (words .exit)) ≡ doneOf (now (words .entry)) ⌝ }
+    ensures { λ r. ⌜ Queueing (OnLine from step to) (now (words .entry)) (now (words .exit)) ⌝ }
 {
     let mut y = from;
     while y < to {
@@ -172,7 +170,7 @@ fn reach_line(heads: &mut [u32; 2048], words: &mut [u32], from: usize, step: usi
 // Reaches the cells of the edge.
 fn reach_edge(columns: usize, heads: &mut [u32; 2048], words: &mut [u32])
     requires { ⌜ (length (now words) ≤ 1048576) × (0 < columns) × (columns ≤ 1024) ⌝ }
-    ensures { λ r. ⌜ doneOf (now (words .exit)) ≡ doneOf (now (words .entry)) ⌝ }
+    ensures { λ r. ⌜ Rimming columns (now (words .entry)) (now (words .exit)) ⌝ }
 {
     let cells = words.len();
     if cells < columns {
@@ -187,7 +185,7 @@ fn reach_edge(columns: usize, heads: &mut [u32; 2048], words: &mut [u32])
 // Reaches the neighbours of the cell x, if that has no data.
 fn reach_from(columns: usize, heads: &mut [u32; 2048], words: &mut [u32], x: usize)
     requires { ⌜ (length (now words) ≤ 1048576) × (columns ≤ 1024) × (x < length (now words)) ⌝ }
-    ensures { λ r. ⌜ doneOf (now (words .exit)) ≡ doneOf (now (words .entry)) ⌝ }
+    ensures { λ r. ⌜ Rimming columns (now (words .entry)) (now (words .exit)) ⌝ }
 {
     if 0 < words[x] {
         return;
@@ -198,7 +196,7 @@ fn reach_from(columns: usize, heads: &mut [u32; 2048], words: &mut [u32], x: usi
 // Reaches every rim cell: those of the edge, then those beside NoData.
 pub(crate) fn reach_rims(columns: usize, heads: &mut [u32; 2048], words: &mut [u32])
     requires { ⌜ (length (now words) ≤ 1048576) × (0 < columns) × (columns ≤ 1024) ⌝ }
-    ensures { λ r. ⌜ doneOf (now (words .exit)) ≡ doneOf (now (words .entry)) ⌝ }
+    ensures { λ r. ⌜ Rimming columns (now (words .entry)) (now (words .exit)) ⌝ }
 {
     reach_edge(columns, heads, words);
     let mut x: usize = 0;

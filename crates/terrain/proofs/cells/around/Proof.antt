@@ -1,9 +1,9 @@
 -- `terrain::cells::around` meets its contract. Assumes nothing.
-use Prim.Native.Nat.{ℕ, _*_, _/_, _≤_}
+use Prim.Native.Nat.{ℕ, _+_, _*_, _/_, _^_, _≤_}
 use mathlib.Core.Path.{subst, sym}
 use native.Mathlib.Omega.{arith}
-use native.Mathlib.Nat.{mul-le-mul-right}
-use Rattle.terrain.proofs.Interior.{place-row, placed}
+use native.Mathlib.Nat.{mul-le-mul-right, mod-eq-of-lt}
+use Rattle.terrain.proofs.Interior.{place-row, placed-at}
 use Rattle.terrain.proofs.Neighbours.{row-step-le}
 use Rattle.terrain.specs.Inside.{besideOf}
 use borrow.Author.Needs.{needs}
@@ -37,7 +37,16 @@ wrapping-sub-usize-requires c κs = search needs
 
 returns : tie.Need-returns
 unfolding besideOf
-returns c = λ b. let p = placed b (c .before .place-of .result) (c .before .place-of .ensures) in let d = down (c .before) in omega (arith, b .room, c .wrapping-sub-usize .ensures)
+returns c =
+    λ h.
+    let s = c .before .before in
+    let p = placed-at (s .pre .0) (s .pre .2) (c .before .place-of .result) (c .before .place-of .ensures) in
+    let sum = mod-eq-of-lt {n = c .wrapping-sub-usize .result + (s .args .columns + 1)} {m = 2 ^ 64} (omega (arith, s .pre .0)) in
+    record {
+      side = s .args .k;
+      room = record { cols-small = s .pre .0; cell-small = s .pre .1; side-small = s .pre .2; room = omega (arith, sum, c .wrapping-sub-usize .ensures, p .down, p .right) };
+      is = omega (arith, sum, c .wrapping-sub-usize .ensures, p .down, p .right);
+    }
 
 pub around-spec : {M : Type 1} → statement M
 around-spec =

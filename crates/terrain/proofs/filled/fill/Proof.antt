@@ -29,7 +29,7 @@ same-length-2 c = search needs
 returns-2 : tie.Need-returns-2
 returns-2 c =
     let s = c .before .before .before .before .before .before .before .before .before .before .before .before in
-    let e = c .before .before .before .before .before .before .before .before .before .start .ensures (s .args .rows) (s .args .columns) (s .pre .1) in
+    let e = c .before .before .before .before .before .before .before .before .before .start .ensures .0 (s .args .rows) (s .args .columns) (s .pre .1) in
     flood-filled (s .pre .0) _ _ e (c .before .before .before .before .before .flood .ensures) (λ x h. c .before .faulty-cells .ensures .all (omega arith) x (omega arith) h)
 
 pub fill-spec : {M : Type 1} → statement M

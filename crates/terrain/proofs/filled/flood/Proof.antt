@@ -1,6 +1,7 @@
 -- `terrain::filled::flood` meets its contract. Assumes nothing.
-use Rattle.terrain.proofs.Words.{flooded-none, flooded-then, flooded-same}
-use Rattle.terrain.specs.Flood.{Flooded}
+use Rattle.terrain.proofs.Words.{flooded-then, flooded-same}
+use Rattle.terrain.proofs.Queueing.{to-none, to-then, waiting-up, waiting-none}
+use Rattle.terrain.specs.Flood.{FloodedTo, levelIn}
 use native.Mathlib.Omega.{arith}
 use Prim.Native.Nat.{_-_, _≤_}
 use borrow.Author.Needs.{needs}
@@ -8,7 +9,7 @@ use Rattle.terrain.proofs.filled.flood.Statement.{statement}
 use Rattle.terrain.proofs.filled.flood.Tie as tie
 
 abbrev Inv-loop : tie.InvT-loop
-Inv-loop rows columns words₀ heads₀ band₀ words heads band = Flooded rows columns words₀ words × (band ≤ 1024)
+Inv-loop rows columns words₀ heads₀ band₀ words heads band = FloodedTo rows columns words₀ words (levelIn band 1024) × (band ≤ 1024)
 
 abbrev μ-loop : tie.MeasureT-loop
 μ-loop rows columns words₀ heads₀ band₀ words heads band = 1024 - band
@@ -17,10 +18,12 @@ reach-rims-requires : tie.Need-reach-rims-requires Inv-loop μ-loop
 reach-rims-requires c κs = let s = c .before .before .before in (omega (arith, s .pre .0 .small, s .pre .1), s .pre .0 .cols-some, s .pre .0 .cols-small)
 
 loop-holds : tie.Need-loop-holds Inv-loop μ-loop
-loop-holds c = (flooded-none, omega arith)
+loop-holds c =
+    let s = c .before .before .before .before .before .before in
+    (to-none (waiting-up (c .before .before .reach-rims .ensures .waiting (s .args .rows) (s .pre .0) (s .pre .1) (waiting-none (s .pre .2) 0)) (omega arith)), omega arith)
 
 flood-band-requires : tie.Need-flood-band-requires Inv-loop μ-loop
-flood-band-requires c κs = let s = c .before .before .before .before .before .before .before .before .before .before in (s .pre .0, omega (arith, s .pre .1, c .before .before .before .loop .inv .0 .long), omega arith)
+flood-band-requires c κs = let s = c .before .before .before .before .before .before .before .before .before .before in (s .pre .0, omega (arith, s .pre .1, c .before .before .before .loop .inv .0 .flooded .long), omega arith, c .before .before .before .loop .inv .0 .waiting)
 
 add-band : tie.Need-add-band Inv-loop μ-loop
 add-band c = search needs
@@ -29,13 +32,13 @@ loop-less : tie.Need-loop-less Inv-loop μ-loop
 loop-less c = search needs
 
 loop-again : tie.Need-loop-again Inv-loop μ-loop
-loop-again c = (flooded-then (c .before .before .before .before .before .before .loop .inv .0) (c .before .before .flood-band .ensures), omega arith)
+loop-again c = (to-then (c .before .before .before .before .before .before .loop .inv .0) (c .before .before .flood-band .ensures), omega arith)
 
 same-length : tie.Need-same-length Inv-loop μ-loop
 same-length c = search needs
 
 returns : tie.Need-returns Inv-loop μ-loop
-returns c = flooded-then (flooded-same (c .before .before .before .before .reach-rims .ensures)) (c .before .loop .inv .0)
+returns c = flooded-then (flooded-same (c .before .before .before .before .reach-rims .ensures .same)) (c .before .loop .inv .0 .flooded)
 
 pub flood-spec : {M : Type 1} → statement M
 flood-spec =

@@ -1,6 +1,6 @@
 -- `terrain::filled::flood_band` meets its contract. Assumes nothing.
-use Rattle.terrain.proofs.Words.{flooded-none, flooded-then, flooded-same}
-use Rattle.terrain.specs.Flood.{Flooded}
+use Rattle.terrain.proofs.Queueing.{to-none, to-then, to-up, to-moved}
+use Rattle.terrain.specs.Flood.{FloodedTo, levelIn}
 use native.Mathlib.Omega.{arith}
 use Prim.Native.Nat.{_-_, _≤_}
 use borrow.Author.Needs.{needs}
@@ -8,7 +8,7 @@ use Rattle.terrain.proofs.filled.flood_band.Statement.{statement}
 use Rattle.terrain.proofs.filled.flood_band.Tie as tie
 
 abbrev Inv-loop : tie.InvT-loop
-Inv-loop rows columns heads₀ words₀ band list₀ heads words list = Flooded rows columns words₀ words × (1024 ≤ list) × (list ≤ 2048)
+Inv-loop rows columns heads₀ words₀ band list₀ heads words list = FloodedTo rows columns words₀ words (levelIn band list) × (1024 ≤ list) × (list ≤ 2048)
 
 abbrev μ-loop : tie.MeasureT-loop
 μ-loop rows columns heads₀ words₀ band list₀ heads words list = 2048 - list
@@ -20,16 +20,16 @@ element-copy-out-if1 : tie.Need-element-copy-out-if1 Inv-loop μ-loop
 element-copy-out-if1 c = search needs
 
 returns : tie.Need-returns Inv-loop μ-loop
-returns c = flooded-none
+returns c = to-up (to-none (c .before .before .before .pre .3)) (omega arith)
 
 open-band-requires : tie.Need-open-band-requires Inv-loop μ-loop
 open-band-requires c κs = let s = c .before .before .before .before .before in (omega (arith, s .pre .0 .small, s .pre .1), s .pre .2)
 
 loop-holds : tie.Need-loop-holds Inv-loop μ-loop
-loop-holds c = (flooded-none, omega arith, omega arith)
+loop-holds c = (to-none (to-moved (c .before .before .before .before .before .before .before .before .pre .3) (c .before .before .open-band .ensures) .waiting), omega arith, omega arith)
 
 drain-requires : tie.Need-drain-requires Inv-loop μ-loop
-drain-requires c κs = let s = c .before .before .before .before .before .before .before .before .before .before .before .before in (s .pre .0, omega (arith, s .pre .1, c .before .before .before .loop .inv .0 .long), s .pre .2, omega arith, omega arith)
+drain-requires c κs = let s = c .before .before .before .before .before .before .before .before .before .before .before .before in (s .pre .0, omega (arith, s .pre .1, c .before .before .before .loop .inv .0 .flooded .long), s .pre .2, omega arith, c .before .before .before .loop .inv .0 .waiting)
 
 add-list : tie.Need-add-list Inv-loop μ-loop
 add-list c = search needs
@@ -38,13 +38,13 @@ loop-less : tie.Need-loop-less Inv-loop μ-loop
 loop-less c = search needs
 
 loop-again : tie.Need-loop-again Inv-loop μ-loop
-loop-again c = (flooded-then (c .before .before .before .before .before .before .loop .inv .0) (c .before .before .drain .ensures), omega arith, omega arith)
+loop-again c = (to-up (to-then (c .before .before .before .before .before .before .loop .inv .0) (c .before .before .drain .ensures)) (omega arith), omega arith, omega arith)
 
 same-length : tie.Need-same-length Inv-loop μ-loop
 same-length c = search needs
 
 returns-2 : tie.Need-returns-2 Inv-loop μ-loop
-returns-2 c = flooded-then (flooded-same (c .before .before .before .before .open-band .ensures)) (c .before .loop .inv .0)
+returns-2 c = to-up (to-then (to-moved (c .before .before .before .before .before .before .before .before .before .before .pre .3) (c .before .before .before .before .open-band .ensures)) (c .before .loop .inv .0)) (omega arith)
 
 pub flood-band-spec : {M : Type 1} → statement M
 flood-band-spec =

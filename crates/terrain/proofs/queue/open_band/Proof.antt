@@ -1,21 +1,22 @@
 -- `terrain::queue::open_band` meets its contract. Assumes nothing.
 use native.Mathlib.Omega.{arith}
-use Rattle.terrain.specs.Flood.{doneOf}
+use Rattle.terrain.specs.Flood.{Queueing}
+use Rattle.terrain.proofs.Queueing.{queueing-none, queueing-then, queueing-old}
 use lib.ListN.{length}
 use Prim.Native.Nat.{_-_}
-use mathlib.Core.Path.{_≡_, _∙_}
+use mathlib.Core.Path.{_≡_, refl}
 use borrow.Author.Needs.{needs}
 use Rattle.terrain.proofs.queue.open_band.Statement.{statement}
 use Rattle.terrain.proofs.queue.open_band.Tie as tie
 
 abbrev Inv-loop : tie.InvT-loop
-Inv-loop heads₀ words₀ band turns₀ heads words turns = (doneOf words ≡ doneOf words₀) × (length words ≡ length words₀)
+Inv-loop heads₀ words₀ band turns₀ heads words turns = Queueing (λ z. ⊥) words₀ words × (length words ≡ length words₀)
 
 abbrev μ-loop : tie.MeasureT-loop
 μ-loop heads₀ words₀ band turns₀ heads words turns = length words₀ - turns
 
 loop-holds : tie.Need-loop-holds Inv-loop μ-loop
-loop-holds c = search needs
+loop-holds c = (queueing-none, refl)
 
 pop-requires : tie.Need-pop-requires Inv-loop μ-loop
 pop-requires c κs = search needs
@@ -24,7 +25,7 @@ same-length : tie.Need-same-length Inv-loop μ-loop
 same-length c = search needs
 
 returns : tie.Need-returns Inv-loop μ-loop
-returns c = search needs
+returns c = c .before .before .before .before .before .loop .inv .0
 
 mul-low : tie.Need-mul-low Inv-loop μ-loop
 mul-low c = search needs
@@ -39,7 +40,7 @@ add-push : tie.Need-add-push Inv-loop μ-loop
 add-push c = search needs
 
 push-requires : tie.Need-push-requires Inv-loop μ-loop
-push-requires c κs = (omega arith, omega arith, c .before .before .before .before .before .pop .ensures .waits (omega arith))
+push-requires c κs = (omega arith, omega arith, omega (arith, c .before .before .before .before .before .pop .ensures .waits (omega arith)))
 
 add-turns : tie.Need-add-turns Inv-loop μ-loop
 add-turns c = search needs
@@ -48,13 +49,15 @@ loop-less : tie.Need-loop-less Inv-loop μ-loop
 loop-less c = search needs
 
 loop-again : tie.Need-loop-again Inv-loop μ-loop
-loop-again c = (c .before .before .push .ensures ∙ c .before .before .before .before .before .before .before .before .before .before .before .before .loop .inv .0, (cc))
+loop-again c =
+    let t = c .before .before .before .before .before .before .before .before in
+    (queueing-then (t .before .before .before .before .loop .inv .0) (queueing-old (c .before .before .push .ensures) (t .pop .ensures .waits (omega arith))), (cc))
 
 same-length-2 : tie.Need-same-length-2 Inv-loop μ-loop
 same-length-2 c = search needs
 
 returns-2 : tie.Need-returns-2 Inv-loop μ-loop
-returns-2 c = search needs
+returns-2 c = c .before .loop .inv .0
 
 pub open-band-spec : {M : Type 1} → statement M
 open-band-spec =

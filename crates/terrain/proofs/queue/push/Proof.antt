@@ -1,5 +1,5 @@
 -- `terrain::queue::push` meets its contract. Assumes nothing.
-use Rattle.terrain.proofs.Words.{done-same}
+use Rattle.terrain.proofs.Queueing.{queueing-set}
 use Rattle.laws.proofs.Lists.{in-list}
 use native.Mathlib.Omega.{arith}
 use Prim.Native.Nat.{_<_}
@@ -42,7 +42,7 @@ same-length : tie.Need-same-length
 same-length c = search needs
 
 returns : tie.Need-returns
-returns c = let s = c .before .before .before .args in done-same (s .words .now) (s .x) (c .queued-word .result) (omega (arith, c .queued-word .ensures, c .before .before .before .pre .2))
+returns c = let s = c .before .before .before .args in queueing-set (s .words .now) (s .x) (c .queued-word .result) (omega (arith, c .queued-word .ensures, c .before .before .before .pre .2))
 
 pub push-spec : {M : Type 1} → statement M
 push-spec =

@@ -1,20 +1,22 @@
 -- `terrain::queue::reach_line` meets its contract. Assumes nothing.
-use Rattle.terrain.specs.Flood.{doneOf}
+use Rattle.terrain.specs.Flood.{Queueing, OnLine}
+use Rattle.terrain.proofs.Queueing.{queueing-none, queueing-then, queueing-as, line-at, line-on}
+use native.Mathlib.Omega.{arith}
 use lib.ListN.{length}
-use Prim.Native.Nat.{_-_}
-use mathlib.Core.Path.{_≡_, _∙_}
+use Prim.Native.Nat.{ℕ, _+_, _*_, _-_}
+use mathlib.Core.Path.{_≡_, refl}
 use borrow.Author.Needs.{needs}
 use Rattle.terrain.proofs.queue.reach_line.Statement.{statement}
 use Rattle.terrain.proofs.queue.reach_line.Tie as tie
 
 abbrev Inv-loop : tie.InvT-loop
-Inv-loop heads₀ words₀ from step to y₀ heads words y = (doneOf words ≡ doneOf words₀) × (length words ≡ length words₀)
+Inv-loop heads₀ words₀ from step to y₀ heads words y = Queueing (OnLine from step to) words₀ words × (length words ≡ length words₀) × ((turns : ℕ) × (y ≡ from + turns * step))
 
 abbrev μ-loop : tie.MeasureT-loop
 μ-loop heads₀ words₀ from step to y₀ heads words y = to - y
 
 loop-holds : tie.Need-loop-holds Inv-loop μ-loop
-loop-holds c = search needs
+loop-holds c = (queueing-none, refl, (0, omega arith))
 
 reach-requires : tie.Need-reach-requires Inv-loop μ-loop
 reach-requires c κs = search needs
@@ -26,13 +28,16 @@ loop-less : tie.Need-loop-less Inv-loop μ-loop
 loop-less c = search needs
 
 loop-again : tie.Need-loop-again Inv-loop μ-loop
-loop-again c = (c .before .before .reach .ensures .same ∙ c .before .before .before .before .before .before .loop .inv .0, (cc))
+loop-again c =
+    let p = c .before .before .before .before .before .before .loop in
+    let a = c .before .before .before .before .before .before .before .before .args in
+    (queueing-then (p .inv .0) (queueing-as (c .before .before .reach .ensures) (λ z h e. line-at (p .inv .2 .0) (p .y) z (p .inv .2 .1) (omega arith) e)), (cc), (p .inv .2 .0 + 1, line-on (a .from) (a .step) (p .inv .2 .0) (p .y) (p .inv .2 .1)))
 
 same-length : tie.Need-same-length Inv-loop μ-loop
 same-length c = search needs
 
 returns : tie.Need-returns Inv-loop μ-loop
-returns c = search needs
+returns c = c .before .loop .inv .0
 
 pub reach-line-spec : {M : Type 1} → statement M
 reach-line-spec =

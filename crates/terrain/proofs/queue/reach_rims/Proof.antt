@@ -1,14 +1,15 @@
 -- `terrain::queue::reach_rims` meets its contract. Assumes nothing.
-use Rattle.terrain.specs.Flood.{doneOf}
+use Rattle.terrain.specs.Flood.{Rimming}
+use Rattle.terrain.proofs.Queueing.{rimming-none, rimming-then}
 use lib.ListN.{length}
 use Prim.Native.Nat.{_-_}
-use mathlib.Core.Path.{_≡_, _∙_}
+use mathlib.Core.Path.{_≡_, refl}
 use borrow.Author.Needs.{needs}
 use Rattle.terrain.proofs.queue.reach_rims.Statement.{statement}
 use Rattle.terrain.proofs.queue.reach_rims.Tie as tie
 
 abbrev Inv-loop : tie.InvT-loop
-Inv-loop columns heads₀ words₀ x₀ heads words x = (doneOf words ≡ doneOf words₀) × (length words ≡ length words₀)
+Inv-loop columns heads₀ words₀ x₀ heads words x = Rimming columns words₀ words × (length words ≡ length words₀)
 
 abbrev μ-loop : tie.MeasureT-loop
 μ-loop columns heads₀ words₀ x₀ heads words x = length words₀ - x
@@ -17,7 +18,7 @@ reach-edge-requires : tie.Need-reach-edge-requires Inv-loop μ-loop
 reach-edge-requires c κs = search needs
 
 loop-holds : tie.Need-loop-holds Inv-loop μ-loop
-loop-holds c = search needs
+loop-holds c = (rimming-none, refl)
 
 reach-from-requires : tie.Need-reach-from-requires Inv-loop μ-loop
 reach-from-requires c κs = search needs
@@ -29,13 +30,13 @@ loop-less : tie.Need-loop-less Inv-loop μ-loop
 loop-less c = search needs
 
 loop-again : tie.Need-loop-again Inv-loop μ-loop
-loop-again c = (c .before .before .reach-from .ensures ∙ c .before .before .before .before .before .before .loop .inv .0, (cc))
+loop-again c = (rimming-then (c .before .before .before .before .before .before .loop .inv .0) (c .before .before .reach-from .ensures), (cc))
 
 same-length : tie.Need-same-length Inv-loop μ-loop
 same-length c = search needs
 
 returns : tie.Need-returns Inv-loop μ-loop
-returns c = c .before .loop .inv .0 ∙ c .before .before .before .before .reach-edge .ensures
+returns c = rimming-then (c .before .before .before .before .reach-edge .ensures) (c .before .loop .inv .0)
 
 pub reach-rims-spec : {M : Type 1} → statement M
 reach-rims-spec =

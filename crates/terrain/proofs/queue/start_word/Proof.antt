@@ -9,10 +9,10 @@ add-result : tie.Need-add-result
 add-result c = search needs
 
 returns : tie.Need-returns
-returns c = rw (le-ltb 0 (c .before .args .g) (omega arith))
+returns c = (rw (le-ltb 0 (c .before .args .g) (omega arith)), omega arith)
 
 returns-2 : tie.Need-returns-2
-returns-2 c = rw (lt-ltb 0 (c .before .args .g) (omega arith)) (omega arith)
+returns-2 c = (rw (lt-ltb 0 (c .before .args .g) (omega arith)) (omega arith), omega arith)
 
 pub start-word-spec : {M : Type 1} → statement M
 start-word-spec = tie.close (tie.spec add-result returns returns-2)
