@@ -21,7 +21,8 @@ fn await_inflows(shape: Shape, direction: &[u8], waiting: &mut [u32]) {
     }
 }
 
-/// Notes the valid cells in `order`, and gives how many there are. `waiting` is scratch.
+/// Notes the valid cells in `order`, and gives how many there are. A cell after the start of a trail is left for its own
+/// turn, so that the order goes by rows as far as it can. `waiting` is scratch.
 #[inline(never)]
 pub fn descend(shape: Shape, direction: &[u8], waiting: &mut [u32], order: &mut [u32]) -> usize {
     await_inflows(shape, direction, waiting);
@@ -34,6 +35,9 @@ pub fn descend(shape: Shape, direction: &[u8], waiting: &mut [u32], order: &mut 
             taken += 1;
             let Some((_, next)) = shape.onward(cell, direction[cell]) else { break };
             waiting[next] -= 1;
+            if next > start {
+                break;
+            }
             cell = next;
         }
     }

@@ -100,7 +100,7 @@ module _ {n : ℕ} {cell : ℕ → Bool} {to : ℕ → ℕ} (f : Pointing n cell
     pub next-waits : x < n → to x < n → 0 < getD waiting (to x) 0
     next-waits h k = omega (arith, s .waits (to x) (f .stays x k) (next-new h k), left-ge order p (to x) x k refl, hand-new h)
 
-    pub peel-take : {after : List ℕ} {y : ℕ} → x < n → Taking n to waiting after x y → Peeling n cell to (set order p x) after (p + 1) bound y
+    pub peel-take : {after : List ℕ} {y : ℕ} → x < n → Taking n to waiting after bound x y → Peeling n cell to (set order p x) after (p + 1) bound y
     peel-take {after} {y} h t =
         record {
           long = length-set order p x ∙ s .long;
@@ -162,7 +162,7 @@ module _ {n : ℕ} {cell : ℕ → Bool} {to : ℕ → ℕ} (f : Pointing n cell
         ready : (z : ℕ) → cell z ≡ true → z < bound → standsIn (set order p x) (p + 1) z ≡ 0 → getD after z 0 ≡ 0 → z ≡ y
         ready z v b e q =
             elim (ℕ-discrete z (to x)) [
-              | yes g ↦ g ∙ sym (t .none (omega (arith, f .within z v)) (ap (λ (i : ℕ). getD after i 0) (sym g) ∙ q))
+              | yes g ↦ g ∙ sym (t .none (omega (arith, f .within z v)) (omega arith) (ap (λ (i : ℕ). getD after i 0) (sym g) ∙ q))
               | no g ↦ absurd (off z q (s .ready z v b (sym (same z (off z q)) ∙ e) (sym (t .other z (off z q) g) ∙ q)))
             ]
 
@@ -184,10 +184,6 @@ module _ {n : ℕ} {cell : ℕ → Bool} {to : ℕ → ℕ} (f : Pointing n cell
     -- the bound does not matter to taking a cell
     pub peel-less : Peeling n cell to order waiting p 0 x
     peel-less = rebound (λ z v l. absurd (omega arith)) (s .held)
-
-    -- no cell is in hand
-    pub peel-none : n ≤ x → (y : ℕ) → n ≤ y → Peeling n cell to order waiting p b y
-    peel-none h y k = rebound (λ z v l e q. absurd (omega (arith, s .ready z v l e q, f .within z v))) (λ l. absurd (omega arith))
 
     -- at the end a cell is taken if all that point at it are
     pub end-taken : n ≤ b → n ≤ x → (z : ℕ) → cell z ≡ true → ((u : ℕ) → to u ≡ z → 0 < standsIn order p u) → 0 < standsIn order p z

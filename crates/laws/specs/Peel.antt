@@ -24,11 +24,11 @@ pub record Peeling (n : ℕ) (cell : ℕ → Bool) (to : ℕ → ℕ) (order wai
   pub ready : (z : ℕ) → cell z ≡ true → z < bound → standsIn order p z ≡ 0 → getD waiting z 0 ≡ 0 → z ≡ hand
   pub held : hand < n → getD waiting hand 0 ≡ 0
 
--- what a program does to what cells wait for as it takes the cell x, and the cell that it then has in hand, if any
-pub record Taking (n : ℕ) (to : ℕ → ℕ) (before waiting : List ℕ) (x hand : ℕ) : Type 0 where
+-- what a program does to what cells wait for as it takes the cell x, and the cell that it then has in hand, if any: it may leave one from the bound on for later
+pub record Taking (n : ℕ) (to : ℕ → ℕ) (before waiting : List ℕ) (bound x hand : ℕ) : Type 0 where
   pub wide : length waiting ≡ length before
   pub shut : 0 < getD waiting x 0
   pub other : (z : ℕ) → (z ≡ x → ⊥) → (z ≡ to x → ⊥) → getD waiting z 0 ≡ getD before z 0
   pub one : to x < n → getD waiting (to x) 0 + 1 ≡ getD before (to x) 0
   pub some : hand < n → (hand ≡ to x) × (getD waiting hand 0 ≡ 0)
-  pub none : to x < n → getD waiting (to x) 0 ≡ 0 → hand ≡ to x
+  pub none : to x < n → to x < bound → getD waiting (to x) 0 ≡ 0 → hand ≡ to x

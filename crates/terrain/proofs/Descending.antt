@@ -18,7 +18,7 @@ use Rattle.laws.proofs.Peel.{peel-start, peel-take, next-waits}
 use Rattle.laws.proofs.Rings.{peel-all, falling-ringless}
 use Rattle.terrain.specs.Trail.{mappedAt}
 use Rattle.terrain.specs.Directed.{Directed, receiverOf}
-use Rattle.terrain.specs.Downhill.{Downhill, Awaiting, Peeled}
+use Rattle.terrain.specs.Downhill.{Downhill, Awaiting, Peeled, Onward}
 use Rattle.terrain.proofs.Trails.{is-mapped, mapped-is}
 use Rattle.terrain.proofs.Receivers.{pointing, falling, code-read}
 
@@ -89,18 +89,18 @@ module _ {rows cols : ℕ} {dir : List ℕ} (d : Directed rows cols dir) where
     marked-here = getD-set-same w x 4294967295 0 (omega (arith, s .wide))
 
     -- where the cell points at none
-    pub taken-last : {y : ℕ} → y ≡ receiverOf rows cols dir x → rows * cols ≤ y → Peeled rows cols dir (set order p x) (set w x 4294967295) (p + 1) b y
-    taken-last {y} e o = peel-take (pointing d) s h done
+    pub taken-last : {y hand : ℕ} → y ≡ receiverOf rows cols dir x → rows * cols ≤ y → Onward (rows * cols) b (set w x 4294967295) y hand → Peeled rows cols dir (set order p x) (set w x 4294967295) (p + 1) b hand
+    taken-last {y} {hand} e o a = peel-take (pointing d) s h done
       where
-        done : Taking n recv w marked x y
+        done : Taking n recv w marked b x hand
         done =
             record {
               wide = length-set w x 4294967295;
               shut = omega (arith, marked-here);
               other = (λ z p q. getD-set-other w x z 4294967295 0 p);
               one = (λ k. absurd (omega arith));
-              some = (λ k. absurd (omega arith));
-              none = (λ k q. absurd (omega arith));
+              some = (λ k. absurd (omega (arith, a .some k .0)));
+              none = (λ k l q. absurd (omega arith));
             }
 
     module _ {y : ℕ} (e : y ≡ receiverOf rows cols dir x) (l : y < rows * cols) where
@@ -114,9 +114,9 @@ module _ {rows cols : ℕ} {dir : List ℕ} (d : Directed rows cols dir) where
       pub taken-waits : 0 < getD (set w x 4294967295) y 0
       taken-waits = omega (arith, same, next-waits (pointing d) s h (omega arith))
 
-      -- and then for one less; it is in hand if it waits for none
-      pub taken-next : {m hand : ℕ} → m ≡ getD (set w x 4294967295) y 0 - 1 → (getD (set (set w x 4294967295) y m) y 0 ≡ 0 → hand ≡ y) → (0 < getD (set (set w x 4294967295) y m) y 0 → hand ≡ rows * cols) → Peeled rows cols dir (set order p x) (set (set w x 4294967295) y m) (p + 1) b hand
-      taken-next {m} {hand} g a o = peel-take (pointing d) s h done
+      -- and then for one less
+      pub taken-next : {m hand : ℕ} → m ≡ getD (set w x 4294967295) y 0 - 1 → Onward (rows * cols) b (set (set w x 4294967295) y m) y hand → Peeled rows cols dir (set order p x) (set (set w x 4294967295) y m) (p + 1) b hand
+      taken-next {m} {hand} g a = peel-take (pointing d) s h done
         where
           stored : getD (set marked y m) y 0 ≡ m
           stored = getD-set-same marked y m 0 (omega (arith, marked-long))
@@ -124,15 +124,15 @@ module _ {rows cols : ℕ} {dir : List ℕ} (d : Directed rows cols dir) where
           there : getD (set marked y m) (recv x) 0 ≡ m
           there = ap (λ (z : ℕ). getD (set marked y m) z 0) (sym e) ∙ stored
 
-          done : Taking n recv w (set marked y m) x hand
+          done : Taking n recv w (set marked y m) b x hand
           done =
               record {
                 wide = length-set marked y m ∙ length-set w x 4294967295;
                 shut = omega (arith, getD-set-other marked y x m 0 (λ q. apart (sym q)), marked-here);
                 other = (λ z p q. getD-set-other marked y z m 0 (λ t. q (t ∙ e)) ∙ getD-set-other w x z 4294967295 0 p);
                 one = (λ k. omega (arith, there, taken-waits, same));
-                some = (λ k. elim (ℕ-discrete m 0) [ yes z ↦ (a (stored ∙ z) ∙ e, ap (λ (i : ℕ). getD (set marked y m) i 0) (a (stored ∙ z)) ∙ stored ∙ z) | no f ↦ absurd (omega (arith, o (omega (arith, stored)))) ]);
-                none = (λ k z. a (ap (λ (i : ℕ). getD (set marked y m) i 0) e ∙ z) ∙ e);
+                some = (λ k. let w = a .some k in (w .0 ∙ e, ap (λ (i : ℕ). getD (set marked y m) i 0) (w .0) ∙ w .1));
+                none = (λ k l z. a .none (omega arith) (ap (λ (i : ℕ). getD (set marked y m) i 0) e ∙ z) ∙ e);
               }
 
   -- ---- the end

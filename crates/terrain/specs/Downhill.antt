@@ -29,8 +29,7 @@ pub record Awaiting (rows cols : ℕ) (dir waiting : List ℕ) (x : ℕ) : Type 
 abbrev pub Peeled : ℕ → ℕ → List ℕ → List ℕ → List ℕ → ℕ → ℕ → ℕ → Type 0
 Peeled rows cols dir order waiting m bound hand = Peeling (rows * cols) (mappedAt rows cols dir) (receiverOf rows cols dir) order waiting m bound hand
 
--- the cell that is in hand after one was taken that points at y: y itself, if it is a cell, unless that still waits
-pub record Onward (n : ℕ) (waiting : List ℕ) (y hand : ℕ) : Type 0 where
-  pub past : n ≤ y → hand ≡ y
-  pub free : y < n → getD waiting y 0 ≡ 0 → hand ≡ y
-  pub held : y < n → 0 < getD waiting y 0 → hand ≡ n
+-- the cell that is in hand after one was taken that points at y: none, or y if it waits for none; one from the bound on may be left for its turn in the grid
+pub record Onward (n bound : ℕ) (waiting : List ℕ) (y hand : ℕ) : Type 0 where
+  pub some : hand < n → (hand ≡ y) × (getD waiting y 0 ≡ 0)
+  pub none : y < bound → getD waiting y 0 ≡ 0 → hand ≡ y

@@ -86,7 +86,7 @@ fn take(
     x: usize,
 ) -> usize
     requires { ⌜ Directed rows columns (now direction) × Peeled rows columns (now direction) (now order) (now waiting) place 0 x × (x < rows * columns) × Shifts columns (now shifts) ⌝ }
-    ensures { λ r. ⌜ ((b hand : ℕ) → Peeled rows columns (now (direction .entry)) (now (order .entry)) (now (waiting .entry)) place b x → Onward (rows * columns) (now (waiting .exit)) r hand → Peeled rows columns (now (direction .entry)) (now (order .exit)) (now (waiting .exit)) (place + 1) b hand) ⌝ }
+    ensures { λ r. ⌜ ((b hand : ℕ) → Peeled rows columns (now (direction .entry)) (now (order .entry)) (now (waiting .entry)) place b x → Onward (rows * columns) b (now (waiting .exit)) r hand → Peeled rows columns (now (direction .entry)) (now (order .exit)) (now (waiting .exit)) (place + 1) b hand) ⌝ }
 {
     order[place] = x as u32;
     waiting[x] = SHUT;
@@ -98,8 +98,9 @@ fn take(
     y
 }
 
-// Takes the cells of the trail from the cell in hand, as far as no cell waits. The next place of the order. It returns where a
-// cell waits, so that the processor can foresee the next cell without what that waits for.
+// Takes the cells of the trail from the cell in hand, as far as no cell waits. The next place of the order. A cell after the start
+// is left for its turn in the grid, so that the order goes by rows as far as it can and what lies together is worked on together.
+// It returns where a cell waits, so that the processor can foresee the next cell without what that waits for.
 fn follow(
     rows: usize,
     columns: usize,
@@ -118,7 +119,7 @@ fn follow(
     loop {
         let y = take(rows, columns, shifts, direction, waiting, order, at, x);
         at += 1;
-        if waiting.len() <= y {
+        if start < y {
             return at;
         }
         if 0 < waiting[y] {

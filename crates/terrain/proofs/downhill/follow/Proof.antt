@@ -3,7 +3,7 @@ use mathlib.Core.Path.{_≡_, refl, sym, _∙_}
 use Prim.Native.Nat.{_+_, _*_, _-_, _≤_, _<_}
 use native.Mathlib.Omega.{arith}
 use lib.ListN.{length}
-use Rattle.laws.proofs.Peel.{hand-room, peel-less, peel-none}
+use Rattle.laws.proofs.Peel.{hand-room, peel-less}
 use Rattle.terrain.specs.Downhill.{Peeled}
 use Rattle.terrain.proofs.Receivers.{pointing}
 use borrow.Author.Needs.{needs}
@@ -51,14 +51,13 @@ returns : tie.Need-returns Inv-loop μ-loop
 returns c =
     let t = c .before .before .before .before .before in
     let s = args (turn t) in
-    let past : s .args .rows * s .args .columns ≤ t .take .result = omega (arith, c .if1 .taken, wide t) in
-    peel-none (pointing (s .pre .0)) (t .take .ensures (s .args .start + 1) (t .take .result) (turn t .loop .inv .0) (record { past = (λ h. refl); free = (λ l z. refl); held = (λ l z. absurd (omega arith)) })) past (s .args .rows * s .args .columns) (omega arith)
+    t .take .ensures (s .args .start + 1) (s .args .rows * s .args .columns) (turn t .loop .inv .0) (record { some = (λ h. absurd (omega arith)); none = (λ l z. absurd (omega (arith, c .if1 .taken))) })
 
 mul-if2 : tie.Need-mul-if2 Inv-loop μ-loop
-mul-if2 c = let t = c .before .before .before .before .before in omega (arith, c .if1 .left, wide t, args (turn t) .pre .0 .sized .small)
+mul-if2 c = let t = c .before .before .before .before .before in omega (arith, c .if1 .left, args (turn t) .pre .2, args (turn t) .pre .0 .sized .small)
 
 slice-read-if2 : tie.Need-slice-read-if2 Inv-loop μ-loop
-slice-read-if2 c = let t = c .before .before .before .before .before .before in omega (arith, c .before .if1 .left, wide t)
+slice-read-if2 c = let t = c .before .before .before .before .before .before in omega (arith, c .before .if1 .left, wide t, args (turn t) .pre .2)
 
 same-length-3 : tie.Need-same-length-3 Inv-loop μ-loop
 same-length-3 c = let t = c .before .before .before .before .before .before .before in t .take .kept .1 .1 .1 .1 .0 ∙ turn t .loop .inv .0 .wide ∙ sym (args (turn t) .pre .1 .wide)
@@ -70,7 +69,7 @@ returns-2 : tie.Need-returns-2 Inv-loop μ-loop
 returns-2 c =
     let t = c .before .before .before .before .before .before .before in
     let s = args (turn t) in
-    t .take .ensures (s .args .start + 1) (s .args .rows * s .args .columns) (turn t .loop .inv .0) (record { past = (λ h. absurd (omega (arith, c .before .before .if1 .left, wide t))); free = (λ l z. absurd (omega (arith, c .if2 .taken))); held = (λ l z. refl) })
+    t .take .ensures (s .args .start + 1) (s .args .rows * s .args .columns) (turn t .loop .inv .0) (record { some = (λ h. absurd (omega arith)); none = (λ l z. absurd (omega (arith, c .if2 .taken))) })
 
 loop-less : tie.Need-loop-less Inv-loop μ-loop
 loop-less c =
@@ -81,8 +80,8 @@ loop-again : tie.Need-loop-again Inv-loop μ-loop
 loop-again c =
     let t = c .before .before .before .before .before .before .before in
     let s = args (turn t) in (
-      t .take .ensures (s .args .start + 1) (t .take .result) (turn t .loop .inv .0) (record { past = (λ h. refl); free = (λ l z. refl); held = (λ l z. absurd (omega (arith, c .if2 .left))) }),
-      omega (arith, c .before .before .if1 .left, wide t),
+      t .take .ensures (s .args .start + 1) (t .take .result) (turn t .loop .inv .0) (record { some = (λ h. (refl, omega (arith, c .if2 .left))); none = (λ l z. refl) }),
+      omega (arith, c .before .before .if1 .left, s .pre .2),
     )
 
 pub follow-spec : {M : Type 1} → statement M

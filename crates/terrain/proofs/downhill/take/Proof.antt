@@ -1,5 +1,5 @@
 -- `terrain::downhill::take` meets its contract. Assumes nothing.
-use mathlib.Core.Path.{refl, sym, subst}
+use mathlib.Core.Path.{refl}
 use Prim.Native.Nat.{_*_, _≤_, _<_}
 use native.Mathlib.Omega.{arith}
 use Rattle.laws.proofs.Peel.{hand-cell, hand-room}
@@ -43,7 +43,7 @@ returns c =
     let s = start (c .before) in
     let a = s .args in
     let past : a .rows * a .columns ≤ c .before .receiver .result = omega (arith, c .if1 .taken, marked-long (s .pre .0) (s .pre .1) (s .pre .2)) in
-    λ b hand i o. subst (Peeled (a .rows) (a .columns) (a .direction .now) _ _ _ b) (sym (o .past past)) (taken-last (s .pre .0) i (s .pre .2) (c .before .receiver .ensures) past)
+    λ b hand i o. taken-last (s .pre .0) i (s .pre .2) (c .before .receiver .ensures) past o
 
 mul-waiting-2 : tie.Need-mul-waiting-2
 mul-waiting-2 c = search needs
@@ -71,7 +71,7 @@ returns-2 c =
     let y = c .before .before in
     let s = start y in
     let in-grid : y .receiver .result < s .args .rows * s .args .columns = omega (arith, c .before .if1 .left, marked-long (s .pre .0) (s .pre .1) (s .pre .2)) in
-    λ b hand i o. taken-next (s .pre .0) i (s .pre .2) (y .receiver .ensures) in-grid refl (o .free in-grid) (o .held in-grid)
+    λ b hand i o. taken-next (s .pre .0) i (s .pre .2) (y .receiver .ensures) in-grid refl o
 
 pub take-spec : {M : Type 1} → statement M
 take-spec =
