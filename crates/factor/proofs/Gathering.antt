@@ -16,8 +16,8 @@ use Rattle.laws.proofs.Sums.{when-yes, when-no, when-ext, when-under, greatest-
 use Rattle.laws.proofs.Handing.{greatest-joining}
 use Rattle.settings.specs.declared.Rules.{Rules}
 use Rattle.terrain.specs.Cells.{neighbour}
-use Rattle.terrain.specs.Trail.{mappedAt, intoAt}
-use Rattle.terrain.specs.Directed.{Directed, receiverOf}
+use Rattle.terrain.specs.Trail.{mappedAt, intoAt, receiverOf}
+use Rattle.terrain.specs.InnerTrail.{Directed}
 use Rattle.terrain.proofs.Public.{pointing, inflow-greatest}
 use Rattle.factor.specs.Channel.{channelAt}
 use Rattle.factor.specs.Inflow.{startLength}

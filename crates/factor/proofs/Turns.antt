@@ -8,7 +8,7 @@ use lib.Dec.{ltb}
 use lib.ListN.{getD, set}
 use lib.Seq.{getD-set-other}
 use Rattle.settings.specs.declared.Rules.{Rules}
-use Rattle.terrain.specs.Inside.{besideOf}
+use Rattle.terrain.specs.InnerCells.{besideOf}
 use Rattle.factor.specs.Cell.{factorOf}
 use Rattle.factor.specs.Inflow.{cutoffFor, startLength, stepOver}
 use Rattle.factor.specs.Inner.{greatestLength, steepnessOf, settledOf, broughtBy}

@@ -20,10 +20,10 @@ use Rattle.laws.proofs.Orders.{stands-none, stands-more, order-cell, order-new}
 use Rattle.laws.proofs.Handing.{hand-start, hand-next, turn-off, turn-on, turn-stored, next-whole, next-turn, hand-all, hand-rest}
 use Rattle.settings.specs.declared.Rules.{Rules}
 use Rattle.terrain.specs.Cells.{sideOf}
-use Rattle.terrain.specs.Trail.{mappedAt, flowsAt, nextAt}
-use Rattle.terrain.specs.Inside.{besideOf}
+use Rattle.terrain.specs.Trail.{mappedAt, flowsAt, nextAt, receiverOf}
+use Rattle.terrain.specs.InnerCells.{besideOf}
 use Rattle.terrain.specs.Falls.{noFall, fallOf, dropAt, fallAt, fallsOf}
-use Rattle.terrain.specs.Directed.{Directed, receiverOf}
+use Rattle.terrain.specs.InnerTrail.{Directed}
 use Rattle.terrain.specs.Downhill.{Downhill}
 use Rattle.terrain.proofs.Public.{beside-is, beside-room, mapped-is, pointing, code-read, receiver-leaves, receiver-beside, receiver-side, receiver-near}
 use Rattle.factor.specs.Slope.{steepnessAt}

@@ -6,9 +6,9 @@ use lib.Count.{trailingZeros}
 use lib.Dec.{ltb}
 use lib.ListN.{length, getD, set}
 use Rattle.settings.specs.declared.Rules.{Rules}
-use Rattle.terrain.specs.Inside.{Beside, besideOf}
+use Rattle.terrain.specs.InnerCells.{Beside, besideOf}
 use Rattle.terrain.specs.Falls.{fallsOf}
-use Rattle.terrain.specs.Directed.{Directed}
+use Rattle.terrain.specs.InnerTrail.{Directed}
 use Rattle.terrain.specs.Downhill.{Downhill}
 use Rattle.factor.specs.Cell.{factorOf}
 use Rattle.factor.specs.Inner.{greatestFall, greatestLength, steepnessOf, settledOf, leftBy, broughtBy}

@@ -11,7 +11,8 @@ use Rattle.laws.proofs.Lists.{getD-any}
 use Rattle.laws.proofs.Verdicts.{verdict-none, verdict-next, verdict-stops, verdict-passed}
 use Rattle.text.specs.Ranges.{sizeAccepted, firstBad, allLong, sizeTest, lengthTest, heightTest}
 use Rattle.text.proofs.Accepted.{size-is, area-small, size-passed, size-passes, rows-fail, columns-fail, length-passed, lengths-pass, lengths-fail, height-passed, height-passes, height-fails}
-use Rattle.terrain.specs.Cells.{noData, Fine, Ready}
+use Rattle.terrain.specs.Cells.{noData, Fine}
+use Rattle.terrain.specs.InnerCells.{Ready}
 use Rattle.terrain.specs.Trail.{countsOf}
 use Rattle.terrain.specs.Drainage.{Drainage}
 use Rattle.terrain.specs.Answers.{Grids, placesOf, tests, judged, validOf, directionOf, Mapped, After, answerOf, answer, accepts}

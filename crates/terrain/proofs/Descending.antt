@@ -16,9 +16,10 @@ use Rattle.laws.proofs.Sums.{sum-none, sum-more, sum-ones, when-yes, when-no, w
 use Rattle.laws.proofs.Orders.{order-cell, order-places}
 use Rattle.laws.proofs.Peel.{peel-start, peel-take, next-waits}
 use Rattle.laws.proofs.Rings.{peel-all, falling-ringless}
-use Rattle.terrain.specs.Trail.{mappedAt}
-use Rattle.terrain.specs.Directed.{Directed, receiverOf}
-use Rattle.terrain.specs.Downhill.{Downhill, Awaiting, Peeled, Onward}
+use Rattle.terrain.specs.Trail.{mappedAt, receiverOf}
+use Rattle.terrain.specs.InnerTrail.{Directed}
+use Rattle.terrain.specs.Downhill.{Downhill}
+use Rattle.terrain.specs.InnerDownhill.{Awaiting, Peeled, Onward}
 use Rattle.terrain.proofs.Trails.{is-mapped, mapped-is}
 use Rattle.terrain.proofs.Receivers.{pointing, falling, code-read}
 

@@ -15,7 +15,8 @@ use Rattle.laws.proofs.Lists.{getD-tab, getD-tab-past, length-tab}
 use Rattle.laws.proofs.Sums.{greatest-ge, greatest-is}
 use Rattle.laws.proofs.First.{first-holds, first-le, some-is, some-yes}
 use Rattle.terrain.specs.Cells.{neighbour, codeOf, cardinal, rimAt}
-use Rattle.terrain.specs.Flat.{farSteps, lowerAt, hasLower, flatAt, flatSteps, Walk, there, on, walked, StepsKept, StepsStill}
+use Rattle.terrain.specs.Flat.{farSteps, lowerAt, hasLower, flatAt, flatSteps, Walk, there, on, walked}
+use Rattle.terrain.specs.InnerFlats.{StepsKept, StepsStill}
 use Rattle.terrain.specs.Direction.{steepOf, steepAt, steepestAt, steepSide, nearerAt, nearerSide, directionAt, directionsOf}
 use Rattle.terrain.proofs.Neighbours.{rim-open}
 use Rattle.terrain.proofs.Flats.{lower-is, flat-is, nearest-le, seen-same, walk-least}

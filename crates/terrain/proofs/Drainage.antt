@@ -15,11 +15,12 @@ use Rattle.laws.specs.Sums.{when}
 use Rattle.laws.proofs.Tests.{two}
 use Rattle.laws.proofs.Lists.{in-list}
 use Rattle.laws.proofs.Sums.{sum-ext, when-yes, when-no, when-zero}
-use Rattle.terrain.specs.Cells.{neighbour, codeOf, sideOf, Valid, Rim, levelsOf, validAt, Ready}
+use Rattle.terrain.specs.Cells.{neighbour, codeOf, sideOf, Valid, Rim, levelsOf, validAt}
+use Rattle.terrain.specs.InnerCells.{Ready}
 use Rattle.terrain.specs.Filled.{filledLevels, filledOf}
 use Rattle.terrain.specs.Flat.{farSteps, flatSteps}
 use Rattle.terrain.specs.Direction.{directionsOf}
-use Rattle.terrain.specs.Trail.{Trail, ends, goes, OnValid, NeverRises, Meets, NeverTwice, lastOf, validsOf, mappedAt, flowsAt, nextAt, stepsIn, countAt, countsOf}
+use Rattle.terrain.specs.Trail.{Trail, ends, goes, OnValid, TrailNeverRises, Meets, NeverTwice, lastOf, validsOf, mappedAt, flowsAt, nextAt, stepsIn, countAt, countsOf}
 use Rattle.terrain.specs.Drainage.{surfaceOf, outflowOf, Drainage}
 use Rattle.terrain.specs.Answers.{directionOf, validOf}
 use Rattle.terrain.proofs.Neighbours.{side-code, code-some, code-small, valid-level, level-valid, level-invalid}
@@ -128,7 +129,7 @@ module _ (rows cols : ℕ) (ground : List ℤ) (ready : Ready rows cols ground) 
   stays (ends x e) v = v
   stays (goes x k h e t) v = (v, stays t (step-valid x k v h e))
 
-  never-rises : {x : ℕ} (t : Trail rows cols dir x) → Valid ground x → NeverRises rows cols dir (surfaceOf (filledOf rows cols ground)) t
+  never-rises : {x : ℕ} (t : Trail rows cols dir x) → Valid ground x → TrailNeverRises rows cols dir (surfaceOf (filledOf rows cols ground)) t
   never-rises (ends x e) v = tt
   never-rises (goes x k h e t) v =
       let w = step-valid x k v h e in

@@ -16,7 +16,7 @@ use Rattle.terrain.specs.Cells.{neighbour, codeOf, sideOf, validAt, rimA
 use Rattle.terrain.specs.Flat.{hasLower, flatSteps}
 use Rattle.terrain.specs.Direction.{steepSide, nearerAt, nearerSide, directionAt, directionsOf}
 use Rattle.terrain.specs.Falls.{fallOf, dropAt, fallAt, fallsOf}
-use Rattle.terrain.specs.Levels.{dropOf, steepestIn, sideFall, fallDownAt}
+use Rattle.terrain.specs.InnerLevels.{dropOf, steepestIn, sideFall, fallDownAt}
 use Rattle.terrain.proofs.Neighbours.{side-code, code-small}
 use Rattle.terrain.proofs.Flats.{lower-is}
 use Rattle.terrain.proofs.Directions.{steep-side, nearer-is, direction-at, direction-none}

@@ -8,7 +8,7 @@ use native.Mathlib.Omega.{arith}
 use native.Mathlib.Decide.{decLt}
 use lib.ListN.{getD}
 use Rattle.terrain.specs.Cells.{rowSteps, colSteps, neighbour}
-use Rattle.terrain.specs.Inside.{Sized, besideOf, Beside, Around, Edge}
+use Rattle.terrain.specs.InnerCells.{Sized, besideOf, Beside, Around, Edge}
 use Rattle.terrain.proofs.Neighbours.{col-of, row-of, cell-in, in-grid-lt, col-step-le, neighbour-cases}
 use Rattle.terrain.proofs.Interior.{by-row, beside-is}
 

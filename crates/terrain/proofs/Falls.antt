@@ -16,9 +16,10 @@ use Rattle.laws.proofs.Lists.{agrees-none, agrees-more, agrees-tab, getD-tab, l
 use Rattle.laws.proofs.First.{first-is, first-none}
 use Rattle.laws.proofs.Settle.{kept-active}
 use Rattle.terrain.specs.Cells.{neighbour, codeOf, validAt, rimAt}
-use Rattle.terrain.specs.Flat.{farSteps, hasLower, flatAt, flatSteps, flatStepping, Walk, there, on, walked, Within, StepsKept}
+use Rattle.terrain.specs.Flat.{farSteps, hasLower, flatAt, flatSteps, flatStepping, Walk, there, on, walked}
+use Rattle.terrain.specs.InnerFlats.{Within, StepsKept}
 use Rattle.terrain.specs.Direction.{steepSide, nearerAt, nearerSide, directionAt, directionsOf}
-use Rattle.terrain.specs.Levels.{Levels, startAt, steepestIn, downAt, fallDownAt, FallTo, Down}
+use Rattle.terrain.specs.InnerLevels.{Levels, startAt, steepestIn, downAt, fallDownAt, FallTo, Down}
 use Rattle.terrain.specs.declared.direction.Fall.{Fall}
 use Rattle.terrain.proofs.Flats.{flat-valid, flat-inland, flat-is, steps-kept}
 

@@ -14,10 +14,11 @@ use borrow.Author.Tests.{ltb-true, lt-ltb, le-ltb}
 use Rattle.laws.specs.Settle.{Rule, Still}
 use Rattle.laws.proofs.Settle.{settled-done, done-is}
 use Rattle.laws.proofs.Lists.{in-list}
-use Rattle.terrain.specs.Cells.{noData, Fine, neighbour, Valid, levelOf, heightOf, levelsOf, validAt, Ready}
-use Rattle.terrain.specs.Surfaces.{Run, last, step, greatest, maxZ}
-use Rattle.terrain.specs.Filled.{top, lowestOf, filling, filledLevels, filledOf, Stands}
-use Rattle.terrain.specs.Flood.{FillKept}
+use Rattle.terrain.specs.Cells.{noData, Fine, neighbour, Valid, levelOf, heightOf, levelsOf, validAt}
+use Rattle.terrain.specs.InnerCells.{Ready}
+use Rattle.terrain.specs.Surfaces.{Run, last, step, highestOf, maxZ}
+use Rattle.terrain.specs.Filled.{top, lowestOf, filling, filledLevels, filledOf}
+use Rattle.terrain.specs.InnerFlood.{Stands, FillKept}
 use Rattle.terrain.proofs.Neighbours.{west, level-at, level-max, level-fine, levels-long, level-height, fine-at, valid-level, level-valid, none-level, level-invalid}
 
 -- ---- the lowest neighbour
@@ -78,7 +79,7 @@ module _ (rows cols : ℕ) (ground : List ℤ) (ready : Ready rows cols ground) 
   stands-beside l kept x k v p h low le =
       elim (ℕ-discrete (getD g (nb x k) 0) 0) [
         | yes z ↦ stands-rim x k v p h z (omega arith)
-        | no f ↦ (let s = kept .stands (nb x k) (active (nb x k) (omega arith)) low in (step x k (level-valid ready x p) h (s .0), omega (arith, s .1, level-at ground x, level-max (getD ground x noData) (greatest rows cols ground (s .0)))))
+        | no f ↦ (let s = kept .stands (nb x k) (active (nb x k) (omega arith)) low in (step x k (level-valid ready x p) h (s .0), omega (arith, s .1, level-at ground x, level-max (getD ground x noData) (highestOf rows cols ground (s .0)))))
       ]
 
   pub run-valid : {x : ℕ} → Run rows cols ground x → Valid ground x
@@ -86,11 +87,11 @@ module _ (rows cols : ℕ) (ground : List ℤ) (ready : Ready rows cols ground) 
   run-valid (step x k v h r) = v
 
   -- no run stays below a list that no offer lowers
-  pub still-least : (l : List ℕ) → FillKept rows cols ground l → Still (filling rows cols (levelsOf ground)) l → {x : ℕ} (r : Run rows cols ground x) → getD l x 0 ≤ levelOf (greatest rows cols ground r)
+  pub still-least : (l : List ℕ) → FillKept rows cols ground l → Still (filling rows cols (levelsOf ground)) l → {x : ℕ} (r : Run rows cols ground x) → getD l x 0 ≤ levelOf (highestOf rows cols ground r)
   still-least l k s (last x r) =
       omega (arith, s x (active x (valid-level ready x (r .valid))), lowest-le rows cols l x (r .side) 8 (r .small), k .clear (nb x (r .side)) (le-ltb 0 (getD g (nb x (r .side)) 0) (omega (arith, none-level ready (nb x (r .side)) (r .none)))), level-at ground x)
   still-least l k s (step x j v h r) =
-      omega (arith, s x (active x (valid-level ready x v)), lowest-le rows cols l x j 8 h, still-least l k s r, level-at ground x, level-max (getD ground x noData) (greatest rows cols ground r))
+      omega (arith, s x (active x (valid-level ready x v)), lowest-le rows cols l x j 8 h, still-least l k s r, level-at ground x, level-max (getD ground x noData) (highestOf rows cols ground r))
 
   pub filling-rule : Rule (filling rows cols (levelsOf ground)) (Stands rows cols ground)
   filling-rule =
@@ -130,13 +131,13 @@ module _ (rows cols : ℕ) (ground : List ℤ) (ready : Ready rows cols ground) 
   pub every-run : (x : ℕ) → 0 < getD g x 0 → Run rows cols ground x
   every-run x v = run-below (suc x) x (omega arith) v
 
-  pub greatest-fine : {x : ℕ} (r : Run rows cols ground x) → Fine (greatest rows cols ground r)
+  pub greatest-fine : {x : ℕ} (r : Run rows cols ground x) → Fine (highestOf rows cols ground r)
   greatest-fine (last x r) = fine-at ready x
-  greatest-fine (step x k v h r) = max-fine (getD ground x noData) (greatest rows cols ground r) (fine-at ready x) (greatest-fine r)
+  greatest-fine (step x k v h r) = max-fine (getD ground x noData) (highestOf rows cols ground r) (fine-at ready x) (greatest-fine r)
 
-  greatest-ground : {x : ℕ} (r : Run rows cols ground x) → getD g x 0 ≤ levelOf (greatest rows cols ground r)
+  greatest-ground : {x : ℕ} (r : Run rows cols ground x) → getD g x 0 ≤ levelOf (highestOf rows cols ground r)
   greatest-ground (last x r) = omega (arith, level-at ground x)
-  greatest-ground (step x k v h r) = omega (arith, level-at ground x, level-max (getD ground x noData) (greatest rows cols ground r))
+  greatest-ground (step x k v h r) = omega (arith, level-at ground x, level-max (getD ground x noData) (highestOf rows cols ground r))
 
   -- ---- what is true of the filled levels
 
@@ -153,12 +154,12 @@ module _ (rows cols : ℕ) (ground : List ℤ) (ready : Ready rows cols ground) 
   pub filled-small : (x : ℕ) → getD (filledLevels rows cols ground) x 0 < top
   filled-small x =
       elim (decLt 0 (getD g x 0)) [
-        | yes v ↦ (let r = every-run x v in omega (arith, still-least lv filled-kept filled-still r, level-fine (greatest rows cols ground r) (greatest-fine r)))
+        | yes v ↦ (let r = every-run x v in omega (arith, still-least lv filled-kept filled-still r, level-fine (highestOf rows cols ground r) (greatest-fine r)))
         | no f ↦ omega (arith, filled-clear x (omega arith))
       ]
 
   -- some run attains the level
-  pub filled-reached : (x : ℕ) → 0 < getD (levelsOf ground) x 0 → (r : Run rows cols ground x) × (levelOf (greatest rows cols ground r) ≡ getD (filledLevels rows cols ground) x 0)
+  pub filled-reached : (x : ℕ) → 0 < getD (levelsOf ground) x 0 → (r : Run rows cols ground x) × (levelOf (highestOf rows cols ground r) ≡ getD (filledLevels rows cols ground) x 0)
   filled-reached x v = let s = filled-kept .stands x (active x v) (filled-small x) in (s .0, omega (arith, s .1, still-least lv filled-kept filled-still (s .0)))
 
   pub filled-above : (x : ℕ) → 0 < getD (levelsOf ground) x 0 → getD (levelsOf ground) x 0 ≤ getD (filledLevels rows cols ground) x 0

@@ -17,14 +17,15 @@ use Rattle.laws.proofs.Lists.{in-list}
 use Rattle.laws.proofs.First.{none-at}
 use Rattle.laws.proofs.Pigeon.{pigeon}
 use Rattle.laws.proofs.Settle.{settled-done, done-is}
-use Rattle.terrain.specs.Cells.{neighbour, validAt, rimAt, levelsOf, Ready}
-use Rattle.terrain.specs.Surfaces.{Run, last, step, NeverRises}
+use Rattle.terrain.specs.Cells.{neighbour, validAt, rimAt, levelsOf}
+use Rattle.terrain.specs.InnerCells.{Ready}
+use Rattle.terrain.specs.Surfaces.{Run, last, step, RunNeverRises}
 use Rattle.terrain.specs.Filled.{filledLevels, filledOf}
-use Rattle.terrain.specs.Flat.{farSteps, lowerAt, hasLower, flatAt, seenAt, nearestOf, flatStepping, flatSteps, Walk, there, on, walked, Within, StepsKept, StepsStill}
+use Rattle.terrain.specs.Flat.{farSteps, lowerAt, hasLower, flatAt, seenAt, nearestOf, flatStepping, flatSteps, Walk, there, on, walked}
+use Rattle.terrain.specs.InnerFlats.{Within, StepsKept, StepsStill}
 use Rattle.terrain.specs.Drainage.{surfaceOf}
-use Rattle.terrain.proofs.Neighbours.{inland-valid, level-le, none-level, level-valid}
+use Rattle.terrain.proofs.Neighbours.{inland-valid, level-le, none-level, level-valid, valid-level}
 use Rattle.terrain.proofs.Filling.{filled-long, filled-clear, filled-some, filled-above, level-filled}
-use Rattle.terrain.proofs.Neighbours.{valid-level}
 use Rattle.terrain.proofs.Surfaces.{drain}
 
 nor : (a b : Bool) → not (a || b) ≡ true → (a ≡ false) × (b ≡ false)
@@ -191,7 +192,7 @@ module _ (rows cols : ℕ) (ground : List ℤ) (ready : Ready rows cols ground) 
   above : (x : ℕ) → 0 < getD (levelsOf ground) x 0 → 0 < getD lv x 0
   above x v = omega (arith, filled-above rows cols ground ready x v)
 
-  walk-of : {x : ℕ} (r : Run rows cols ground x) → NeverRises rows cols ground (surfaceOf (filledOf rows cols ground)) r → Walk rows cols lv x
+  walk-of : {x : ℕ} (r : Run rows cols ground x) → RunNeverRises rows cols ground (surfaceOf (filledOf rows cols ground)) r → Walk rows cols lv x
   walk-of (last x r) f =
       let v = above x (valid-level ready x (r .valid)) in
       there x v (low-not-flat rows cols lv x (r .side) (r .small) (omega (arith, filled-clear rows cols ground ready (neighbour rows cols x (r .side)) (none-level ready (neighbour rows cols x (r .side)) (r .none)))))

@@ -13,9 +13,10 @@ use mir.Val.{SFits, toZ, ofZ}
 use mir.Facts.{toZ-ofZ, toZ-pos}
 use borrow.Author.Tests.{ltb-false, lt-ltb, le-ltb}
 use Rattle.laws.proofs.Search.{failing-one}
-use Rattle.terrain.specs.Cells.{neighbour, Fine, levelOf, heightOf, levelsOf, Ready}
+use Rattle.terrain.specs.Cells.{neighbour, Fine, levelOf, heightOf, levelsOf}
+use Rattle.terrain.specs.InnerCells.{Ready}
 use Rattle.terrain.specs.Filled.{top, lowestOf, filledLevels, filledOf}
-use Rattle.terrain.specs.Flood.{FaultyCell, Faulty}
+use Rattle.terrain.specs.InnerFlood.{FaultyCell, Faulty}
 use Rattle.terrain.proofs.Filling.{lowest-none, lowest-more}
 use Rattle.terrain.proofs.Neighbours.{sum-level, level-fine, fine-fits, difference-height, height-mag}
 

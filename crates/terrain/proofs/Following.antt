@@ -12,8 +12,8 @@ use Rattle.laws.specs.Sums.{greatestTo, when}
 use Rattle.laws.proofs.Tests.{two}
 use Rattle.laws.proofs.Sums.{greatest-ge, greatest-le, greatest-less, when-yes, when-no}
 use Rattle.laws.proofs.Orders.{order-cell, order-every, order-before}
-use Rattle.terrain.specs.Trail.{mappedAt, flowsAt, nextAt, stepsIn, longestOf}
-use Rattle.terrain.specs.Directed.{Directed, receiverOf}
+use Rattle.terrain.specs.Trail.{mappedAt, flowsAt, nextAt, stepsIn, longestOf, receiverOf}
+use Rattle.terrain.specs.InnerTrail.{Directed}
 use Rattle.terrain.specs.Downhill.{Downhill}
 use Rattle.terrain.proofs.Trails.{mapped-none, steps-end, steps-below, rank-next, receiver-flows, receiver-stops}
 use Rattle.terrain.proofs.Receivers.{directed-falls, pointing}

@@ -12,8 +12,8 @@ use Rattle.laws.specs.Sums.{greatestTo, when}
 use Rattle.laws.proofs.Tests.{two, and-both}
 use Rattle.laws.proofs.Sums.{greatest-ge, greatest-le, when-yes, when-no}
 use Rattle.terrain.specs.Cells.{neighbour, sideOf}
-use Rattle.terrain.specs.Trail.{flowsAt, nextAt, stepsIn, intoAt}
-use Rattle.terrain.specs.Directed.{Directed, receiverOf}
+use Rattle.terrain.specs.Trail.{flowsAt, nextAt, stepsIn, intoAt, receiverOf}
+use Rattle.terrain.specs.InnerTrail.{Directed}
 use Rattle.terrain.proofs.Neighbours.{across, across-small, neighbour-back}
 use Rattle.terrain.proofs.Trails.{code-next, flows-code, flows-mapped, receiver-flows, receiver-points}
 use Rattle.terrain.proofs.Receivers.{pointing}

@@ -8,8 +8,8 @@ use native.Mathlib.Omega.{arith}
 use native.Mathlib.Decide.{decLt}
 use lib.ListN.{getD}
 use lib.IntN.{ℤ}
-use Rattle.terrain.specs.Cells.{rowSteps, colSteps, neighbour, Ready}
-use Rattle.terrain.specs.Inside.{Sized, Inside, RunsTo, besideOf, Beside, Shifts}
+use Rattle.terrain.specs.Cells.{rowSteps, colSteps, neighbour, Shifts}
+use Rattle.terrain.specs.InnerCells.{Ready, Sized, Inside, RunsTo, besideOf, Beside}
 use Rattle.terrain.proofs.Neighbours.{each-side, row-step-le, col-step-le, cell-in, in-grid-lt, row-of, col-of, neighbour-cases}
 
 pub ready-sized : {rows cols : ℕ} {ground : List ℤ} → Ready rows cols ground → Sized rows cols

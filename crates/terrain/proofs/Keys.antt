@@ -20,7 +20,7 @@ use Rattle.terrain.specs.Cells.{neighbour, codeOf, cardinal}
 use Rattle.terrain.specs.Flat.{hasLower}
 use Rattle.terrain.specs.Falls.{noFall}
 use Rattle.terrain.specs.Direction.{steepOf, steepAt, steepestAt, steepSide}
-use Rattle.terrain.specs.Levels.{dropOf, sideKey, straight, Chosen, sideDrop, sideFall, steepestIn, downAt, fallDownAt, FallTo}
+use Rattle.terrain.specs.InnerLevels.{dropOf, sideKey, straight, Chosen, sideDrop, sideFall, steepestIn, downAt, fallDownAt, FallTo}
 use Rattle.terrain.specs.declared.direction.Fall.{Fall}
 use Rattle.terrain.proofs.Neighbours.{each-side, code-small}
 use Rattle.terrain.proofs.Directions.{steepest-some, some-steepest}

@@ -22,4 +22,5 @@ mod Surveying
 mod Words
 mod Edges
 mod Queueing
+pub mod Reading
 pub mod Public

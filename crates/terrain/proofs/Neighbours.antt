@@ -20,7 +20,8 @@ use Rattle.laws.proofs.Lists.{getD-any}
 use Rattle.laws.proofs.Tests.{and-both}
 use Rattle.text.specs.Ranges.{heightAccepted}
 use Rattle.text.proofs.Accepted.{area-small}
-use Rattle.terrain.specs.Cells.{noData, Fine, rowSteps, colSteps, cellAt, neighbour, codeOf, sideOf, Valid, levelOf, heightOf, levelsOf, validAt, rimAt, Ready}
+use Rattle.terrain.specs.Cells.{noData, Fine, rowSteps, colSteps, cellAt, neighbour, codeOf, sideOf, Valid, levelOf, heightOf, levelsOf, validAt, rimAt}
+use Rattle.terrain.specs.InnerCells.{Ready}
 use Rattle.terrain.specs.Surfaces.{maxZ}
 
 -- ---- the sides
@@ -325,7 +326,12 @@ module _ {rows cols : ℕ} {ground : List ℤ} (ready : Ready rows cols ground) 
 -- ---- rim cells over levels
 
 module _ (rows cols : ℕ) (lv : List ℕ) where
-  -- a rim cell sees a 0
+  -- a rim cell is valid
+  pub rim-valid : (x : ℕ) → rimAt rows cols lv x ≡ true → validAt lv x ≡ true
+  unfolding rimAt
+  rim-valid x e = and-both (validAt lv x) _ e .0
+
+  -- and sees a 0
   pub rim-open : (x : ℕ) → rimAt rows cols lv x ≡ true → (k : ℕ) × (k < 8) × (getD lv (neighbour rows cols x k) 0 ≡ 0)
   unfolding rimAt
   rim-open x e =

@@ -17,8 +17,8 @@ use Rattle.laws.proofs.Tests.{two}
 use Rattle.laws.proofs.Lists.{length-tab, getD-tab}
 use Rattle.laws.proofs.Sums.{sum-ext, sum-zero, when-yes, when-no, when-under, when-ext}
 use Rattle.laws.proofs.Handing.{sum-joining, hand-start, turn-on, turn-off, next-whole, next-fits, next-turn, hand-all, hand-rest}
-use Rattle.terrain.specs.Trail.{mappedAt, stepsIn, countAt, countsOf}
-use Rattle.terrain.specs.Directed.{Directed, receiverOf}
+use Rattle.terrain.specs.Trail.{mappedAt, stepsIn, countAt, countsOf, receiverOf}
+use Rattle.terrain.specs.InnerTrail.{Directed}
 use Rattle.terrain.specs.Downhill.{Downhill}
 use Rattle.terrain.proofs.Trails.{steps-le, count-le, count-brought, counts-long, counts-at}
 use Rattle.terrain.proofs.Receivers.{directed-falls, pointing}

@@ -11,8 +11,8 @@ use lib.Seq.{getD-set-same, getD-set-other}
 use Rattle.laws.proofs.Lists.{in-list}
 use Rattle.terrain.specs.Cells.{neighbour}
 use Rattle.terrain.specs.Filled.{top, lowestOf}
-use Rattle.terrain.specs.Inside.{Sized, besideOf, Around, Edge}
-use Rattle.terrain.specs.Flood.{doneOf, queuedFrom, Queueing, OnLine, Waiting, Rimming, Flooded, FloodedTo}
+use Rattle.terrain.specs.InnerCells.{Sized, besideOf, Around, Edge}
+use Rattle.terrain.specs.InnerFlood.{doneOf, queuedFrom, Queueing, OnLine, Waiting, Rimming, Flooded, FloodedTo}
 use Rattle.terrain.proofs.Neighbours.{across, across-small, neighbour-back, col-of}
 use Rattle.terrain.proofs.Filling.{lowest-le, lowest-top}
 use Rattle.terrain.proofs.Edges.{around-cases, edge-north, edge-south, edge-west, edge-east}

@@ -13,8 +13,8 @@ use Rattle.laws.specs.Orders.{Pointing, Falling}
 use Rattle.laws.proofs.Tests.{two}
 use Rattle.laws.proofs.Lists.{getD-any}
 use Rattle.terrain.specs.Cells.{neighbour, codeOf, sideOf}
-use Rattle.terrain.specs.Trail.{mappedAt, flowsAt, nextAt, stepsIn}
-use Rattle.terrain.specs.Directed.{Directed, receiverOf}
+use Rattle.terrain.specs.Trail.{mappedAt, flowsAt, nextAt, stepsIn, receiverOf}
+use Rattle.terrain.specs.InnerTrail.{Directed}
 use Rattle.terrain.proofs.Neighbours.{each-side, side-none}
 use Rattle.terrain.proofs.Trails.{Falls, mapped-is, is-mapped, mapped-in, flows-mapped, flows-code, code-next, receiver-flows, receiver-stops, receiver-points}
 

@@ -19,7 +19,7 @@ use Rattle.laws.proofs.Settle.{relax-lower, relax-pass}
 use Rattle.terrain.specs.Cells.{neighbour, codeOf, validAt, rimAt}
 use Rattle.terrain.specs.Flat.{farSteps, hasLower, flatAt, nearestOf, flatStepping}
 use Rattle.terrain.specs.Direction.{steepSide}
-use Rattle.terrain.specs.Levels.{openAt, startAt, steepestIn, downAt, LoweredSteps}
+use Rattle.terrain.specs.InnerLevels.{openAt, startAt, steepestIn, downAt, LoweredSteps}
 use Rattle.terrain.proofs.Neighbours.{code-some, rim-open}
 use Rattle.terrain.proofs.Flats.{flat-valid, flat-high}
 use Rattle.terrain.proofs.Directions.{steep-side}

@@ -10,13 +10,14 @@ use Rattle.laws.specs.Tests.{passed}
 use Rattle.laws.specs.Sums.{sumTo, when}
 use Rattle.laws.proofs.Sums.{sum-ext}
 use Rattle.laws.proofs.Orders.{order-places}
-use Rattle.terrain.specs.Cells.{heightOf, levelsOf, validAt, Ready}
-use Rattle.terrain.specs.Levels.{Levels}
+use Rattle.terrain.specs.Cells.{heightOf, levelsOf, validAt}
+use Rattle.terrain.specs.InnerCells.{Ready}
+use Rattle.terrain.specs.InnerLevels.{Levels}
 use Rattle.terrain.specs.Filled.{top, filledLevels, filledOf}
 use Rattle.terrain.specs.Direction.{directionsOf}
 use Rattle.terrain.specs.Trail.{mappedAt, validsOf, countsOf, longestOf}
 use Rattle.terrain.specs.Falls.{fallsOf}
-use Rattle.terrain.specs.Directed.{Directed}
+use Rattle.terrain.specs.InnerTrail.{Directed}
 use Rattle.terrain.specs.Downhill.{Downhill}
 use Rattle.terrain.specs.Answers.{lent, validOf, directionOf, Mapped, answerOf}
 use Rattle.terrain.specs.declared.Answer.{Answer}

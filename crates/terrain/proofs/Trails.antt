@@ -2,7 +2,7 @@
 -- is on it. Assumes nothing.
 use mathlib.Core.Path.{_≡_, refl, sym, ap, ap₂, subst, _∙_}
 use mathlib.Core.List.{List}
-use mathlib.Core.Logic.{⊎-elim}
+use mathlib.Core.Logic.{inl, inr, ⊎-elim}
 use mathlib.Core.Bool.{Bool, true, false, cond, not, true≢false}
 use Prim.Native.Nat.{ℕ, zero, suc, _+_, _*_, _≤_, _<_}
 use native.Mathlib.Omega.{arith}
@@ -16,8 +16,7 @@ use Rattle.laws.proofs.Lists.{length-tab, getD-tab}
 use Rattle.laws.proofs.Pigeon.{pigeon}
 use Rattle.laws.proofs.Sums.{sum-ext, sum-zero, sum-ones, sum-add, sum-swap, sum-one, sum-when, when-yes, when-no, when-zero, when-swap, when-add, when-under}
 use Rattle.terrain.specs.Cells.{neighbour, codeOf, sideOf}
-use Rattle.terrain.specs.Trail.{Trail, ends, goes, steps, mappedAt, flowsAt, nextAt, stepsIn, passesIn, countAt, countsOf}
-use Rattle.terrain.specs.Directed.{receiverOf}
+use Rattle.terrain.specs.Trail.{Trail, ends, goes, Meets, steps, mappedAt, flowsAt, nextAt, stepsIn, passesIn, countAt, countsOf, receiverOf}
 use Rattle.terrain.proofs.Neighbours.{side-code, code-side, code-small, side-leaves}
 
 -- ---- one step
@@ -161,6 +160,31 @@ module _ (rows cols : ℕ) (dir : List ℕ) where
       elim (ℕ-discrete x z) [
         | yes e ↦ omega (arith, passes-self (suc m) x z e)
         | no d ↦ ⊎-elim (λ q. omega (arith, passes-next m x z d q, passes-le m (next x) z)) (λ q. omega (arith, passes-end (suc m) x z d q)) (two (flows x))
+      ]
+
+  -- a trail that is followed far enough passes what it meets
+  pub meets-passes : {x : ℕ} (t : Trail rows cols dir x) (m z : ℕ) → steps rows cols dir t ≤ m → Meets rows cols dir z t → passesIn rows cols dir m x z ≡ 1
+  meets-passes (ends x e) m z h q = passes-self m x z (sym q)
+  meets-passes (goes x k g e t) zero z h q = absurd (omega arith)
+  meets-passes (goes x k g e t) (suc m) z h q =
+      elim (ℕ-discrete x z) [
+        | yes i ↦ passes-self (suc m) x z i
+        | no d ↦
+            ⊎-elim (λ i. absurd (d (sym i)))
+            (λ i. passes-next m x z d (code-flows rows cols dir x k g e) ∙ ap (λ (y : ℕ). passesIn rows cols dir m y z) (code-next rows cols dir x k g e) ∙ meets-passes t m z (omega arith) i)
+            q
+      ]
+
+  -- and meets what it passes
+  pub passes-meets : {x : ℕ} (t : Trail rows cols dir x) (m z : ℕ) → passesIn rows cols dir m x z ≡ 1 → Meets rows cols dir z t
+  passes-meets (ends x e) m z h = elim (ℕ-discrete x z) [ yes i ↦ sym i | no d ↦ absurd (omega (arith, h, passes-end m x z d (zero-stops rows cols dir x e))) ]
+  passes-meets (goes x k g e t) zero z h = elim (ℕ-discrete x z) [ yes i ↦ inl (sym i) | no d ↦ absurd (omega (arith, h, passes-none x z d)) ]
+  passes-meets (goes x k g e t) (suc m) z h =
+      elim (ℕ-discrete x z) [
+        | yes i ↦ inl (sym i)
+        | no d ↦
+            (let q = passes-next m x z d (code-flows rows cols dir x k g e) ∙ ap (λ (y : ℕ). passesIn rows cols dir m y z) (code-next rows cols dir x k g e) in
+            inr (passes-meets t m z (sym q ∙ h)))
       ]
 
   -- a count is at most the number of cells

@@ -16,10 +16,10 @@ use Rattle.laws.specs.Settle.{startOf}
 use Rattle.laws.proofs.Lists.{in-list, getD-tab, getD-tab-past}
 use Rattle.laws.proofs.Settle.{kept-active, store-kept, start-kept}
 use Rattle.terrain.specs.Cells.{neighbour}
-use Rattle.terrain.specs.Inside.{Beside, besideOf}
-use Rattle.terrain.specs.Flat.{farSteps, flatAt, seenAt, nearestOf, flatStepping, Within, StepsKept, StepsStill}
-use Rattle.terrain.specs.Levels.{Levels}
-use Rattle.terrain.specs.Wading.{Put, queued, dropped, Reached, near, lowered, Waits, Calm, Shores, Wading, Spreading, Waded}
+use Rattle.terrain.specs.InnerCells.{Beside, besideOf}
+use Rattle.terrain.specs.Flat.{farSteps, flatAt, seenAt, nearestOf, flatStepping}
+use Rattle.terrain.specs.InnerFlats.{Within, StepsKept, StepsStill, Put, queued, dropped, Reached, near, lowered, Waits, Calm, Shores, Wading, Spreading, Waded}
+use Rattle.terrain.specs.InnerLevels.{Levels}
 use Rattle.terrain.proofs.Neighbours.{across, across-small, neighbour-back, inland-valid}
 use Rattle.terrain.proofs.Interior.{beside-room, beside-is}
 use Rattle.terrain.proofs.Flooding.{lower-either}

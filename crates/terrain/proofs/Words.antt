@@ -11,9 +11,10 @@ use borrow.Author.Tests.{ltb-true}
 use Rattle.laws.specs.Settle.{startOf}
 use Rattle.laws.proofs.Lists.{in-list}
 use Rattle.laws.proofs.Settle.{kept-active, store-kept, start-kept}
-use Rattle.terrain.specs.Cells.{neighbour, levelsOf, Ready}
-use Rattle.terrain.specs.Filled.{top, lowestOf, filling, filledLevels, Stands}
-use Rattle.terrain.specs.Flood.{FillKept, Steady, doneOf, Above, Flooded}
+use Rattle.terrain.specs.Cells.{neighbour, levelsOf}
+use Rattle.terrain.specs.InnerCells.{Ready}
+use Rattle.terrain.specs.Filled.{top, lowestOf, filling, filledLevels}
+use Rattle.terrain.specs.InnerFlood.{Stands, FillKept, Steady, doneOf, Above, Flooded}
 use Rattle.terrain.proofs.Neighbours.{level-top, levels-long}
 use Rattle.terrain.proofs.Filling.{lowest-is, lowest-top, stands-beside, filling-rule, filled-is}
 

@@ -13,8 +13,6 @@ use Rattle.terrain.specs.Direction.{directionsOf}
 use Rattle.terrain.specs.Trail.{validsOf, countsOf, longestOf}
 use Rattle.terrain.specs.Falls.{fallsOf}
 use Rattle.terrain.specs.Downhill.{Downhill}
-use Rattle.terrain.specs.declared.Judgement.{Judgement}
-use Rattle.terrain.specs.declared.Judgement.the-variants.{Sound, Unsound}
 use Rattle.terrain.specs.declared.Answer.{Answer}
 use Rattle.terrain.specs.declared.Answer.the-variants.{Accepted, Refused}
 
@@ -42,11 +40,6 @@ tests rows cols ground g = sizeTest rows cols ∷ lengthTest (rows * cols) (plac
 unfoldable pub judged : ℕ → ℕ → List ℤ → Grids → Test
 unfolding tests verdict
 judged rows cols ground g = verdict (tests rows cols ground g)
-
--- the verdict that a case of the code's enum stands for
-abbrev pub found : Judgement → Test
-found Sound = passed
-found (Unsound f) = failed (f .number) (f .place)
 
 -- "the number of valid cells"
 unfoldable pub validOf : ℕ → ℕ → List ℤ → ℕ

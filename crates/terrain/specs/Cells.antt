@@ -41,6 +41,10 @@ unfoldable pub neighbour : ℕ → ℕ → ℕ → ℕ → ℕ
 unfolding cellAt
 neighbour rows cols x k = cellAt rows cols (x / cols + getD rowSteps k 0) (x % cols + getD colSteps k 0)
 
+-- how far on the neighbour at each side lies from the one at NW
+pub record Shifts (cols : ℕ) (shifts : List ℕ) : Type 0 where
+  pub steps : (k : ℕ) → k < 8 → getD shifts k 0 ≡ getD rowSteps k 0 * cols + getD colSteps k 0
+
 -- ---- codes: "E 1, SE 2, S 4, SW 8, W 16, NW 32, N 64, NE 128; 0 leaves the map; 255 NoData"
 
 -- the code of a side; 0 for 8, which is no side
@@ -91,13 +95,3 @@ validAt lv x = ltb 0 (getD lv x 0)
 unfoldable pub rimAt : ℕ → ℕ → List ℕ → ℕ → Bool
 unfolding neighbour someOf
 rimAt rows cols lv x = validAt lv x && someOf (λ k. not (validAt lv (neighbour rows cols x k))) 8
-
--- ---- a grid of an accepted call, as the inner functions may assume it
-
-pub record Ready (rows cols : ℕ) (ground : List ℤ) : Type 0 where
-  pub rows-small : rows ≤ 1024
-  pub cols-small : cols ≤ 1024
-  pub cols-some : 0 < cols
-  pub small : rows * cols ≤ 1048576
-  pub long : length ground ≡ rows * cols
-  pub fine : (x : ℕ) → x < length ground → Fine (getD ground x (pos 0))

@@ -8,8 +8,8 @@ use lib.Signed.{_≤ℤ_}
 use lib.Dec.{eqb}
 use Rattle.laws.specs.Sums.{sumTo, when}
 use Rattle.terrain.specs.Cells.{noData, Valid, Rim}
-use Rattle.terrain.specs.Surfaces.{Run, greatest, Drained}
-use Rattle.terrain.specs.Trail.{Trail, OnValid, NeverRises, NeverTwice, lastOf}
+use Rattle.terrain.specs.Surfaces.{Run, highestOf, Drained}
+use Rattle.terrain.specs.Trail.{Trail, OnValid, TrailNeverRises, NeverTwice, lastOf}
 
 -- the surface of a grid of heights
 abbrev pub surfaceOf : List ℤ → ℕ → ℤ
@@ -26,7 +26,7 @@ pub record Trails (rows cols : ℕ) (ground filled : List ℤ) (direction : List
   -- each trail stays on valid cells
   pub stays : {x : ℕ} (t : Trail rows cols direction x) → Valid ground x → OnValid rows cols direction ground t
   -- never rises on the filled heights
-  pub falls : {x : ℕ} (t : Trail rows cols direction x) → Valid ground x → NeverRises rows cols direction (surfaceOf filled) t
+  pub falls : {x : ℕ} (t : Trail rows cols direction x) → Valid ground x → TrailNeverRises rows cols direction (surfaceOf filled) t
   -- never meets a cell twice
   pub once : {x : ℕ} (t : Trail rows cols direction x) → Valid ground x → NeverTwice rows cols direction t
   -- and ends at a rim cell with direction 0
@@ -43,9 +43,9 @@ pub record Surface (rows cols : ℕ) (ground filled : List ℤ) : Type 0 where
   -- every surface of which these two are true is at least as high at every valid cell
   pub lowest : (s : ℕ → ℤ) → Drained rows cols ground s → (x : ℕ) → Valid ground x → surfaceOf filled x ≤ℤ s x
   -- the filled height is the greatest ground height of some run
-  pub reached : (x : ℕ) → Valid ground x → (r : Run rows cols ground x) × (greatest rows cols ground r ≡ surfaceOf filled x)
+  pub reached : (x : ℕ) → Valid ground x → (r : Run rows cols ground x) × (highestOf rows cols ground r ≡ surfaceOf filled x)
   -- and no run stays below it
-  pub least : {x : ℕ} (r : Run rows cols ground x) → surfaceOf filled x ≤ℤ greatest rows cols ground r
+  pub least : {x : ℕ} (r : Run rows cols ground x) → surfaceOf filled x ≤ℤ highestOf rows cols ground r
 
 pub record Drainage (rows cols : ℕ) (ground filled : List ℤ) (direction count : List ℕ) (valids : ℕ) : Type 0 where
   pub trails : Trails rows cols ground filled direction

@@ -6,7 +6,6 @@ use lib.ListN.{getD}
 use lib.IntN.{ℤ}
 use Rattle.laws.specs.Settle.{Lowering, settledOf}
 use Rattle.terrain.specs.Cells.{neighbour, levelOf, levelsOf, heightOf, validAt}
-use Rattle.terrain.specs.Surfaces.{Run, greatest}
 
 -- above every accepted height's level
 abbrev pub top : ℕ
@@ -37,7 +36,3 @@ filledLevels rows cols ground = settledOf (filling rows cols (levelsOf ground))
 unfoldable pub filledOf : ℕ → ℕ → List ℤ → List ℤ
 unfolding filledLevels heightOf
 filledOf rows cols ground = map heightOf (filledLevels rows cols ground)
-
--- a run from x stays at or below the level v: what every lowering of x to v has to show
-abbrev pub Stands : ℕ → ℕ → List ℤ → ℕ → ℕ → Type 0
-Stands rows cols ground x v = (r : Run rows cols ground x) × (levelOf (greatest rows cols ground r) ≤ v)

@@ -7,7 +7,7 @@ use Prim.Native.Nat.{ℕ, zero, suc, _+_, _*_, _≤_, _<_, min}
 use lib.ListN.{getD}
 use lib.Dec.{ltb, eqb}
 use Rattle.laws.specs.First.{someOf}
-use Rattle.laws.specs.Settle.{Lowering, settledOf, Kept, Still}
+use Rattle.laws.specs.Settle.{Lowering, settledOf}
 use Rattle.terrain.specs.Cells.{neighbour, validAt, rimAt}
 
 -- more steps than any flat has
@@ -55,14 +55,3 @@ module _ (rows cols : ℕ) (lv : List ℕ) where
   abbrev pub walked : {x : ℕ} → Walk x → ℕ
   walked (there x v h) = 0
   walked (on x k v h e w) = suc (walked w)
-
-  -- a walk from x has at most v steps: what every lowering of x to v has to show
-  abbrev pub Within : ℕ → ℕ → Type 0
-  Within x v = (w : Walk x) × (walked w ≤ v)
-
-  -- steps on the way, each shown by a walk; and steps that no offer lowers
-  abbrev pub StepsKept : List ℕ → Type 0
-  StepsKept = Kept flatStepping Within
-
-  abbrev pub StepsStill : List ℕ → Type 0
-  StepsStill = Still flatStepping

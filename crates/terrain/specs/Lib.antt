@@ -6,10 +6,12 @@ pub mod Direction
 pub mod Trail
 pub mod Falls
 pub mod Drainage
-pub mod Directed
 pub mod Downhill
 pub mod Answers
-pub mod Inside
-pub mod Flood
-pub mod Levels
-pub mod Wading
+pub mod InnerCells
+pub mod InnerFlood
+pub mod InnerFlats
+pub mod InnerLevels
+pub mod InnerTrail
+pub mod InnerDownhill
+pub mod InnerAnswers

@@ -19,17 +19,17 @@ module _ (rows cols : ℕ) (ground : List ℤ) where
     step : (x k : ℕ) → Valid ground x → k < 8 → Run (neighbour rows cols x k) → Run x
 
   -- the "greatest ground height on the run, both ends counted"
-  abbrev pub greatest : {x : ℕ} → Run x → ℤ
-  greatest (last x r) = getD ground x noData
-  greatest (step x k v h r) = maxZ (getD ground x noData) (greatest r)
+  abbrev pub highestOf : {x : ℕ} → Run x → ℤ
+  highestOf (last x r) = getD ground x noData
+  highestOf (step x k v h r) = maxZ (getD ground x noData) (highestOf r)
 
   -- "A run never rises on a surface if no cell of it is higher there than the cell before."
   -- "A surface gives every valid cell a whole number of cm, of any size"; what s is at any other index does not matter.
-  abbrev pub NeverRises : (ℕ → ℤ) → {x : ℕ} → Run x → Type 0
-  NeverRises s (last x r) = Unit {0}
-  NeverRises s (step x k v h r) = (s (neighbour rows cols x k) ≤ℤ s x) × NeverRises s r
+  abbrev pub RunNeverRises : (ℕ → ℤ) → {x : ℕ} → Run x → Type 0
+  RunNeverRises s (last x r) = Unit {0}
+  RunNeverRises s (step x k v h r) = (s (neighbour rows cols x k) ≤ℤ s x) × RunNeverRises s r
 
   -- a surface at or above the ground, on which from each valid cell a run that never rises reaches a rim cell
   pub record Drained (s : ℕ → ℤ) : Type 0 where
     pub above : (x : ℕ) → Valid ground x → getD ground x noData ≤ℤ s x
-    pub drains : (x : ℕ) → Valid ground x → (r : Run x) × NeverRises s r
+    pub drains : (x : ℕ) → Valid ground x → (r : Run x) × RunNeverRises s r

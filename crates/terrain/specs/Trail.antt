@@ -30,9 +30,9 @@ module _ (rows cols : ℕ) (dir : List ℕ) where
   OnValid ground (goes x k h e t) = Valid ground x × OnValid ground t
 
   -- no cell of the trail is higher on the surface s than the cell before
-  abbrev pub NeverRises : (ℕ → ℤ) → {x : ℕ} → Trail x → Type 0
-  NeverRises s (ends x e) = Unit {0}
-  NeverRises s (goes x k h e t) = (s (neighbour rows cols x k) ≤ℤ s x) × NeverRises s t
+  abbrev pub TrailNeverRises : (ℕ → ℤ) → {x : ℕ} → Trail x → Type 0
+  TrailNeverRises s (ends x e) = Unit {0}
+  TrailNeverRises s (goes x k h e t) = (s (neighbour rows cols x k) ≤ℤ s x) × TrailNeverRises s t
 
   -- the trail meets the cell z
   abbrev pub Meets : ℕ → {x : ℕ} → Trail x → Type 0
@@ -68,6 +68,11 @@ module _ (rows cols : ℕ) (dir : List ℕ) where
   unfoldable pub nextAt : ℕ → ℕ
   unfolding sideOf neighbour
   nextAt x = neighbour rows cols x (sideOf (getD dir x 255))
+
+  -- the cell that x points at; rows * cols, which is no cell, where it points at none
+  unfoldable pub receiverOf : ℕ → ℕ
+  unfolding flowsAt nextAt
+  receiverOf x = cond (flowsAt x) (nextAt x) (rows * cols)
 
   -- the steps of the trail from x, at most m
   unfoldable pub stepsIn : ℕ → ℕ → ℕ

@@ -7,8 +7,8 @@ ghost use mathlib.Core.Path.{_≡_};
 ghost use mathlib.Core.Bool.{true};
 ghost use Prim.Native.Nat.{_+_, _*_, _≤_, _<_, min, max};
 ghost use lib.ListN.{length, getD, replicate};
-ghost use Rattle.terrain.specs.Cells.{rowSteps, colSteps, cellAt, neighbour};
-ghost use Rattle.terrain.specs.Inside.{Sized, Inside, RunsTo, besideOf, Beside, Around, Shifts};
+ghost use Rattle.terrain.specs.Cells.{rowSteps, colSteps, cellAt, neighbour, Shifts};
+ghost use Rattle.terrain.specs.InnerCells.{Sized, Inside, RunsTo, besideOf, Beside, Around};
 
 // Where the neighbour at side k lies, counted from the one at NW: four times its row, plus its column.
 fn place_of(k: usize) -> usize

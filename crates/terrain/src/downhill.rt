@@ -5,9 +5,10 @@ ghost use Prim.Native.Nat.{ℕ, _+_, _*_, _<_};
 ghost use lib.ListN.{length};
 ghost use lib.Dec.{eqb};
 ghost use Rattle.laws.specs.Sums.{when};
-ghost use Rattle.terrain.specs.Directed.{Directed};
-ghost use Rattle.terrain.specs.Downhill.{Downhill, Awaiting, Peeled, Onward};
-ghost use Rattle.terrain.specs.Inside.{Shifts};
+ghost use Rattle.terrain.specs.InnerTrail.{Directed};
+ghost use Rattle.terrain.specs.Downhill.{Downhill};
+ghost use Rattle.terrain.specs.InnerDownhill.{Awaiting, Peeled, Onward};
+ghost use Rattle.terrain.specs.Cells.{Shifts};
 use crate::direction::NO_CODE;
 use crate::trail::receiver;
 

@@ -21,10 +21,11 @@ ghost use Rattle.text.specs.Ranges.{allLong};
 ghost use Rattle.terrain.specs.Filled.{filledLevels, filledOf};
 ghost use Rattle.terrain.specs.Trail.{countsOf, longestOf};
 ghost use Rattle.terrain.specs.Falls.{fallsOf};
-ghost use Rattle.terrain.specs.Directed.{Directed};
+ghost use Rattle.terrain.specs.InnerTrail.{Directed};
 ghost use Rattle.terrain.specs.Downhill.{Downhill};
 ghost use Rattle.terrain.specs.Drainage.{Drainage};
-ghost use Rattle.terrain.specs.Answers.{lent, placesOf, found, judged, validOf, directionOf, After, answer, accepts};
+ghost use Rattle.terrain.specs.Answers.{lent, placesOf, judged, validOf, directionOf, After, answer, accepts};
+ghost use Rattle.terrain.specs.InnerAnswers.{found};
 ghost use Rattle.terrain.specs.declared.Answer.the-variants.{Accepted};
 use text::Refusal;
 

@@ -2,7 +2,8 @@
 use mathlib.Core.Path.{_≡_, refl, sym, ap, _∙_}
 use borrow.Author.Needs.{needs}
 use Rattle.laws.specs.Tests.{passed}
-use Rattle.terrain.specs.Answers.{Grids, lent, found, judged}
+use Rattle.terrain.specs.Answers.{Grids, lent, judged}
+use Rattle.terrain.specs.InnerAnswers.{found}
 use Rattle.terrain.proofs.Answers.{passed-ready, passed-room, refused-is, refuses, accepts-all}
 use Rattle.terrain.proofs.Surveying.{relief-directed, routed-answer, routed-mapped}
 use Rattle.terrain.proofs.map.Statement.{statement}

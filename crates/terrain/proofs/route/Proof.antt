@@ -1,7 +1,7 @@
 -- `terrain::route` meets its contract. Assumes nothing.
 use mathlib.Core.Path.{ap, _∙_}
 use native.Mathlib.Omega.{arith}
-use Rattle.terrain.specs.Inside.{Shifts}
+use Rattle.terrain.specs.Cells.{Shifts}
 use Rattle.terrain.proofs.Descending.{downhill-few}
 use borrow.Author.Needs.{needs}
 use Rattle.terrain.specs.declared.Answer.the-variants.{Accepted}

@@ -2,8 +2,8 @@
 use mathlib.Core.Path.{sym, _∙_}
 use borrow.Author.Needs.{needs}
 use Prim.Native.Nat.{_*_}
-use Rattle.terrain.specs.Cells.{Ready}
-use Rattle.terrain.specs.Levels.{Levels}
+use Rattle.terrain.specs.InnerCells.{Ready}
+use Rattle.terrain.specs.InnerLevels.{Levels}
 use Rattle.terrain.specs.Answers.{lent}
 use Rattle.terrain.proofs.Answers.{Room, passed-ready, passed-room}
 use Rattle.terrain.proofs.Surveying.{relief-levels, relief-small, relief}

@@ -5,7 +5,7 @@ use native.Mathlib.Omega.{arith}
 use native.Mathlib.Nat.{mul-le-mul-right, mod-eq-of-lt}
 use Rattle.terrain.proofs.Interior.{place-row, placed-at}
 use Rattle.terrain.proofs.Neighbours.{row-step-le}
-use Rattle.terrain.specs.Inside.{besideOf}
+use Rattle.terrain.specs.InnerCells.{besideOf}
 use borrow.Author.Needs.{needs}
 use Rattle.terrain.proofs.cells.around.Statement.{statement}
 use Rattle.terrain.proofs.cells.around.Tie as tie

@@ -1,6 +1,6 @@
 -- `terrain::cells::beside` meets its contract. Assumes nothing.
 use native.Mathlib.Omega.{arith}
-use Rattle.terrain.specs.Inside.{besideOf}
+use Rattle.terrain.specs.InnerCells.{besideOf}
 use Rattle.terrain.proofs.Interior.{placed}
 use borrow.Author.Needs.{needs}
 use Rattle.terrain.proofs.cells.beside.Statement.{statement}

@@ -4,7 +4,7 @@ use mathlib.Core.Path.{_≡_}
 use native.Mathlib.Omega.{arith}
 use lib.ListN.{getD}
 use Rattle.terrain.specs.Cells.{rowSteps, colSteps}
-use Rattle.terrain.specs.Inside.{besideOf}
+use Rattle.terrain.specs.InnerCells.{besideOf}
 use Rattle.terrain.proofs.Interior.{shift-few}
 use borrow.Author.Needs.{needs}
 use Rattle.terrain.proofs.cells.shifted.Statement.{statement}

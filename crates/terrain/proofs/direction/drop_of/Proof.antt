@@ -2,7 +2,7 @@
 use native.Mathlib.Omega.{arith}
 use borrow.Author.Tests.{lt-ltb, le-ltb}
 use borrow.Author.Needs.{needs}
-use Rattle.terrain.specs.Levels.{dropOf}
+use Rattle.terrain.specs.InnerLevels.{dropOf}
 use Rattle.terrain.proofs.direction.drop_of.Statement.{statement}
 use Rattle.terrain.proofs.direction.drop_of.Tie as tie
 

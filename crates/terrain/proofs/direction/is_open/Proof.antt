@@ -3,7 +3,7 @@ use mathlib.Core.Path.{_≡_, ap, _∙_}
 use mathlib.Core.Bool.{Bool}
 use Prim.Native.Nat.{ℕ, _≤_, _-_}
 use native.Mathlib.Omega.{arith}
-use Rattle.terrain.specs.Levels.{openAt}
+use Rattle.terrain.specs.InnerLevels.{openAt}
 use Rattle.terrain.proofs.Stepping.{open-none, open-more}
 use borrow.Author.Needs.{needs}
 use Rattle.terrain.proofs.direction.is_open.Statement.{statement}

@@ -6,7 +6,8 @@ use Prim.Native.Nat.{ℕ, _≤_, _<_, _*_, _-_}
 use native.Mathlib.Omega.{arith}
 use lib.ListN.{getD}
 use borrow.Author.Count.{below-more}
-use Rattle.terrain.specs.Flat.{flatAt, StepsKept}
+use Rattle.terrain.specs.Flat.{flatAt}
+use Rattle.terrain.specs.InnerFlats.{StepsKept}
 use Rattle.terrain.specs.Direction.{nearerAt}
 use Rattle.terrain.proofs.Falls.{NoneNearer, nearer-told, nearer-none, nearer-found, Pointing, point-none, point-flat, point-kept, point-all, given-kept, down-long}
 use Rattle.terrain.proofs.Wading.{steps-flat, flat-lt, flat-near, flat-beside, flat-is-beside}

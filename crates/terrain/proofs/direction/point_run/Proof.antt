@@ -3,7 +3,7 @@ use mathlib.Core.Path.{_≡_, refl}
 use Prim.Native.Nat.{_≤_, _-_}
 use native.Mathlib.Omega.{arith}
 use lib.ListN.{length, length-set}
-use Rattle.terrain.specs.Levels.{Down}
+use Rattle.terrain.specs.InnerLevels.{Down}
 use Rattle.terrain.proofs.Stepping.{start-told}
 use Rattle.terrain.proofs.Falls.{down-more}
 use borrow.Author.Needs.{needs}

@@ -1,5 +1,5 @@
 -- `terrain::downhill::await_all` meets its contract. Assumes nothing.
-use Rattle.terrain.specs.Downhill.{Awaiting}
+use Rattle.terrain.specs.InnerDownhill.{Awaiting}
 use Prim.Native.Nat.{ℕ, _*_, _-_, _≤_}
 use mathlib.Core.Path.{_≡_, sym, subst, _∙_}
 use borrow.Author.Needs.{needs}

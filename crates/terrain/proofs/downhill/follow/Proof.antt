@@ -4,7 +4,7 @@ use Prim.Native.Nat.{_+_, _*_, _-_, _≤_, _<_}
 use native.Mathlib.Omega.{arith}
 use lib.ListN.{length}
 use Rattle.laws.proofs.Peel.{hand-room, peel-less}
-use Rattle.terrain.specs.Downhill.{Peeled}
+use Rattle.terrain.specs.InnerDownhill.{Peeled}
 use Rattle.terrain.proofs.Receivers.{pointing}
 use borrow.Author.Needs.{needs}
 use Rattle.terrain.proofs.downhill.follow.Statement.{statement}

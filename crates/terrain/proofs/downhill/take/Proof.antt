@@ -3,7 +3,7 @@ use mathlib.Core.Path.{refl}
 use Prim.Native.Nat.{_*_, _≤_, _<_}
 use native.Mathlib.Omega.{arith}
 use Rattle.laws.proofs.Peel.{hand-cell, hand-room}
-use Rattle.terrain.specs.Downhill.{Peeled}
+use Rattle.terrain.specs.InnerDownhill.{Peeled}
 use Rattle.terrain.proofs.Receivers.{pointing}
 use Rattle.terrain.proofs.Descending.{marked-long, taken-last, taken-waits, taken-next}
 use borrow.Author.Needs.{needs}

@@ -1,6 +1,6 @@
 -- `terrain::filled::drain` meets its contract. Assumes nothing.
 use Rattle.terrain.proofs.Queueing.{to-none, to-then, to-up, to-taken}
-use Rattle.terrain.specs.Flood.{FloodedTo, levelIn}
+use Rattle.terrain.specs.InnerFlood.{FloodedTo, levelIn}
 use lib.ListN.{length, length-set}
 use native.Mathlib.Omega.{arith}
 use Prim.Native.Nat.{_-_}

@@ -4,7 +4,7 @@ use mathlib.Core.Path.{_≡_, refl, ap}
 use native.Mathlib.Omega.{arith}
 use lib.ListN.{length, getD}
 use Rattle.laws.proofs.Search.{failing-none, failing-join}
-use Rattle.terrain.specs.Flood.{FaultyCell, Faulty}
+use Rattle.terrain.specs.InnerFlood.{FaultyCell, Faulty}
 use Rattle.terrain.proofs.Interior.{ready-sized}
 use Rattle.terrain.proofs.Flooding.{ground-read, cell-faulty}
 use borrow.Author.Needs.{needs}

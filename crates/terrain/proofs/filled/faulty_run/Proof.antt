@@ -4,9 +4,9 @@ use Prim.Native.Nat.{ℕ, _-_, _≤_}
 use native.Mathlib.Omega.{arith}
 use lib.ListN.{getD}
 use Rattle.laws.proofs.Search.{failing-none, failing-join}
-use Rattle.terrain.specs.Inside.{RunsTo}
+use Rattle.terrain.specs.InnerCells.{RunsTo}
 use Rattle.terrain.specs.Filled.{lowestOf}
-use Rattle.terrain.specs.Flood.{FaultyCell, Faulty}
+use Rattle.terrain.specs.InnerFlood.{FaultyCell, Faulty}
 use Rattle.terrain.proofs.Interior.{ready-sized}
 use Rattle.terrain.proofs.Flooding.{ground-read, cell-faulty}
 use borrow.Author.Needs.{needs}

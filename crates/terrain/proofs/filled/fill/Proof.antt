@@ -5,6 +5,13 @@ use borrow.Author.Needs.{needs}
 use Rattle.terrain.proofs.filled.fill.Statement.{statement}
 use Rattle.terrain.proofs.filled.fill.Tie as tie
 
+-- the arguments, from the first words on; and those, from the flood on
+abbrev args : tie.After-start → tie.Start
+args c = c .before .before .before
+
+abbrev begun : tie.After-flood → tie.After-start
+begun c = c .before .before .before .before
+
 start-requires : tie.Need-start-requires
 start-requires c κs = search needs
 
@@ -28,9 +35,9 @@ same-length-2 c = search needs
 
 returns-2 : tie.Need-returns-2
 returns-2 c =
-    let s = c .before .before .before .before .before .before .before .before .before .before .before .before in
-    let e = c .before .before .before .before .before .before .before .before .before .start .ensures .0 (s .args .rows) (s .args .columns) (s .pre .1) in
-    flood-filled (s .pre .0) _ _ e (c .before .before .before .before .before .flood .ensures) (λ x h. c .before .faulty-cells .ensures .all (omega arith) x (omega arith) h)
+    let f = c .before .before .before .before .before in
+    let s = args (begun f) in
+    flood-filled (s .pre .0) _ _ (begun f .start .ensures .0 (s .args .rows) (s .args .columns) (s .pre .1)) (f .flood .ensures) (λ x h. c .before .faulty-cells .ensures .all (omega arith) x (omega arith) h)
 
 pub fill-spec : {M : Type 1} → statement M
 fill-spec =

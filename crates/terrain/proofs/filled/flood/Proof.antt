@@ -1,7 +1,7 @@
 -- `terrain::filled::flood` meets its contract. Assumes nothing.
 use Rattle.terrain.proofs.Words.{flooded-then, flooded-same}
 use Rattle.terrain.proofs.Queueing.{to-none, to-then, waiting-up, waiting-none}
-use Rattle.terrain.specs.Flood.{FloodedTo, levelIn}
+use Rattle.terrain.specs.InnerFlood.{FloodedTo, levelIn}
 use native.Mathlib.Omega.{arith}
 use Prim.Native.Nat.{_-_, _≤_}
 use borrow.Author.Needs.{needs}
@@ -14,6 +14,10 @@ Inv-loop rows columns words₀ heads₀ band₀ words heads band = FloodedTo row
 abbrev μ-loop : tie.MeasureT-loop
 μ-loop rows columns words₀ heads₀ band₀ words heads band = 1024 - band
 
+-- the arguments, from the loop on
+abbrev args : tie.At-loop Inv-loop μ-loop → tie.Start Inv-loop μ-loop
+args c = c .before .before .before .before .before .before .before
+
 reach-rims-requires : tie.Need-reach-rims-requires Inv-loop μ-loop
 reach-rims-requires c κs = let s = c .before .before .before in (omega (arith, s .pre .0 .small, s .pre .1), s .pre .0 .cols-some, s .pre .0 .cols-small)
 
@@ -23,7 +27,10 @@ loop-holds c =
     (to-none (waiting-up (c .before .before .reach-rims .ensures .waiting (s .args .rows) (s .pre .0) (s .pre .1) (waiting-none (s .pre .2) 0)) (omega arith)), omega arith)
 
 flood-band-requires : tie.Need-flood-band-requires Inv-loop μ-loop
-flood-band-requires c κs = let s = c .before .before .before .before .before .before .before .before .before .before in (s .pre .0, omega (arith, s .pre .1, c .before .before .before .loop .inv .0 .flooded .long), omega arith, c .before .before .before .loop .inv .0 .waiting)
+flood-band-requires c κs =
+    let l = c .before .before .before in
+    let s = args l in
+    (s .pre .0, omega (arith, s .pre .1, l .loop .inv .0 .flooded .long), omega arith, l .loop .inv .0 .waiting)
 
 add-band : tie.Need-add-band Inv-loop μ-loop
 add-band c = search needs

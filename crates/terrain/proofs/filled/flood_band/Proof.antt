@@ -1,6 +1,6 @@
 -- `terrain::filled::flood_band` meets its contract. Assumes nothing.
 use Rattle.terrain.proofs.Queueing.{to-none, to-then, to-up, to-moved}
-use Rattle.terrain.specs.Flood.{FloodedTo, levelIn}
+use Rattle.terrain.specs.InnerFlood.{FloodedTo, levelIn}
 use native.Mathlib.Omega.{arith}
 use Prim.Native.Nat.{_-_, _≤_}
 use borrow.Author.Needs.{needs}
@@ -12,6 +12,13 @@ Inv-loop rows columns heads₀ words₀ band list₀ heads words list = FloodedT
 
 abbrev μ-loop : tie.MeasureT-loop
 μ-loop rows columns heads₀ words₀ band list₀ heads words list = 2048 - list
+
+-- the arguments, from the opened band on; and that, from the loop on
+abbrev args : tie.After-open-band Inv-loop μ-loop → tie.Start Inv-loop μ-loop
+args c = c .before .before .before .before .before .before
+
+abbrev opened : tie.At-loop Inv-loop μ-loop → tie.After-open-band Inv-loop μ-loop
+opened c = c .before .before .before
 
 mul-if1 : tie.Need-mul-if1 Inv-loop μ-loop
 mul-if1 c = search needs
@@ -26,10 +33,13 @@ open-band-requires : tie.Need-open-band-requires Inv-loop μ-loop
 open-band-requires c κs = let s = c .before .before .before .before .before in (omega (arith, s .pre .0 .small, s .pre .1), s .pre .2)
 
 loop-holds : tie.Need-loop-holds Inv-loop μ-loop
-loop-holds c = (to-none (to-moved (c .before .before .before .before .before .before .before .before .pre .3) (c .before .before .open-band .ensures) .waiting), omega arith, omega arith)
+loop-holds c = let o = c .before .before in (to-none (to-moved (args o .pre .3) (o .open-band .ensures) .waiting), omega arith, omega arith)
 
 drain-requires : tie.Need-drain-requires Inv-loop μ-loop
-drain-requires c κs = let s = c .before .before .before .before .before .before .before .before .before .before .before .before in (s .pre .0, omega (arith, s .pre .1, c .before .before .before .loop .inv .0 .flooded .long), s .pre .2, omega arith, c .before .before .before .loop .inv .0 .waiting)
+drain-requires c κs =
+    let l = c .before .before .before in
+    let s = args (opened l) in
+    (s .pre .0, omega (arith, s .pre .1, l .loop .inv .0 .flooded .long), s .pre .2, omega arith, l .loop .inv .0 .waiting)
 
 add-list : tie.Need-add-list Inv-loop μ-loop
 add-list c = search needs
@@ -44,7 +54,10 @@ same-length : tie.Need-same-length Inv-loop μ-loop
 same-length c = search needs
 
 returns-2 : tie.Need-returns-2 Inv-loop μ-loop
-returns-2 c = to-up (to-then (to-moved (c .before .before .before .before .before .before .before .before .before .before .pre .3) (c .before .before .before .before .open-band .ensures)) (c .before .loop .inv .0)) (omega arith)
+returns-2 c =
+    let l = c .before in
+    let o = opened l in
+    to-up (to-then (to-moved (args o .pre .3) (o .open-band .ensures)) (l .loop .inv .0)) (omega arith)
 
 pub flood-band-spec : {M : Type 1} → statement M
 flood-band-spec =

@@ -4,7 +4,7 @@ use Prim.Native.Nat.{ℕ, _-_, _≤_, _<_}
 use native.Mathlib.Omega.{arith}
 use lib.ListN.{length}
 use lib.Dec.{ltb}
-use Rattle.terrain.specs.Inside.{Inside}
+use Rattle.terrain.specs.InnerCells.{Inside}
 use Rattle.terrain.specs.Filled.{lowestOf}
 use Rattle.terrain.proofs.Interior.{inside-beside, inside-is, inside-lt}
 use Rattle.terrain.proofs.Flooding.{lower-none, lower-more}

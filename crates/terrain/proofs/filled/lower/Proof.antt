@@ -3,7 +3,7 @@ use mathlib.Core.Path.{_≡_}
 use Rattle.laws.proofs.Settle.{relax-lower, relax-pass}
 use Rattle.terrain.specs.Cells.{levelsOf}
 use Rattle.terrain.specs.Filled.{filling}
-use Rattle.terrain.specs.Flood.{offerAt}
+use Rattle.terrain.specs.InnerFlood.{offerAt}
 use Rattle.terrain.proofs.Flooding.{ground-read}
 use borrow.Author.Needs.{needs}
 use Rattle.terrain.proofs.filled.lower.Statement.{statement}

@@ -6,8 +6,8 @@ use Rattle.laws.specs.Lists.{total}
 use Rattle.laws.specs.Settle.{dueOf, Settling}
 use Rattle.laws.proofs.Settle.{start-kept, settling-less, settling-more}
 use Rattle.terrain.specs.Cells.{levelsOf}
-use Rattle.terrain.specs.Filled.{filling, Stands}
-use Rattle.terrain.specs.Flood.{FillKept}
+use Rattle.terrain.specs.Filled.{filling}
+use Rattle.terrain.specs.InnerFlood.{Stands, FillKept}
 use Rattle.terrain.proofs.Filling.{filling-rule, filled-is}
 use borrow.Author.Needs.{needs}
 use Rattle.terrain.proofs.filled.settle.Statement.{statement}
@@ -18,6 +18,10 @@ Inv-loop rows columns ground level₀ again₀ level again = Settling (filling r
 
 abbrev μ-loop : tie.MeasureT-loop
 μ-loop rows columns ground level₀ again₀ level again = total level + dueOf again
+
+-- the arguments, from the loop on
+abbrev args : tie.At-loop Inv-loop μ-loop → tie.Start Inv-loop μ-loop
+args c = c .before .before .before .before .before .before
 
 restart-requires : tie.Need-restart-requires Inv-loop μ-loop
 restart-requires c κs = search needs
@@ -32,17 +36,19 @@ loop-holds c =
     }
 
 sweep-requires : tie.Need-sweep-requires Inv-loop μ-loop
-sweep-requires c κs = (c .before .before .before .before .before .before .before .before .pre .0, c .before .before .loop .inv .kept .long)
+sweep-requires c κs = (args (c .before .before) .pre .0, c .before .before .loop .inv .kept .long)
 
 loop-less : tie.Need-loop-less Inv-loop μ-loop
 loop-less c =
     let r = c .before .before .sweep in
-    settling-less _ _ (filling-rule _ _ _ (c .before .before .before .before .before .before .before .before .before .before .before .pre .0)) _ _ (r .result) (c .before .before .before .before .before .loop .again) (c .before .before .before .before .loop-test .taken) (r .ensures)
+    let l = c .before .before .before .before .before in
+    settling-less _ _ (filling-rule _ _ _ (args l .pre .0)) _ _ (r .result) (l .loop .again) (c .before .before .before .before .loop-test .taken) (r .ensures)
 
 loop-again : tie.Need-loop-again Inv-loop μ-loop
 loop-again c =
     let r = c .before .before .sweep in
-    settling-more _ _ (filling-rule _ _ _ (c .before .before .before .before .before .before .before .before .before .before .before .pre .0)) _ _ (r .result) (c .before .before .before .before .before .loop .inv .kept) (r .ensures)
+    let l = c .before .before .before .before .before in
+    settling-more _ _ (filling-rule _ _ _ (args l .pre .0)) _ _ (r .result) (l .loop .inv .kept) (r .ensures)
 
 same-length : tie.Need-same-length Inv-loop μ-loop
 same-length c = c .before .loop .inv .kept .long ∙ sym (c .before .before .before .before .before .before .before .pre .1)

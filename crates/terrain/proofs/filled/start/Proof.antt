@@ -2,7 +2,7 @@
 use Rattle.terrain.proofs.Words.{done-long, done-set}
 use Rattle.terrain.proofs.Flooding.{ground-read}
 use Rattle.terrain.proofs.Neighbours.{level-top}
-use Rattle.terrain.specs.Flood.{doneOf, queuedFrom}
+use Rattle.terrain.specs.InnerFlood.{doneOf, queuedFrom}
 use Rattle.terrain.proofs.Queueing.{unqueued-more, unqueued-all}
 use Rattle.terrain.specs.Filled.{top}
 use Rattle.terrain.specs.Cells.{levelsOf, validAt}

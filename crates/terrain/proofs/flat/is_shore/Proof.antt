@@ -6,7 +6,7 @@ use native.Mathlib.Omega.{arith}
 use lib.ListN.{length}
 use lib.Dec.{ltb}
 use Rattle.terrain.specs.Flat.{flatAt, nearestOf}
-use Rattle.terrain.specs.Levels.{Levels}
+use Rattle.terrain.specs.InnerLevels.{Levels}
 use Rattle.terrain.proofs.Wading.{flat-lt, flat-near, flat-beside, flat-is-beside, shore-none, shore-more}
 use borrow.Author.Needs.{needs}
 use Rattle.terrain.proofs.flat.is_shore.Statement.{statement}

@@ -1,7 +1,7 @@
 -- `terrain::flat::measure` meets its contract. Assumes nothing.
 use native.Mathlib.Omega.{arith}
 use lib.ListN.{length}
-use Rattle.terrain.specs.Wading.{Waded}
+use Rattle.terrain.specs.InnerFlats.{Waded}
 use Rattle.terrain.proofs.Flats.{steps-are}
 use borrow.Author.Needs.{needs}
 use Rattle.terrain.proofs.flat.measure.Statement.{statement}

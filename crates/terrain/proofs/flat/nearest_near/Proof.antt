@@ -14,6 +14,10 @@ Inv-loop rows columns level steps x v low₀ k₀ low k = (k ≤ 8) × (low ≡ 
 abbrev μ-loop : tie.MeasureT-loop
 μ-loop rows columns level steps x v low₀ k₀ low k = 8 - k
 
+-- the arguments, from the loop on
+abbrev args : tie.At-loop Inv-loop μ-loop → tie.Start Inv-loop μ-loop
+args c = c .before .before .before .before
+
 mul-v : tie.Need-mul-v Inv-loop μ-loop
 mul-v c = search needs
 
@@ -46,8 +50,9 @@ loop-less c = search needs
 
 loop-again : tie.Need-loop-again Inv-loop μ-loop
 loop-again c =
-    let a = c .before .before .before .before .before .before .before .before .before .before .args in
-    (omega arith, cc (nearest-more (a .rows) (a .columns) (a .level .now) (a .steps .now) (a .x) (c .before .before .before .before .before .before .loop .k)))
+    let l = c .before .before .before .before .before .before in
+    let a = args l .args in
+    (omega arith, cc (nearest-more (a .rows) (a .columns) (a .level .now) (a .steps .now) (a .x) (l .loop .k)))
 
 returns : tie.Need-returns Inv-loop μ-loop
 returns c =

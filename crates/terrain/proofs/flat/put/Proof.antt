@@ -1,6 +1,6 @@
 -- `terrain::flat::put` meets its contract. Assumes nothing.
 use native.Mathlib.Omega.{arith}
-use Rattle.terrain.specs.Wading.{queued, dropped}
+use Rattle.terrain.specs.InnerFlats.{queued, dropped}
 use Rattle.terrain.proofs.Stepping.{entry-is}
 use borrow.Author.Needs.{needs}
 use borrow.Author.Needs.{needs}

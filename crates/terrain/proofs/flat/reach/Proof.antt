@@ -1,6 +1,6 @@
 -- `terrain::flat::reach` meets its contract. Assumes nothing.
 use native.Mathlib.Omega.{arith}
-use Rattle.terrain.specs.Wading.{near, lowered}
+use Rattle.terrain.specs.InnerFlats.{near, lowered}
 use borrow.Author.Needs.{needs}
 use borrow.Author.Needs.{needs}
 use Rattle.terrain.proofs.flat.reach.Statement.{statement}

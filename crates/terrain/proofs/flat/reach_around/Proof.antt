@@ -4,8 +4,8 @@ use mathlib.Core.List.{List}
 use Prim.Native.Nat.{ℕ, _≤_, _-_}
 use native.Mathlib.Omega.{arith}
 use lib.ListN.{length}
-use Rattle.terrain.specs.Levels.{Levels}
-use Rattle.terrain.specs.Wading.{Spreading}
+use Rattle.terrain.specs.InnerLevels.{Levels}
+use Rattle.terrain.specs.InnerFlats.{Spreading}
 use Rattle.terrain.proofs.Wading.{flat-near, flat-beside, flat-is-beside, spreading-more, spreading-all}
 use borrow.Author.Needs.{needs}
 use Rattle.terrain.proofs.flat.reach_around.Statement.{statement}

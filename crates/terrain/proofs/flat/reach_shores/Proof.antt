@@ -3,7 +3,7 @@ use mathlib.Core.Path.{_≡_, refl, _∙_}
 use Prim.Native.Nat.{_≤_, _*_, _-_}
 use native.Mathlib.Omega.{arith}
 use lib.ListN.{length}
-use Rattle.terrain.specs.Wading.{Shores}
+use Rattle.terrain.specs.InnerFlats.{Shores}
 use Rattle.terrain.proofs.Wading.{shores-none, shores-all}
 use borrow.Author.Needs.{needs}
 use Rattle.terrain.proofs.flat.reach_shores.Statement.{statement}

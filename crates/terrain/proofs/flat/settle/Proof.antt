@@ -5,7 +5,8 @@ use native.Mathlib.Omega.{arith}
 use Rattle.laws.specs.Lists.{total}
 use Rattle.laws.specs.Settle.{dueOf, Settling}
 use Rattle.laws.proofs.Settle.{settling-more, settling-less}
-use Rattle.terrain.specs.Flat.{flatStepping, Within}
+use Rattle.terrain.specs.Flat.{flatStepping}
+use Rattle.terrain.specs.InnerFlats.{Within}
 use Rattle.terrain.proofs.Flats.{flat-rule, steps-are}
 use borrow.Author.Needs.{needs}
 use Rattle.terrain.proofs.flat.settle.Statement.{statement}

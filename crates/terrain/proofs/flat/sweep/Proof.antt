@@ -7,7 +7,8 @@ use lib.ListN.{length}
 use Rattle.laws.specs.Settle.{Sweeping}
 use Rattle.laws.proofs.Tests.{or-set, or-keep}
 use Rattle.laws.proofs.Settle.{sweep-none, sweep-more}
-use Rattle.terrain.specs.Flat.{flatStepping, Within}
+use Rattle.terrain.specs.Flat.{flatStepping}
+use Rattle.terrain.specs.InnerFlats.{Within}
 use Rattle.terrain.proofs.Flats.{flat-rule}
 use borrow.Author.Needs.{needs}
 use Rattle.terrain.proofs.flat.sweep.Statement.{statement}
@@ -18,6 +19,10 @@ Inv-loop rows columns level steps₀ lowered₀ x₀ steps lowered x = Sweeping 
 
 abbrev μ-loop : tie.MeasureT-loop
 μ-loop rows columns level steps₀ lowered₀ x₀ steps lowered x = rows * columns - x
+
+-- the arguments, from the loop on
+abbrev args : tie.At-loop Inv-loop μ-loop → tie.Start Inv-loop μ-loop
+args c = c .before .before .before
 
 loop-holds : tie.Need-loop-holds Inv-loop μ-loop
 loop-holds c =
@@ -35,7 +40,7 @@ loop-less c = search needs
 
 loop-again : tie.Need-loop-again Inv-loop μ-loop
 loop-again c =
-    let s = c .before .before .before .before .before .before .before .before .before in
+    let s = args (c .before .before .before .before .before .before) in
     let a = s .args in
     let p = c .before .before .before .before .before .before .loop in
     let r = c .before .before .before .lower in (

@@ -4,8 +4,8 @@ use mathlib.Core.List.{List}
 use Prim.Native.Nat.{ℕ, _≤_, _*_, _-_}
 use native.Mathlib.Omega.{arith}
 use lib.ListN.{length}
-use Rattle.terrain.specs.Levels.{Levels}
-use Rattle.terrain.specs.Wading.{Wading}
+use Rattle.terrain.specs.InnerLevels.{Levels}
+use Rattle.terrain.specs.InnerFlats.{Wading}
 use Rattle.terrain.proofs.Wading.{wading-take, waded}
 use borrow.Author.Needs.{needs}
 use Rattle.terrain.proofs.flat.wade.Statement.{statement}

@@ -1,6 +1,6 @@
 -- `terrain::queue::open_band` meets its contract. Assumes nothing.
 use native.Mathlib.Omega.{arith}
-use Rattle.terrain.specs.Flood.{Queueing}
+use Rattle.terrain.specs.InnerFlood.{Queueing}
 use Rattle.terrain.proofs.Queueing.{queueing-none, queueing-then, queueing-old}
 use lib.ListN.{length}
 use Prim.Native.Nat.{_-_}
@@ -14,6 +14,10 @@ Inv-loop heads₀ words₀ band turns₀ heads words turns = Queueing (λ z. ⊥
 
 abbrev μ-loop : tie.MeasureT-loop
 μ-loop heads₀ words₀ band turns₀ heads words turns = length words₀ - turns
+
+-- the cell that was taken, from its next list on
+abbrev taken : tie.After-push Inv-loop μ-loop → tie.After-pop Inv-loop μ-loop
+taken c = c .before .before .before .before .before .before
 
 loop-holds : tie.Need-loop-holds Inv-loop μ-loop
 loop-holds c = (queueing-none, refl)
@@ -50,7 +54,7 @@ loop-less c = search needs
 
 loop-again : tie.Need-loop-again Inv-loop μ-loop
 loop-again c =
-    let t = c .before .before .before .before .before .before .before .before in
+    let t = taken (c .before .before) in
     (queueing-then (t .before .before .before .before .loop .inv .0) (queueing-old (c .before .before .push .ensures) (t .pop .ensures .waits (omega arith))), (cc))
 
 same-length-2 : tie.Need-same-length-2 Inv-loop μ-loop

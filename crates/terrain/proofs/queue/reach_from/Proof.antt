@@ -21,7 +21,7 @@ same-length : tie.Need-same-length
 same-length c = search needs
 
 returns-2 : tie.Need-returns-2
-returns-2 c = rimming-around (c .before .before .before .before .before .before .before .before .pre .2) (omega arith) (c .before .before .spread .ensures)
+returns-2 c = let r = c .before .before in rimming-around (r .before .before .before .before .before .before .pre .2) (omega arith) (r .spread .ensures)
 
 pub reach-from-spec : {M : Type 1} → statement M
 reach-from-spec =

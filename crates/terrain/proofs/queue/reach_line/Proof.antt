@@ -1,5 +1,5 @@
 -- `terrain::queue::reach_line` meets its contract. Assumes nothing.
-use Rattle.terrain.specs.Flood.{Queueing, OnLine}
+use Rattle.terrain.specs.InnerFlood.{Queueing, OnLine}
 use Rattle.terrain.proofs.Queueing.{queueing-none, queueing-then, queueing-as, line-at, line-on}
 use native.Mathlib.Omega.{arith}
 use lib.ListN.{length}
@@ -15,6 +15,10 @@ Inv-loop heads₀ words₀ from step to y₀ heads words y = Queueing (OnLine fr
 abbrev μ-loop : tie.MeasureT-loop
 μ-loop heads₀ words₀ from step to y₀ heads words y = to - y
 
+-- the arguments, from the loop on
+abbrev args : tie.At-loop Inv-loop μ-loop → tie.Start Inv-loop μ-loop
+args c = c .before .before
+
 loop-holds : tie.Need-loop-holds Inv-loop μ-loop
 loop-holds c = (queueing-none, refl, (0, omega arith))
 
@@ -29,8 +33,9 @@ loop-less c = search needs
 
 loop-again : tie.Need-loop-again Inv-loop μ-loop
 loop-again c =
-    let p = c .before .before .before .before .before .before .loop in
-    let a = c .before .before .before .before .before .before .before .before .args in
+    let l = c .before .before .before .before .before .before in
+    let p = l .loop in
+    let a = args l .args in
     (queueing-then (p .inv .0) (queueing-as (c .before .before .reach .ensures) (λ z h e. line-at (p .inv .2 .0) (p .y) z (p .inv .2 .1) (omega arith) e)), (cc), (p .inv .2 .0 + 1, line-on (a .from) (a .step) (p .inv .2 .0) (p .y) (p .inv .2 .1)))
 
 same-length : tie.Need-same-length Inv-loop μ-loop

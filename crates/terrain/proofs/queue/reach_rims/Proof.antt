@@ -1,5 +1,5 @@
 -- `terrain::queue::reach_rims` meets its contract. Assumes nothing.
-use Rattle.terrain.specs.Flood.{Rimming}
+use Rattle.terrain.specs.InnerFlood.{Rimming}
 use Rattle.terrain.proofs.Queueing.{rimming-none, rimming-then}
 use lib.ListN.{length}
 use Prim.Native.Nat.{_-_}

@@ -1,7 +1,7 @@
 -- `terrain::queue::spread` meets its contract. Assumes nothing.
 use Rattle.terrain.proofs.Queueing.{queueing-none, queueing-then, queueing-as}
-use Rattle.terrain.specs.Flood.{Queueing}
-use Rattle.terrain.specs.Inside.{Around}
+use Rattle.terrain.specs.InnerFlood.{Queueing}
+use Rattle.terrain.specs.InnerCells.{Around}
 use lib.ListN.{length}
 use native.Mathlib.Omega.{arith}
 use Prim.Native.Nat.{ℕ, _-_, _≤_}

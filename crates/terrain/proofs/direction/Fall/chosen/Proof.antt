@@ -1,6 +1,6 @@
 -- `terrain::direction::Fall::chosen` meets its contract. Assumes nothing.
 use native.Mathlib.Omega.{arith}
-use Rattle.terrain.specs.Levels.{straight}
+use Rattle.terrain.specs.InnerLevels.{straight}
 use Rattle.terrain.proofs.Keys.{square-small, bit-small}
 use borrow.Author.Needs.{needs}
 use Rattle.terrain.proofs.direction.Fall.chosen.Statement.{statement}

@@ -1,4 +1,4 @@
--- A grid of levels, as the functions of `flat` and `direction` may assume it, and what they answer: no promise of a public call cites this file. A function that is not
+-- A grid of levels, as the functions of `flat` and `direction` may assume it, and what they answer: only inner functions cite this file. A function that is not
 -- told the rows requires that there is a number of them, and ensures for every number that fits. Assumes nothing.
 use mathlib.Core.Path.{_≡_}
 use mathlib.Core.List.{List}
@@ -9,7 +9,7 @@ use lib.Dec.{ltb, leb, eqb}
 use Rattle.laws.specs.Lists.{Agrees}
 use Rattle.laws.specs.Settle.{relaxedOf}
 use Rattle.terrain.specs.Cells.{neighbour, codeOf, validAt}
-use Rattle.terrain.specs.Inside.{Sized}
+use Rattle.terrain.specs.InnerCells.{Sized}
 use Rattle.terrain.specs.Filled.{top}
 use Rattle.terrain.specs.Flat.{farSteps, hasLower, flatAt, nearestOf, flatStepping}
 use Rattle.terrain.specs.Direction.{steepSide}

@@ -1,4 +1,4 @@
--- Steps over flats on the way, as the functions of `flat` leave them: no promise of a public call cites this file. A cell whose steps were lowered waits in a queue until its neighbours are
+-- Steps over flats on the way, as the functions of `flat` leave them: only inner functions cite this file. A cell whose steps were lowered waits in a queue until its neighbours are
 -- reached from it; unless the queue is full, every other cell is calm. Assumes nothing.
 use mathlib.Core.Path.{_≡_}
 use mathlib.Core.List.{List}
@@ -7,8 +7,21 @@ use mathlib.Core.Bool.{true}
 use Prim.Native.Nat.{ℕ, _+_, _*_, _≤_, _<_}
 use lib.ListN.{length, getD, set}
 use lib.IntN.{ℤ, pos}
+use Rattle.laws.specs.Settle.{Kept, Still}
 use Rattle.terrain.specs.Cells.{neighbour}
-use Rattle.terrain.specs.Flat.{farSteps, flatAt, nearestOf, StepsKept, StepsStill}
+use Rattle.terrain.specs.Flat.{farSteps, flatAt, nearestOf, flatStepping, Walk, walked}
+
+module _ (rows cols : ℕ) (lv : List ℕ) where
+  -- a walk from x has at most v steps: what every lowering of x to v has to show
+  abbrev pub Within : ℕ → ℕ → Type 0
+  Within x v = (w : Walk rows cols lv x) × (walked rows cols lv w ≤ v)
+
+  -- steps on the way, each shown by a walk; and steps that no offer lowers
+  abbrev pub StepsKept : List ℕ → Type 0
+  StepsKept = Kept (flatStepping rows cols lv) Within
+
+  abbrev pub StepsStill : List ℕ → Type 0
+  StepsStill = Still (flatStepping rows cols lv)
 
 -- the steps of the cell y set to n, and the cell added to a queue of `end` entries, if that has room: the steps, the queue and its entries afterwards
 pub data Put (d₀ : List ℕ) (q₀ : List ℤ) (end n y : ℕ) : List ℕ → List ℤ → ℕ → Type 0 where

@@ -1,9 +1,10 @@
--- Cells that have all eight neighbours, and where a neighbour lies: for the contracts inside the crate. Of the public calls only `shifts_of` cites this file. Assumes nothing.
+-- Accepted grids, cells that have all eight neighbours, and where a neighbour lies: only inner functions cite this file. Assumes nothing.
 use mathlib.Core.Path.{_≡_}
 use mathlib.Core.List.{List}
 use Prim.Native.Nat.{ℕ, _+_, _-_, _*_, _%_, _≤_, _<_}
-use lib.ListN.{getD}
-use Rattle.terrain.specs.Cells.{rowSteps, colSteps, neighbour}
+use lib.ListN.{length, getD}
+use lib.IntN.{ℤ, pos}
+use Rattle.terrain.specs.Cells.{rowSteps, colSteps, neighbour, Fine}
 
 -- the size of an accepted grid
 pub record Sized (rows cols : ℕ) : Type 0 where
@@ -11,6 +12,15 @@ pub record Sized (rows cols : ℕ) : Type 0 where
   pub cols-small : cols ≤ 1024
   pub cols-some : 0 < cols
   pub small : rows * cols ≤ 1048576
+
+-- a ground of an accepted call
+pub record Ready (rows cols : ℕ) (ground : List ℤ) : Type 0 where
+  pub rows-small : rows ≤ 1024
+  pub cols-small : cols ≤ 1024
+  pub cols-some : 0 < cols
+  pub small : rows * cols ≤ 1048576
+  pub long : length ground ≡ rows * cols
+  pub fine : (x : ℕ) → x < length ground → Fine (getD ground x (pos 0))
 
 -- all eight neighbours of x are on the grid: x is in no outer row and in no outer column
 pub record Inside (rows cols x : ℕ) : Type 0 where
@@ -47,7 +57,3 @@ pub record Edge (rows cols x : ℕ) : Type 0 where
   pub side : ℕ
   pub small : side < 8
   pub none : rows * cols ≤ neighbour rows cols x side
-
--- how far on the neighbour at each side lies from the one at NW
-pub record Shifts (cols : ℕ) (shifts : List ℕ) : Type 0 where
-  pub steps : (k : ℕ) → k < 8 → getD shifts k 0 ≡ getD rowSteps k 0 * cols + getD colSteps k 0

@@ -1,11 +1,11 @@
--- What the functions that follow trails assume of a grid of directions, and what they answer: no promise of a public call cites this file. Assumes nothing.
+-- What the functions that follow trails assume of a grid of directions, and what they answer: only inner functions cite this file. Assumes nothing.
 use mathlib.Core.Path.{_≡_}
 use mathlib.Core.List.{List}
-use mathlib.Core.Bool.{true, false, cond}
+use mathlib.Core.Bool.{true, false}
 use Prim.Native.Nat.{ℕ, _*_, _<_}
 use lib.ListN.{length, getD}
 use Rattle.terrain.specs.Trail.{mappedAt, flowsAt, nextAt, stepsIn}
-use Rattle.terrain.specs.Inside.{Sized}
+use Rattle.terrain.specs.InnerCells.{Sized}
 
 -- a grid of codes along which every trail stays on valid cells and ends
 pub record Directed (rows cols : ℕ) (dir : List ℕ) : Type 0 where
@@ -17,7 +17,3 @@ pub record Directed (rows cols : ℕ) (dir : List ℕ) : Type 0 where
   pub stays : (x : ℕ) → flowsAt rows cols dir x ≡ true → mappedAt rows cols dir (nextAt rows cols dir x) ≡ true
   -- and is further from the end of the trail
   pub less : (x : ℕ) → flowsAt rows cols dir x ≡ true → stepsIn rows cols dir (rows * cols) (nextAt rows cols dir x) < stepsIn rows cols dir (rows * cols) x
-
--- the cell that x points at; rows * cols, which is no cell, where it points at none
-unfoldable pub receiverOf : ℕ → ℕ → List ℕ → ℕ → ℕ
-receiverOf rows cols dir x = cond (flowsAt rows cols dir x) (nextAt rows cols dir x) (rows * cols)

@@ -1,4 +1,4 @@
--- What the functions of `filled` and `queue` answer: no promise of a public call cites this file. A function that is not told the rows requires that there is a
+-- What the functions of `filled` and `queue` answer: only inner functions cite this file. A function that is not told the rows requires that there is a
 -- number of them, and ensures for every number that fits. Assumes nothing.
 use mathlib.Core.Path.{_≡_}
 use mathlib.Core.List.{List, map}
@@ -9,15 +9,20 @@ use lib.IntN.{ℤ}
 use lib.Dec.{ltb}
 use Rattle.laws.specs.Search.{Failing}
 use Rattle.laws.specs.Settle.{Kept, Sweeping, relaxedOf}
-use Rattle.terrain.specs.Cells.{levelsOf, Ready}
-use Rattle.terrain.specs.Inside.{Sized}
-use Rattle.terrain.specs.Filled.{top, lowestOf, filling, Stands}
+use Rattle.terrain.specs.Cells.{levelOf, levelsOf}
+use Rattle.terrain.specs.InnerCells.{Ready, Sized}
+use Rattle.terrain.specs.Surfaces.{Run, highestOf}
+use Rattle.terrain.specs.Filled.{top, lowestOf, filling}
 
 -- a count m of a cell of level v: if it is 0, the cell is not below its ground u, and no higher than that and the lowest level `low` beside it allow
 pub record FaultyCell (v u low m : ℕ) : Type 0 where
   pub few : m ≤ 1
   pub above : m ≡ 0 → u ≤ v
   pub still : m ≡ 0 → v ≤ max u low
+
+-- a run from x stays at or below the level v: what every lowering of x to v has to show
+abbrev pub Stands : ℕ → ℕ → List ℤ → ℕ → ℕ → Type 0
+Stands rows cols ground x v = (r : Run rows cols ground x) × (levelOf (highestOf rows cols ground r) ≤ v)
 
 module _ (rows cols : ℕ) (ground : List ℤ) where
   -- the filling's rule: what the cell x may be lowered to
