@@ -93,11 +93,10 @@ module _ (rows cols : ℕ) (ground : List ℤ) (ready : Ready rows cols ground) 
 
   -- the flow count counts the trail of a cell exactly where the trail meets a cell
   pub passes-same : {x : ℕ} (t : Trail rows cols (directionOf rows cols ground) x) (z : ℕ) → Same (passesIn rows cols (directionOf rows cols ground) (rows * cols) x z ≡ 1) (Meets rows cols (directionOf rows cols ground) z t)
-  passes-same {x} t z =
-      (
-        passes-meets rows cols dir t (rows * cols) z,
-        meets-passes rows cols dir t (rows * cols) z (omega (arith, steps-same t, steps-le rows cols dir (rows * cols) x)),
-      )
+  passes-same {x} t z = (
+    passes-meets rows cols dir t (rows * cols) z,
+    meets-passes rows cols dir t (rows * cols) z (omega (arith, steps-same t, steps-le rows cols dir (rows * cols) x)),
+  )
 
   -- the longest trail is at least as long as each
   pub longest-most : {x : ℕ} (t : Trail rows cols (directionOf rows cols ground) x) → Valid ground x → steps rows cols (directionOf rows cols ground) t ≤ longestOf rows cols (directionOf rows cols ground)

@@ -5,6 +5,7 @@ use mathlib.Core.Bool.{Bool, true, false}
 use Prim.Native.Nat.{ℕ, _*_}
 use lib.ListN.{length}
 use lib.IntN.{ℤ}
+use denote.Ref.{RefT, now}
 use Rattle.laws.specs.Tests.{Test, passed, failed, verdict}
 use Rattle.text.specs.Ranges.{sizeTest, lengthTest, heightTest}
 use Rattle.terrain.specs.Cells.{levelsOf}
@@ -27,6 +28,10 @@ pub record Grids : Type 0 where
 -- the lent slices together
 abbrev pub lent : List ℤ → List ℕ → List ℕ → List ℕ → List ℕ → Grids
 lent filled direction count falls workspace = record { filled = filled; direction = direction; count = count; falls = falls; workspace = workspace }
+
+-- the same of what a call was lent, as it found the slices and as it leaves them
+abbrev pub lentAt : RefT (List ℤ) → RefT (List ℕ) → RefT (List ℕ) → RefT (List ℕ) → RefT (List ℕ) → Grids
+lentAt filled direction count falls workspace = lent (now filled) (now direction) (now count) (now falls) (now workspace)
 
 -- how many places the ground and each lent grid have
 abbrev pub placesOf : List ℤ → Grids → List ℕ

@@ -178,7 +178,9 @@ fn point_run(
     from: usize,
     to: usize,
 )
-    requires { ⌜ Levels rows columns (now level) × RunsTo rows columns from to × (length (now direction) ≡ rows * columns) × (length (now falls) ≡ rows * columns) × (length (now steps) ≡ rows * columns) × Down rows columns (now level) (now direction) (now falls) (now steps) from ⌝ }
+    requires { ⌜ Levels rows columns (now level) × RunsTo rows columns from to × (length (now direction) ≡ rows * columns)
+        × (length (now falls) ≡ rows * columns) × (length (now steps) ≡ rows * columns)
+        × Down rows columns (now level) (now direction) (now falls) (now steps) from ⌝ }
     ensures { λ r. ⌜ Down rows columns (now (level .entry)) (now (direction .exit)) (now (falls .exit)) (now (steps .exit)) to ⌝ }
 {
     let mut x = from;
@@ -200,7 +202,8 @@ fn point_down(
     falls: &mut [u32],
     steps: &mut [u32],
 )
-    requires { ⌜ Levels rows columns (now level) × (length (now direction) ≡ rows * columns) × (length (now falls) ≡ rows * columns) × (length (now steps) ≡ rows * columns) ⌝ }
+    requires { ⌜ Levels rows columns (now level) × (length (now direction) ≡ rows * columns) × (length (now falls) ≡ rows * columns)
+        × (length (now steps) ≡ rows * columns) ⌝ }
     ensures { λ r. ⌜ Down rows columns (now (level .entry)) (now (direction .exit)) (now (falls .exit)) (now (steps .exit)) (rows * columns) ⌝ }
 {
     let mut x: usize = 0;
@@ -228,7 +231,8 @@ fn is_nearer(level: &[u32], steps: &[u32], v: u32, d: u32, y: usize) -> bool
 
 // Points every flat cell at its first neighbour of the same level that is one step nearer. All its neighbours are on the grid.
 fn point_flats(rows: usize, columns: usize, level: &[u32], steps: &[u32], direction: &mut [u8])
-    requires { ⌜ Levels rows columns (now level) × (now steps ≡ flatSteps rows columns (now level)) × (now direction ≡ tab (rows * columns) (downAt rows columns (now level))) ⌝ }
+    requires { ⌜ Levels rows columns (now level) × (now steps ≡ flatSteps rows columns (now level))
+        × (now direction ≡ tab (rows * columns) (downAt rows columns (now level))) ⌝ }
     ensures { λ r. ⌜ now (direction .exit) ≡ directionsOf rows columns (now (level .entry)) ⌝ }
 {
     let mut x: usize = 0;
@@ -262,8 +266,10 @@ pub(crate) fn point(
     steps: &mut [u32],
     queue: &mut [i32],
 )
-    requires { ⌜ Levels rows columns (now level) × (length (now direction) ≡ rows * columns) × (length (now falls) ≡ rows * columns) × (length (now steps) ≡ rows * columns) ⌝ }
-    ensures { λ r. ⌜ (now (direction .exit) ≡ directionsOf rows columns (now (level .entry))) × (now (falls .exit) ≡ fallsOf rows columns (now (level .entry)) (directionsOf rows columns (now (level .entry)))) ⌝ }
+    requires { ⌜ Levels rows columns (now level) × (length (now direction) ≡ rows * columns) × (length (now falls) ≡ rows * columns)
+        × (length (now steps) ≡ rows * columns) ⌝ }
+    ensures { λ r. ⌜ (now (direction .exit) ≡ directionsOf rows columns (now (level .entry)))
+        × (now (falls .exit) ≡ fallsOf rows columns (now (level .entry)) (directionsOf rows columns (now (level .entry)))) ⌝ }
 {
     point_down(rows, columns, level, direction, falls, steps);
     flat::measure(rows, columns, level, steps, queue);

@@ -43,7 +43,8 @@ fn await_one(
     waiting: &mut [u32],
     x: usize,
 )
-    requires { ⌜ Directed rows columns (now direction) × Awaiting rows columns (now direction) (now waiting) x × (x < rows * columns) × Shifts columns (now shifts) ⌝ }
+    requires { ⌜ Directed rows columns (now direction) × Awaiting rows columns (now direction) (now waiting) x × (x < rows * columns)
+        × Shifts columns (now shifts) ⌝ }
     ensures { λ _. ⌜ Awaiting rows columns (now (direction .entry)) (now (waiting .exit)) (x + 1) ⌝ }
 {
     if direction[x] == NO_CODE {
@@ -86,8 +87,11 @@ fn take(
     place: usize,
     x: usize,
 ) -> usize
-    requires { ⌜ Directed rows columns (now direction) × Peeled rows columns (now direction) (now order) (now waiting) place 0 x × (x < rows * columns) × Shifts columns (now shifts) ⌝ }
-    ensures { λ r. ⌜ ((b hand : ℕ) → Peeled rows columns (now (direction .entry)) (now (order .entry)) (now (waiting .entry)) place b x → Onward (rows * columns) b (now (waiting .exit)) r hand → Peeled rows columns (now (direction .entry)) (now (order .exit)) (now (waiting .exit)) (place + 1) b hand) ⌝ }
+    requires { ⌜ Directed rows columns (now direction) × Peeled rows columns (now direction) (now order) (now waiting) place 0 x × (x < rows * columns)
+        × Shifts columns (now shifts) ⌝ }
+    ensures { λ r. ⌜ ((b hand : ℕ) → Peeled rows columns (now (direction .entry)) (now (order .entry)) (now (waiting .entry)) place b x
+        → Onward (rows * columns) b (now (waiting .exit)) r hand
+        → Peeled rows columns (now (direction .entry)) (now (order .exit)) (now (waiting .exit)) (place + 1) b hand) ⌝ }
 {
     order[place] = x as u32;
     waiting[x] = SHUT;
@@ -112,7 +116,8 @@ fn follow(
     place: usize,
     start: usize,
 ) -> usize
-    requires { ⌜ Directed rows columns (now direction) × Peeled rows columns (now direction) (now order) (now waiting) place (start + 1) start × (start < rows * columns) × Shifts columns (now shifts) ⌝ }
+    requires { ⌜ Directed rows columns (now direction) × Peeled rows columns (now direction) (now order) (now waiting) place (start + 1) start
+        × (start < rows * columns) × Shifts columns (now shifts) ⌝ }
     ensures { λ r. ⌜ Peeled rows columns (now (direction .entry)) (now (order .exit)) (now (waiting .exit)) r (start + 1) (rows * columns) ⌝ }
 {
     let mut at = place;
@@ -141,7 +146,8 @@ fn begin(
     place: usize,
     x: usize,
 ) -> usize
-    requires { ⌜ Directed rows columns (now direction) × Peeled rows columns (now direction) (now order) (now waiting) place x (rows * columns) × (x < rows * columns) × Shifts columns (now shifts) ⌝ }
+    requires { ⌜ Directed rows columns (now direction) × Peeled rows columns (now direction) (now order) (now waiting) place x (rows * columns)
+        × (x < rows * columns) × Shifts columns (now shifts) ⌝ }
     ensures { λ r. ⌜ Peeled rows columns (now (direction .entry)) (now (order .exit)) (now (waiting .exit)) r (x + 1) (rows * columns) ⌝ }
 {
     if 0 < waiting[x] {
@@ -159,7 +165,8 @@ pub(crate) fn descend(
     waiting: &mut [u32],
     order: &mut [u32],
 ) -> usize
-    requires { ⌜ Directed rows columns (now direction) × (length (now waiting) ≡ rows * columns) × (length (now order) ≡ rows * columns) × Shifts columns (now shifts) ⌝ }
+    requires { ⌜ Directed rows columns (now direction) × (length (now waiting) ≡ rows * columns) × (length (now order) ≡ rows * columns)
+        × Shifts columns (now shifts) ⌝ }
     ensures { λ r. ⌜ Downhill rows columns (now (direction .entry)) (now (order .exit)) r ⌝ }
 {
     await_all(rows, columns, shifts, direction, waiting);

@@ -77,7 +77,9 @@ fn lowest_near(rows: usize, columns: usize, level: &[u32], x: usize) -> u32
 // Sets every word to where it starts from.
 fn start(ground: &[i32], words: &mut [u32])
     requires { ⌜ ((rows : ℕ) × (columns : ℕ) × Ready rows columns (now ground) × (length (now words) ≡ rows * columns)) ⌝ }
-    ensures { λ r. ⌜ ((rows columns : ℕ) → length (now (words .entry)) ≡ rows * columns → doneOf (now (words .exit)) ≡ startOf (filling rows columns (levelsOf (now (ground .entry))))) × ((x : ℕ) → getD (now (words .exit)) x 0 < queuedFrom) ⌝ }
+    ensures { λ r. ⌜ ((rows columns : ℕ) → length (now (words .entry)) ≡ rows * columns
+        → doneOf (now (words .exit)) ≡ startOf (filling rows columns (levelsOf (now (ground .entry)))))
+        × ((x : ℕ) → getD (now (words .exit)) x 0 < queuedFrom) ⌝ }
 {
     let mut x: usize = 0;
     while x < words.len() {
@@ -95,7 +97,8 @@ fn drain(
     band: usize,
     list: usize,
 )
-    requires { ⌜ Sized rows columns × (length (now words) ≡ rows * columns) × (band < 1024) × (list < 2048) × Waiting rows columns (now words) (levelIn band list) ⌝ }
+    requires { ⌜ Sized rows columns × (length (now words) ≡ rows * columns) × (band < 1024) × (list < 2048)
+        × Waiting rows columns (now words) (levelIn band list) ⌝ }
     ensures { λ r. ⌜ FloodedTo rows columns (now (words .entry)) (now (words .exit)) (levelIn band list) ⌝ }
 {
     let level = level_of(band, list);
@@ -225,7 +228,8 @@ fn sweep(rows: usize, columns: usize, ground: &[i32], level: &mut [u32]) -> bool
 // Sets every level to where sweeps start from.
 fn restart(ground: &[i32], level: &mut [u32])
     requires { ⌜ ((rows : ℕ) × (columns : ℕ) × Ready rows columns (now ground) × (length (now level) ≡ rows * columns)) ⌝ }
-    ensures { λ r. ⌜ ((rows columns : ℕ) → length (now (level .entry)) ≡ rows * columns → now (level .exit) ≡ startOf (filling rows columns (levelsOf (now (ground .entry))))) ⌝ }
+    ensures { λ r. ⌜ ((rows columns : ℕ) → length (now (level .entry)) ≡ rows * columns
+        → now (level .exit) ≡ startOf (filling rows columns (levelsOf (now (ground .entry))))) ⌝ }
 {
     let mut x: usize = 0;
     while x < level.len() {

@@ -32,7 +32,8 @@ fn seen(v: u32, w: u32, steps: u32) -> u32
 // Whether a flat cell x has a cell of its level beside it that has 0 steps. All its neighbours are on the grid.
 fn is_shore(columns: usize, level: &[u32], steps: &[u32], x: usize) -> bool
     requires { ⌜ ((rows : ℕ) × Levels rows columns (now level) × (flatAt rows columns (now level) x ≡ true) × (length (now steps) ≡ rows * columns)) ⌝ }
-    ensures { λ r. ⌜ ((rows : ℕ) → Levels rows columns (now (level .entry)) → flatAt rows columns (now (level .entry)) x ≡ true → r ≡ ltb (nearestOf rows columns (now (level .entry)) (now (steps .entry)) x 8) 1) ⌝ }
+    ensures { λ r. ⌜ ((rows : ℕ) → Levels rows columns (now (level .entry)) → flatAt rows columns (now (level .entry)) x ≡ true
+        → r ≡ ltb (nearestOf rows columns (now (level .entry)) (now (steps .entry)) x 8) 1) ⌝ }
 {
     let v = level[x];
     let mut found = false;
@@ -107,7 +108,9 @@ fn reach_shore(
     x: usize,
 ) -> usize
     requires { ⌜ ((rows : ℕ) × Levels rows columns (now level) × Shores rows columns (now level) (now steps) (now queue) end x × (x < rows * columns)) ⌝ }
-    ensures { λ r. ⌜ ((rows : ℕ) → Levels rows columns (now (level .entry)) → Shores rows columns (now (level .entry)) (now (steps .entry)) (now (queue .entry)) end x → Shores rows columns (now (level .entry)) (now (steps .exit)) (now (queue .exit)) r (x + 1)) ⌝ }
+    ensures { λ r. ⌜ ((rows : ℕ) → Levels rows columns (now (level .entry))
+        → Shores rows columns (now (level .entry)) (now (steps .entry)) (now (queue .entry)) end x
+        → Shores rows columns (now (level .entry)) (now (steps .exit)) (now (queue .exit)) r (x + 1)) ⌝ }
 {
     if steps[x] < FAR {
         return end;
@@ -149,7 +152,9 @@ fn reach_around(
     x: usize,
 ) -> usize
     requires { ⌜ ((rows : ℕ) × (lv : List ℕ) × (from : ℕ) × Levels rows columns lv × Spreading rows columns lv (now steps) (now queue) from end d x 0) ⌝ }
-    ensures { λ r. ⌜ ((rows : ℕ) (lv : List ℕ) (from : ℕ) → Levels rows columns lv → Spreading rows columns lv (now (steps .entry)) (now (queue .entry)) from end d x 0 → Wading rows columns lv (now (steps .exit)) (now (queue .exit)) from r (rows * columns)) ⌝ }
+    ensures { λ r. ⌜ ((rows : ℕ) (lv : List ℕ) (from : ℕ) → Levels rows columns lv
+        → Spreading rows columns lv (now (steps .entry)) (now (queue .entry)) from end d x 0
+        → Wading rows columns lv (now (steps .exit)) (now (queue .exit)) from r (rows * columns)) ⌝ }
 {
     let mut last = end;
     let mut k: usize = 0;
@@ -164,7 +169,8 @@ fn reach_around(
 // entries.
 fn spread(columns: usize, steps: &mut [u32], queue: &mut [i32], end: usize, x: usize) -> usize
     requires { ⌜ ((rows : ℕ) × (lv : List ℕ) × (from : ℕ) × Levels rows columns lv × Wading rows columns lv (now steps) (now queue) from end x) ⌝ }
-    ensures { λ r. ⌜ ((rows : ℕ) (lv : List ℕ) (from : ℕ) → Levels rows columns lv → Wading rows columns lv (now (steps .entry)) (now (queue .entry)) from end x → Wading rows columns lv (now (steps .exit)) (now (queue .exit)) from r (rows * columns)) ⌝ }
+    ensures { λ r. ⌜ ((rows : ℕ) (lv : List ℕ) (from : ℕ) → Levels rows columns lv → Wading rows columns lv (now (steps .entry)) (now (queue .entry)) from end x
+        → Wading rows columns lv (now (steps .exit)) (now (queue .exit)) from r (rows * columns)) ⌝ }
 {
     let own = value_at(steps, x);
     if own < 1 {
@@ -177,7 +183,9 @@ fn spread(columns: usize, steps: &mut [u32], queue: &mut [i32], end: usize, x: u
 // they fill the queue, no steps can be lowered any more.
 fn wade(columns: usize, steps: &mut [u32], queue: &mut [i32], shores: usize) -> usize
     requires { ⌜ ((rows : ℕ) × (lv : List ℕ) × Levels rows columns lv × Wading rows columns lv (now steps) (now queue) 0 shores (rows * columns)) ⌝ }
-    ensures { λ r. ⌜ ((rows : ℕ) (lv : List ℕ) → Levels rows columns lv → Wading rows columns lv (now (steps .entry)) (now (queue .entry)) 0 shores (rows * columns) → Waded rows columns lv (now (steps .exit)) (length (now (queue .entry))) r) ⌝ }
+    ensures { λ r. ⌜ ((rows : ℕ) (lv : List ℕ) → Levels rows columns lv
+        → Wading rows columns lv (now (steps .entry)) (now (queue .entry)) 0 shores (rows * columns)
+        → Waded rows columns lv (now (steps .exit)) (length (now (queue .entry))) r) ⌝ }
 {
     let mut end = shores;
     let mut at: usize = 0;
@@ -205,7 +213,8 @@ fn lower(rows: usize, columns: usize, level: &[u32], steps: &mut [u32], x: usize
 // Lowers the steps of every cell once. True if some were lowered.
 fn sweep(rows: usize, columns: usize, level: &[u32], steps: &mut [u32]) -> bool
     requires { ⌜ Levels rows columns (now level) × (length (now steps) ≡ rows * columns) ⌝ }
-    ensures { λ r. ⌜ Sweeping (flatStepping rows columns (now (level .entry))) (Within rows columns (now (level .entry))) (now (steps .entry)) (now (steps .exit)) (length (now (steps .entry))) r ⌝ }
+    ensures { λ r. ⌜ Sweeping (flatStepping rows columns (now (level .entry))) (Within rows columns (now (level .entry))) (now (steps .entry))
+        (now (steps .exit)) (length (now (steps .entry))) r ⌝ }
 {
     let mut lowered = false;
     let mut x: usize = 0;

@@ -24,7 +24,7 @@ ghost use Rattle.terrain.specs.Falls.{fallsOf};
 ghost use Rattle.terrain.specs.InnerTrail.{Directed};
 ghost use Rattle.terrain.specs.Downhill.{Downhill};
 ghost use Rattle.terrain.specs.Drainage.{Drainage};
-ghost use Rattle.terrain.specs.Answers.{lent, placesOf, judged, validOf, directionOf, After, answer, accepts};
+ghost use Rattle.terrain.specs.Answers.{lentAt, placesOf, judged, validOf, directionOf, After, answer, accepts};
 ghost use Rattle.terrain.specs.InnerAnswers.{found};
 ghost use Rattle.terrain.specs.declared.Answer.the-variants.{Accepted};
 use text::Refusal;
@@ -60,7 +60,8 @@ fn are_long(
     falls: &[u32],
     workspace: &[u32],
 ) -> bool
-    ensures { λ r. ⌜ r ≡ allLong cells (placesOf (now (ground .entry)) (lent (now (filled .entry)) (now (direction .entry)) (now (count .entry)) (now (falls .entry)) (now (workspace .entry)))) ⌝ }
+    ensures { λ r. ⌜ r ≡ allLong cells
+        (placesOf (now (ground .entry)) (lentAt (filled .entry) (direction .entry) (count .entry) (falls .entry) (workspace .entry))) ⌝ }
 {
     (ground.len() == cells)
         & (filled.len() == cells)
@@ -81,7 +82,8 @@ fn judge(
     falls: &[u32],
     workspace: &[u32],
 ) -> Judgement
-    ensures { λ r. ⌜ found r ≡ judged rows columns (now (ground .entry)) (lent (now (filled .entry)) (now (direction .entry)) (now (count .entry)) (now (falls .entry)) (now (workspace .entry))) ⌝ }
+    ensures { λ r. ⌜ found r ≡ judged rows columns (now (ground .entry))
+        (lentAt (filled .entry) (direction .entry) (count .entry) (falls .entry) (workspace .entry)) ⌝ }
 {
     if !text::is_size(rows) {
         return unsound(1, 0);
@@ -111,8 +113,10 @@ fn shape(
     falls: &mut [u32],
     workspace: &mut [u32],
 )
-    requires { ⌜ judged rows columns (now ground) (lent (now filled) (now direction) (now count) (now falls) (now workspace)) ≡ passed ⌝ }
-    ensures { λ _. ⌜ (now (filled .exit) ≡ filledOf rows columns (now (ground .entry))) × (now (direction .exit) ≡ directionOf rows columns (now (ground .entry))) × (now (falls .exit) ≡ fallsOf rows columns (filledLevels rows columns (now (ground .entry))) (directionOf rows columns (now (ground .entry)))) ⌝ }
+    requires { ⌜ judged rows columns (now ground) (lentAt filled direction count falls workspace) ≡ passed ⌝ }
+    ensures { λ _. ⌜ (now (filled .exit) ≡ filledOf rows columns (now (ground .entry)))
+        × (now (direction .exit) ≡ directionOf rows columns (now (ground .entry)))
+        × (now (falls .exit) ≡ fallsOf rows columns (filledLevels rows columns (now (ground .entry))) (directionOf rows columns (now (ground .entry)))) ⌝ }
 {
     filled::fill(rows, columns, ground, workspace);
     direction::point(rows, columns, workspace, direction, falls, count, filled);
@@ -128,7 +132,9 @@ fn route(
     workspace: &mut [u32],
 ) -> Answer
     requires { ⌜ Directed rows columns (now direction) × (length (now count) ≡ rows * columns) × (length (now workspace) ≡ rows * columns) ⌝ }
-    ensures { λ r. ⌜ (now (count .exit) ≡ countsOf rows columns (now (direction .entry))) × ((places : ℕ) × Downhill rows columns (now (direction .entry)) (now (workspace .exit)) places × (r ≡ Accepted places (longestOf rows columns (now (direction .entry))))) ⌝ }
+    ensures { λ r. ⌜ (now (count .exit) ≡ countsOf rows columns (now (direction .entry)))
+        × ((places : ℕ) × Downhill rows columns (now (direction .entry)) (now (workspace .exit)) places
+        × (r ≡ Accepted places (longestOf rows columns (now (direction .entry))))) ⌝ }
 {
     let shifts = shifts_of(columns);
     let places = downhill::descend(rows, columns, &shifts, direction, count, workspace);
@@ -152,9 +158,15 @@ pub fn map(
     falls: &mut [u32],
     workspace: &mut [u32],
 ) -> Answer
-    ensures answers { λ r. ⌜ r ≡ answer rows columns (now (ground .entry)) (lent (now (filled .entry)) (now (direction .entry)) (now (count .entry)) (now (falls .entry)) (now (workspace .entry))) ⌝ }
-    ensures leaves { λ _. ⌜ After rows columns (now (ground .entry)) (lent (now (filled .entry)) (now (direction .entry)) (now (count .entry)) (now (falls .entry)) (now (workspace .entry))) (lent (now (filled .exit)) (now (direction .exit)) (now (count .exit)) (now (falls .exit)) (now (workspace .exit))) (judged rows columns (now (ground .entry)) (lent (now (filled .entry)) (now (direction .entry)) (now (count .entry)) (now (falls .entry)) (now (workspace .entry)))) ⌝ }
-    ensures drains { λ r. ⌜ (accepts r ≡ true → Drainage rows columns (now (ground .entry)) (now (filled .exit)) (now (direction .exit)) (now (count .exit)) (validOf rows columns (now (ground .entry)))) ⌝ }
+    ensures answers { λ r. ⌜ r ≡ answer rows columns (now (ground .entry))
+        (lentAt (filled .entry) (direction .entry) (count .entry) (falls .entry) (workspace .entry)) ⌝ }
+    ensures leaves { λ _. ⌜ After rows columns (now (ground .entry))
+        (lentAt (filled .entry) (direction .entry) (count .entry) (falls .entry) (workspace .entry))
+        (lentAt (filled .exit) (direction .exit) (count .exit) (falls .exit) (workspace .exit))
+        (judged rows columns (now (ground .entry)) (lentAt (filled .entry) (direction .entry) (count .entry) (falls .entry) (workspace .entry))) ⌝ }
+    ensures drains { λ r. ⌜ (accepts r ≡ true
+        → Drainage rows columns (now (ground .entry)) (now (filled .exit)) (now (direction .exit)) (now (count .exit))
+        (validOf rows columns (now (ground .entry)))) ⌝ }
 {
     let judgement = judge(
         rows,

@@ -75,7 +75,8 @@ pub(crate) fn count_flow(
     places: usize,
     count: &mut [u32],
 )
-    requires { ⌜ Directed rows columns (now direction) × Downhill rows columns (now direction) (now order) places × (length (now count) ≡ rows * columns) × Shifts columns (now shifts) ⌝ }
+    requires { ⌜ Directed rows columns (now direction) × Downhill rows columns (now direction) (now order) places × (length (now count) ≡ rows * columns)
+        × Shifts columns (now shifts) ⌝ }
     ensures { λ _. ⌜ now (count .exit) ≡ countsOf rows columns (now (direction .entry)) ⌝ }
 {
     start(rows, columns, direction, count);
@@ -98,7 +99,8 @@ pub(crate) fn longest_trail(
     places: usize,
     workspace: &mut [u32],
 ) -> u32
-    requires { ⌜ Directed rows columns (now direction) × Downhill rows columns (now direction) (now order) places × (length (now workspace) ≡ rows * columns) × Shifts columns (now shifts) ⌝ }
+    requires { ⌜ Directed rows columns (now direction) × Downhill rows columns (now direction) (now order) places × (length (now workspace) ≡ rows * columns)
+        × Shifts columns (now shifts) ⌝ }
     ensures { λ r. ⌜ r ≡ longestOf rows columns (now (direction .entry)) ⌝ }
 {
     let mut most: u32 = 0;
