@@ -50,11 +50,6 @@ module _ {n : ℕ} {to : ℕ → ℕ} {x : ℕ} (r : OnRing n to x) where
         | no d ↦ omega (arith, ring-waits order p after k i (omega arith) l, stands-more order k (walkTo to i x), when-no 1 (ne-eqb (getD order k 0) (walkTo to i x) d), ap (λ (m : ℕ). standsIn order m (walkTo to i x)) (add-one k))
       ]
 
-  ring-cell : {cell : ℕ → Bool} → Pointing n cell to → cell x ≡ true
-  ring-cell {cell} f =
-      let b = ring-before 0 (r .some) in
-      ap cell (sym (b .2 ∙ walk-none to x)) ∙ f .stays (walkTo to (b .0) x) (omega (arith, b .2, r .inside 0 (r .some)))
-
   -- there is none where ranks fall
   pub falling-ringless : {rank : ℕ → ℕ} → Falling n to rank → ⊥
   falling-ringless {rank} f = omega (arith, r .some, falls (r .steps) (omega arith), ap rank (r .back))
