@@ -6,21 +6,21 @@ mod Directions
 mod Trails
 mod Receivers
 mod Inflows
-mod Descending
-mod Passing
-mod Following
 mod Drainage
 mod Answers
-mod Interior
-mod Flooding
-mod Stepping
-mod Wading
-mod Keys
-mod Falls
 mod Dropping
-mod Surveying
-mod Words
-mod Edges
-mod Queueing
 pub mod Reading
 pub mod Public
+mod InnerDescending
+mod InnerPassing
+mod InnerFollowing
+mod InnerInterior
+mod InnerFlooding
+mod InnerStepping
+mod InnerWading
+mod InnerKeys
+mod InnerPointing
+mod InnerSurveying
+mod InnerWords
+mod InnerEdges
+mod InnerQueueing

@@ -5,7 +5,7 @@ use Rattle.laws.specs.Tests.{passed}
 use Rattle.terrain.specs.Answers.{Grids, lent, judged}
 use Rattle.terrain.specs.InnerAnswers.{found}
 use Rattle.terrain.proofs.Answers.{passed-ready, passed-room, refused-is, refuses, accepts-all}
-use Rattle.terrain.proofs.Surveying.{relief-directed, routed-answer, routed-mapped}
+use Rattle.terrain.proofs.InnerSurveying.{relief-directed, routed-answer, routed-mapped}
 use Rattle.terrain.proofs.map.Statement.{statement}
 use Rattle.terrain.proofs.map.Tie as tie
 

@@ -2,7 +2,7 @@
 use mathlib.Core.Path.{ap, _∙_}
 use native.Mathlib.Omega.{arith}
 use Rattle.terrain.specs.Cells.{Shifts}
-use Rattle.terrain.proofs.Descending.{downhill-few}
+use Rattle.terrain.proofs.InnerDescending.{downhill-few}
 use borrow.Author.Needs.{needs}
 use Rattle.terrain.specs.declared.Answer.the-variants.{Accepted}
 use Rattle.terrain.proofs.route.Statement.{statement}

@@ -6,7 +6,7 @@ use Rattle.terrain.specs.InnerCells.{Ready}
 use Rattle.terrain.specs.InnerLevels.{Levels}
 use Rattle.terrain.specs.Answers.{lent}
 use Rattle.terrain.proofs.Answers.{Room, passed-ready, passed-room}
-use Rattle.terrain.proofs.Surveying.{relief-levels, relief-small, relief}
+use Rattle.terrain.proofs.InnerSurveying.{relief-levels, relief-small, relief}
 use Rattle.terrain.proofs.shape.Statement.{statement}
 use Rattle.terrain.proofs.shape.Tie as tie
 

@@ -3,7 +3,7 @@ use Prim.Native.Nat.{ℕ, _+_, _*_, _/_, _^_, _≤_}
 use mathlib.Core.Path.{subst, sym}
 use native.Mathlib.Omega.{arith}
 use native.Mathlib.Nat.{mul-le-mul-right, mod-eq-of-lt}
-use Rattle.terrain.proofs.Interior.{place-row, placed-at}
+use Rattle.terrain.proofs.InnerInterior.{place-row, placed-at}
 use Rattle.terrain.proofs.Neighbours.{row-step-le}
 use Rattle.terrain.specs.InnerCells.{besideOf}
 use borrow.Author.Needs.{needs}

@@ -1,7 +1,7 @@
 -- `terrain::cells::beside` meets its contract. Assumes nothing.
 use native.Mathlib.Omega.{arith}
 use Rattle.terrain.specs.InnerCells.{besideOf}
-use Rattle.terrain.proofs.Interior.{placed}
+use Rattle.terrain.proofs.InnerInterior.{placed}
 use borrow.Author.Needs.{needs}
 use Rattle.terrain.proofs.cells.beside.Statement.{statement}
 use Rattle.terrain.proofs.cells.beside.Tie as tie

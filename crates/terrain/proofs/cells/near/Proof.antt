@@ -2,7 +2,7 @@
 use native.Mathlib.Omega.{arith}
 use Rattle.terrain.specs.Cells.{neighbour}
 use native.Mathlib.Nat.{div-le-self, mod-le}
-use Rattle.terrain.proofs.Interior.{place-row, place-col}
+use Rattle.terrain.proofs.InnerInterior.{place-row, place-col}
 use Rattle.terrain.proofs.Neighbours.{row-step-le, col-step-le}
 use borrow.Author.Needs.{needs}
 use Rattle.terrain.proofs.cells.near.Statement.{statement}

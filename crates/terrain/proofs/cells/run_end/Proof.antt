@@ -1,6 +1,6 @@
 -- `terrain::cells::run_end` meets its contract. Assumes nothing.
 use native.Mathlib.Omega.{arith}
-use Rattle.terrain.proofs.Interior.{run-inside}
+use Rattle.terrain.proofs.InnerInterior.{run-inside}
 use borrow.Author.Needs.{needs}
 use Rattle.terrain.proofs.cells.run_end.Statement.{statement}
 use Rattle.terrain.proofs.cells.run_end.Tie as tie

@@ -5,7 +5,7 @@ use native.Mathlib.Omega.{arith}
 use lib.ListN.{getD}
 use Rattle.terrain.specs.Cells.{rowSteps, colSteps}
 use Rattle.terrain.specs.InnerCells.{besideOf}
-use Rattle.terrain.proofs.Interior.{shift-few}
+use Rattle.terrain.proofs.InnerInterior.{shift-few}
 use borrow.Author.Needs.{needs}
 use Rattle.terrain.proofs.cells.shifted.Statement.{statement}
 use Rattle.terrain.proofs.cells.shifted.Tie as tie

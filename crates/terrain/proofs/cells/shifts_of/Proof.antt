@@ -1,5 +1,5 @@
 -- `terrain::cells::shifts_of` meets its contract. Assumes nothing.
-use Rattle.terrain.proofs.Interior.{shifts-are}
+use Rattle.terrain.proofs.InnerInterior.{shifts-are}
 use borrow.Author.Needs.{needs}
 use Rattle.terrain.proofs.cells.shifts_of.Statement.{statement}
 use Rattle.terrain.proofs.cells.shifts_of.Tie as tie

@@ -2,7 +2,7 @@
 use mathlib.Core.Path.{_≡_, refl, ap, _∙_}
 use Prim.Native.Nat.{_≤_, _-_, max}
 use native.Mathlib.Omega.{arith}
-use Rattle.terrain.proofs.Keys.{KeysTo, keys-none, keys-more, keys-small, keys-fall}
+use Rattle.terrain.proofs.InnerKeys.{KeysTo, keys-none, keys-more, keys-small, keys-fall}
 use borrow.Author.Needs.{needs}
 use Rattle.terrain.proofs.direction.fall_at.Statement.{statement}
 use Rattle.terrain.proofs.direction.fall_at.Tie as tie

@@ -4,7 +4,7 @@ use mathlib.Core.Bool.{Bool}
 use Prim.Native.Nat.{ℕ, _≤_, _-_}
 use native.Mathlib.Omega.{arith}
 use Rattle.terrain.specs.InnerLevels.{openAt}
-use Rattle.terrain.proofs.Stepping.{open-none, open-more}
+use Rattle.terrain.proofs.InnerStepping.{open-none, open-more}
 use borrow.Author.Needs.{needs}
 use Rattle.terrain.proofs.direction.is_open.Statement.{statement}
 use Rattle.terrain.proofs.direction.is_open.Tie as tie

@@ -1,6 +1,6 @@
 -- `terrain::direction::key_of` meets its contract. Assumes nothing.
 use native.Mathlib.Omega.{arith}
-use Rattle.terrain.proofs.Keys.{drop-small}
+use Rattle.terrain.proofs.InnerKeys.{drop-small}
 use borrow.Author.Needs.{needs}
 use Rattle.terrain.proofs.direction.key_of.Statement.{statement}
 use Rattle.terrain.proofs.direction.key_of.Tie as tie

@@ -3,7 +3,7 @@ use mathlib.Core.Path.{ap, _∙_}
 use Prim.Native.Nat.{ℕ}
 use native.Mathlib.Omega.{arith}
 use lib.ListN.{getD}
-use Rattle.terrain.proofs.Interior.{inside-beside, inside-is, inside-lt}
+use Rattle.terrain.proofs.InnerInterior.{inside-beside, inside-is, inside-lt}
 use borrow.Author.Needs.{needs}
 use borrow.Author.Needs.{needs}
 use Rattle.terrain.proofs.direction.level_beside.Statement.{statement}

@@ -1,6 +1,6 @@
 -- `terrain::direction::point` meets its contract. Assumes nothing.
 use mathlib.Core.Path.{_∙_}
-use Rattle.terrain.proofs.Falls.{down-codes, down-falls, down-starts}
+use Rattle.terrain.proofs.InnerPointing.{down-codes, down-falls, down-starts}
 use Rattle.terrain.proofs.Dropping.{falls-written}
 use borrow.Author.Needs.{needs}
 use Rattle.terrain.proofs.direction.point.Statement.{statement}

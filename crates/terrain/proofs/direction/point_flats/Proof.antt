@@ -9,8 +9,8 @@ use borrow.Author.Count.{below-more}
 use Rattle.terrain.specs.Flat.{flatAt}
 use Rattle.terrain.specs.InnerFlats.{StepsKept}
 use Rattle.terrain.specs.Direction.{nearerAt}
-use Rattle.terrain.proofs.Falls.{NoneNearer, nearer-told, nearer-none, nearer-found, Pointing, point-none, point-flat, point-kept, point-all, given-kept, down-long}
-use Rattle.terrain.proofs.Wading.{steps-flat, flat-lt, flat-near, flat-beside, flat-is-beside}
+use Rattle.terrain.proofs.InnerPointing.{NoneNearer, nearer-told, nearer-none, nearer-found, Pointing, point-none, point-flat, point-kept, point-all, given-kept, down-long}
+use Rattle.terrain.proofs.InnerWading.{steps-flat, flat-lt, flat-near, flat-beside, flat-is-beside}
 use borrow.Author.Needs.{needs}
 use Rattle.terrain.proofs.direction.point_flats.Statement.{statement}
 use Rattle.terrain.proofs.direction.point_flats.Tie as tie

@@ -4,8 +4,8 @@ use Prim.Native.Nat.{_≤_, _-_}
 use native.Mathlib.Omega.{arith}
 use lib.ListN.{length, length-set}
 use Rattle.terrain.specs.InnerLevels.{Down}
-use Rattle.terrain.proofs.Stepping.{start-told}
-use Rattle.terrain.proofs.Falls.{down-more}
+use Rattle.terrain.proofs.InnerStepping.{start-told}
+use Rattle.terrain.proofs.InnerPointing.{down-more}
 use borrow.Author.Needs.{needs}
 use Rattle.terrain.proofs.direction.point_run.Statement.{statement}
 use Rattle.terrain.proofs.direction.point_run.Tie as tie

@@ -1,5 +1,5 @@
 -- `terrain::downhill::await_one` meets its contract. Assumes nothing.
-use Rattle.terrain.proofs.Descending.{await-small, await-off, await-on}
+use Rattle.terrain.proofs.InnerDescending.{await-small, await-off, await-on}
 use Rattle.terrain.proofs.Receivers.{code-mapped, receiver-none}
 use mathlib.Core.Path.{refl}
 use native.Mathlib.Omega.{arith}

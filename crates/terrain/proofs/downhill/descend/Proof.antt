@@ -1,5 +1,5 @@
 -- `terrain::downhill::descend` meets its contract. Assumes nothing.
-use Rattle.terrain.proofs.Descending.{await-peeled, peeled-all}
+use Rattle.terrain.proofs.InnerDescending.{await-peeled, peeled-all}
 use Rattle.terrain.specs.InnerDownhill.{Peeled}
 use Prim.Native.Nat.{_*_, _-_, _≤_}
 use mathlib.Core.Path.{sym, _∙_}

@@ -1,5 +1,5 @@
 -- `terrain::downhill::start` meets its contract. Assumes nothing.
-use Rattle.terrain.proofs.Descending.{await-start}
+use Rattle.terrain.proofs.InnerDescending.{await-start}
 use Rattle.laws.proofs.Lists.{agrees-more}
 use Rattle.laws.specs.Sums.{when}
 use Rattle.laws.specs.Lists.{Agrees}

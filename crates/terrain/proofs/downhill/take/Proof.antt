@@ -5,7 +5,7 @@ use native.Mathlib.Omega.{arith}
 use Rattle.laws.proofs.Peel.{hand-cell, hand-room}
 use Rattle.terrain.specs.InnerDownhill.{Peeled}
 use Rattle.terrain.proofs.Receivers.{pointing}
-use Rattle.terrain.proofs.Descending.{marked-long, taken-last, taken-waits, taken-next}
+use Rattle.terrain.proofs.InnerDescending.{marked-long, taken-last, taken-waits, taken-next}
 use borrow.Author.Needs.{needs}
 use Rattle.terrain.proofs.downhill.take.Statement.{statement}
 use Rattle.terrain.proofs.downhill.take.Tie as tie

@@ -1,5 +1,5 @@
 -- `terrain::filled::drain` meets its contract. Assumes nothing.
-use Rattle.terrain.proofs.Queueing.{to-none, to-then, to-up, to-taken}
+use Rattle.terrain.proofs.InnerQueueing.{to-none, to-then, to-up, to-taken}
 use Rattle.terrain.specs.InnerFlood.{FloodedTo, levelIn}
 use lib.ListN.{length, length-set}
 use native.Mathlib.Omega.{arith}

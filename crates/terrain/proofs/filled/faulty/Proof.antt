@@ -1,5 +1,5 @@
 -- `terrain::filled::faulty` meets its contract. Assumes nothing.
-use Rattle.terrain.proofs.Flooding.{not-faulty}
+use Rattle.terrain.proofs.InnerFlooding.{not-faulty}
 use borrow.Author.Needs.{needs}
 use borrow.Author.Needs.{needs}
 use Rattle.terrain.proofs.filled.faulty.Statement.{statement}

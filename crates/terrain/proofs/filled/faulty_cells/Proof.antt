@@ -5,8 +5,8 @@ use native.Mathlib.Omega.{arith}
 use lib.ListN.{length, getD}
 use Rattle.laws.proofs.Search.{failing-none, failing-join}
 use Rattle.terrain.specs.InnerFlood.{FaultyCell, Faulty}
-use Rattle.terrain.proofs.Interior.{ready-sized}
-use Rattle.terrain.proofs.Flooding.{ground-read, cell-faulty}
+use Rattle.terrain.proofs.InnerInterior.{ready-sized}
+use Rattle.terrain.proofs.InnerFlooding.{ground-read, cell-faulty}
 use borrow.Author.Needs.{needs}
 use Rattle.terrain.proofs.filled.faulty_cells.Statement.{statement}
 use Rattle.terrain.proofs.filled.faulty_cells.Tie as tie

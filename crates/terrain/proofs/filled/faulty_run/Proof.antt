@@ -7,8 +7,8 @@ use Rattle.laws.proofs.Search.{failing-none, failing-join}
 use Rattle.terrain.specs.InnerCells.{RunsTo}
 use Rattle.terrain.specs.Filled.{lowestOf}
 use Rattle.terrain.specs.InnerFlood.{FaultyCell, Faulty}
-use Rattle.terrain.proofs.Interior.{ready-sized}
-use Rattle.terrain.proofs.Flooding.{ground-read, cell-faulty}
+use Rattle.terrain.proofs.InnerInterior.{ready-sized}
+use Rattle.terrain.proofs.InnerFlooding.{ground-read, cell-faulty}
 use borrow.Author.Needs.{needs}
 use Rattle.terrain.proofs.filled.faulty_run.Statement.{statement}
 use Rattle.terrain.proofs.filled.faulty_run.Tie as tie

@@ -1,6 +1,6 @@
 -- `terrain::filled::fill` meets its contract. Assumes nothing.
 use native.Mathlib.Omega.{arith}
-use Rattle.terrain.proofs.Words.{flood-filled}
+use Rattle.terrain.proofs.InnerWords.{flood-filled}
 use borrow.Author.Needs.{needs}
 use Rattle.terrain.proofs.filled.fill.Statement.{statement}
 use Rattle.terrain.proofs.filled.fill.Tie as tie

@@ -1,6 +1,6 @@
 -- `terrain::filled::flood` meets its contract. Assumes nothing.
-use Rattle.terrain.proofs.Words.{flooded-then, flooded-same}
-use Rattle.terrain.proofs.Queueing.{to-none, to-then, waiting-up, waiting-none}
+use Rattle.terrain.proofs.InnerWords.{flooded-then, flooded-same}
+use Rattle.terrain.proofs.InnerQueueing.{to-none, to-then, waiting-up, waiting-none}
 use Rattle.terrain.specs.InnerFlood.{FloodedTo, levelIn}
 use native.Mathlib.Omega.{arith}
 use Prim.Native.Nat.{_-_, _≤_}

@@ -1,5 +1,5 @@
 -- `terrain::filled::flood_band` meets its contract. Assumes nothing.
-use Rattle.terrain.proofs.Queueing.{to-none, to-then, to-up, to-moved}
+use Rattle.terrain.proofs.InnerQueueing.{to-none, to-then, to-up, to-moved}
 use Rattle.terrain.specs.InnerFlood.{FloodedTo, levelIn}
 use native.Mathlib.Omega.{arith}
 use Prim.Native.Nat.{_-_, _≤_}

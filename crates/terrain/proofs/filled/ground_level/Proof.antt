@@ -8,7 +8,7 @@ use lib.Dec.{T}
 use mir.Syntax.{w32}
 use mir.Val.{Fits}
 use Rattle.terrain.proofs.Neighbours.{level-fine, level-read}
-use Rattle.terrain.proofs.Flooding.{sum-fits, level-word}
+use Rattle.terrain.proofs.InnerFlooding.{sum-fits, level-word}
 use borrow.Author.Needs.{needs}
 use Rattle.terrain.proofs.filled.ground_level.Statement.{statement}
 use Rattle.terrain.proofs.filled.ground_level.Tie as tie

@@ -6,8 +6,8 @@ use lib.ListN.{length}
 use lib.Dec.{ltb}
 use Rattle.terrain.specs.InnerCells.{Inside}
 use Rattle.terrain.specs.Filled.{lowestOf}
-use Rattle.terrain.proofs.Interior.{inside-beside, inside-is, inside-lt}
-use Rattle.terrain.proofs.Flooding.{lower-none, lower-more}
+use Rattle.terrain.proofs.InnerInterior.{inside-beside, inside-is, inside-lt}
+use Rattle.terrain.proofs.InnerFlooding.{lower-none, lower-more}
 use borrow.Author.Needs.{needs}
 use Rattle.terrain.proofs.filled.has_lower.Statement.{statement}
 use Rattle.terrain.proofs.filled.has_lower.Tie as tie

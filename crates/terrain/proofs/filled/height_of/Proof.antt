@@ -1,5 +1,5 @@
 -- `terrain::filled::height_of` meets its contract. Assumes nothing.
-use Rattle.terrain.proofs.Flooding.{difference-fits, height-word}
+use Rattle.terrain.proofs.InnerFlooding.{difference-fits, height-word}
 use borrow.Author.Needs.{needs}
 use Rattle.terrain.proofs.filled.height_of.Statement.{statement}
 use Rattle.terrain.proofs.filled.height_of.Tie as tie

@@ -4,7 +4,7 @@ use Rattle.laws.proofs.Settle.{relax-lower, relax-pass}
 use Rattle.terrain.specs.Cells.{levelsOf}
 use Rattle.terrain.specs.Filled.{filling}
 use Rattle.terrain.specs.InnerFlood.{offerAt}
-use Rattle.terrain.proofs.Flooding.{ground-read}
+use Rattle.terrain.proofs.InnerFlooding.{ground-read}
 use borrow.Author.Needs.{needs}
 use Rattle.terrain.proofs.filled.lower.Statement.{statement}
 use Rattle.terrain.proofs.filled.lower.Tie as tie

@@ -1,5 +1,5 @@
 -- `terrain::filled::restart` meets its contract. Assumes nothing.
-use Rattle.terrain.proofs.Flooding.{ground-read}
+use Rattle.terrain.proofs.InnerFlooding.{ground-read}
 use Rattle.terrain.proofs.Neighbours.{level-top}
 use Rattle.terrain.specs.Filled.{top}
 use Rattle.terrain.specs.Cells.{levelsOf, validAt}

@@ -1,9 +1,9 @@
 -- `terrain::filled::start` meets its contract. Assumes nothing.
-use Rattle.terrain.proofs.Words.{done-long, done-set}
-use Rattle.terrain.proofs.Flooding.{ground-read}
+use Rattle.terrain.proofs.InnerWords.{done-long, done-set}
+use Rattle.terrain.proofs.InnerFlooding.{ground-read}
 use Rattle.terrain.proofs.Neighbours.{level-top}
 use Rattle.terrain.specs.InnerFlood.{doneOf, queuedFrom}
-use Rattle.terrain.proofs.Queueing.{unqueued-more, unqueued-all}
+use Rattle.terrain.proofs.InnerQueueing.{unqueued-more, unqueued-all}
 use Rattle.terrain.specs.Filled.{top}
 use Rattle.terrain.specs.Cells.{levelsOf, validAt}
 use Rattle.laws.proofs.Lists.{agrees-none, agrees-more, agrees-tab}

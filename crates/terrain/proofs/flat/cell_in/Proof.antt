@@ -8,7 +8,7 @@ use lib.Signed.{ltZ}
 use native.Mathlib.Omega.{arith}
 use borrow.Author.Tests.{le-ltb}
 use lib.ListN.{getD}
-use Rattle.terrain.proofs.Stepping.{entry-casts, cell-is}
+use Rattle.terrain.proofs.InnerStepping.{entry-casts, cell-is}
 use borrow.Author.Needs.{needs}
 use borrow.Author.Needs.{needs}
 use Rattle.terrain.proofs.flat.cell_in.Statement.{statement}

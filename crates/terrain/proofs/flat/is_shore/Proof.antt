@@ -7,7 +7,7 @@ use lib.ListN.{length}
 use lib.Dec.{ltb}
 use Rattle.terrain.specs.Flat.{flatAt, nearestOf}
 use Rattle.terrain.specs.InnerLevels.{Levels}
-use Rattle.terrain.proofs.Wading.{flat-lt, flat-near, flat-beside, flat-is-beside, shore-none, shore-more}
+use Rattle.terrain.proofs.InnerWading.{flat-lt, flat-near, flat-beside, flat-is-beside, shore-none, shore-more}
 use borrow.Author.Needs.{needs}
 use Rattle.terrain.proofs.flat.is_shore.Statement.{statement}
 use Rattle.terrain.proofs.flat.is_shore.Tie as tie

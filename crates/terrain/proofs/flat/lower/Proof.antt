@@ -4,7 +4,7 @@ use Prim.Native.Nat.{_+_}
 use native.Mathlib.Omega.{arith}
 use Rattle.terrain.specs.Flat.{nearestOf}
 use Rattle.terrain.proofs.Flats.{nearest-far}
-use Rattle.terrain.proofs.Stepping.{steps-lowered, steps-passed}
+use Rattle.terrain.proofs.InnerStepping.{steps-lowered, steps-passed}
 use borrow.Author.Needs.{needs}
 use Rattle.terrain.proofs.flat.lower.Statement.{statement}
 use Rattle.terrain.proofs.flat.lower.Tie as tie

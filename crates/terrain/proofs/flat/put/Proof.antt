@@ -1,7 +1,7 @@
 -- `terrain::flat::put` meets its contract. Assumes nothing.
 use native.Mathlib.Omega.{arith}
 use Rattle.terrain.specs.InnerFlats.{queued, dropped}
-use Rattle.terrain.proofs.Stepping.{entry-is}
+use Rattle.terrain.proofs.InnerStepping.{entry-is}
 use borrow.Author.Needs.{needs}
 use borrow.Author.Needs.{needs}
 use Rattle.terrain.proofs.flat.put.Statement.{statement}

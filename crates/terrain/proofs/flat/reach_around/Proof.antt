@@ -6,7 +6,7 @@ use native.Mathlib.Omega.{arith}
 use lib.ListN.{length}
 use Rattle.terrain.specs.InnerLevels.{Levels}
 use Rattle.terrain.specs.InnerFlats.{Spreading}
-use Rattle.terrain.proofs.Wading.{flat-near, flat-beside, flat-is-beside, spreading-more, spreading-all}
+use Rattle.terrain.proofs.InnerWading.{flat-near, flat-beside, flat-is-beside, spreading-more, spreading-all}
 use borrow.Author.Needs.{needs}
 use Rattle.terrain.proofs.flat.reach_around.Statement.{statement}
 use Rattle.terrain.proofs.flat.reach_around.Tie as tie

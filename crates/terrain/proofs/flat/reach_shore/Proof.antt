@@ -3,7 +3,7 @@ use mathlib.Core.Path.{sym, _∙_}
 use native.Mathlib.Omega.{arith}
 use borrow.Author.Tests.{ltb-true, ltb-false}
 use Rattle.terrain.specs.Flat.{nearestOf}
-use Rattle.terrain.proofs.Wading.{steps-flat, shores-near, shores-past, shores-put}
+use Rattle.terrain.proofs.InnerWading.{steps-flat, shores-near, shores-past, shores-put}
 use borrow.Author.Needs.{needs}
 use Rattle.terrain.proofs.flat.reach_shore.Statement.{statement}
 use Rattle.terrain.proofs.flat.reach_shore.Tie as tie

@@ -4,7 +4,7 @@ use Prim.Native.Nat.{_≤_, _*_, _-_}
 use native.Mathlib.Omega.{arith}
 use lib.ListN.{length}
 use Rattle.terrain.specs.InnerFlats.{Shores}
-use Rattle.terrain.proofs.Wading.{shores-none, shores-all}
+use Rattle.terrain.proofs.InnerWading.{shores-none, shores-all}
 use borrow.Author.Needs.{needs}
 use Rattle.terrain.proofs.flat.reach_shores.Statement.{statement}
 use Rattle.terrain.proofs.flat.reach_shores.Tie as tie

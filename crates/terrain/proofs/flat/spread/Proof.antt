@@ -2,7 +2,7 @@
 use mathlib.Core.Path.{ap}
 use Prim.Native.Nat.{ℕ, _+_}
 use native.Mathlib.Omega.{arith}
-use Rattle.terrain.proofs.Wading.{wading-none, spreading-none}
+use Rattle.terrain.proofs.InnerWading.{wading-none, spreading-none}
 use borrow.Author.Needs.{needs}
 use Rattle.terrain.proofs.flat.spread.Statement.{statement}
 use Rattle.terrain.proofs.flat.spread.Tie as tie

@@ -6,7 +6,7 @@ use native.Mathlib.Omega.{arith}
 use lib.ListN.{length}
 use Rattle.terrain.specs.InnerLevels.{Levels}
 use Rattle.terrain.specs.InnerFlats.{Wading}
-use Rattle.terrain.proofs.Wading.{wading-take, waded}
+use Rattle.terrain.proofs.InnerWading.{wading-take, waded}
 use borrow.Author.Needs.{needs}
 use Rattle.terrain.proofs.flat.wade.Statement.{statement}
 use Rattle.terrain.proofs.flat.wade.Tie as tie

@@ -1,7 +1,7 @@
 -- `terrain::queue::open_band` meets its contract. Assumes nothing.
 use native.Mathlib.Omega.{arith}
 use Rattle.terrain.specs.InnerFlood.{Queueing}
-use Rattle.terrain.proofs.Queueing.{queueing-none, queueing-then, queueing-old}
+use Rattle.terrain.proofs.InnerQueueing.{queueing-none, queueing-then, queueing-old}
 use lib.ListN.{length}
 use Prim.Native.Nat.{_-_}
 use mathlib.Core.Path.{_≡_, refl}

@@ -1,5 +1,5 @@
 -- `terrain::queue::push` meets its contract. Assumes nothing.
-use Rattle.terrain.proofs.Queueing.{queueing-set}
+use Rattle.terrain.proofs.InnerQueueing.{queueing-set}
 use Rattle.laws.proofs.Lists.{in-list}
 use native.Mathlib.Omega.{arith}
 use Prim.Native.Nat.{_<_}

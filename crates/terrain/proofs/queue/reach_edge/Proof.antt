@@ -1,5 +1,5 @@
 -- `terrain::queue::reach_edge` meets its contract. Assumes nothing.
-use Rattle.terrain.proofs.Queueing.{rimming-none, rimming-then, rimming-north, rimming-south, rimming-west, rimming-east}
+use Rattle.terrain.proofs.InnerQueueing.{rimming-none, rimming-then, rimming-north, rimming-south, rimming-west, rimming-east}
 use borrow.Author.Needs.{needs}
 use Rattle.terrain.proofs.queue.reach_edge.Statement.{statement}
 use Rattle.terrain.proofs.queue.reach_edge.Tie as tie

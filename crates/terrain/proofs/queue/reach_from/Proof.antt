@@ -1,6 +1,6 @@
 -- `terrain::queue::reach_from` meets its contract. Assumes nothing.
 use native.Mathlib.Omega.{arith}
-use Rattle.terrain.proofs.Queueing.{rimming-none, rimming-around}
+use Rattle.terrain.proofs.InnerQueueing.{rimming-none, rimming-around}
 use borrow.Author.Needs.{needs}
 use Rattle.terrain.proofs.queue.reach_from.Statement.{statement}
 use Rattle.terrain.proofs.queue.reach_from.Tie as tie

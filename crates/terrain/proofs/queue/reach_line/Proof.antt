@@ -1,6 +1,6 @@
 -- `terrain::queue::reach_line` meets its contract. Assumes nothing.
 use Rattle.terrain.specs.InnerFlood.{Queueing, OnLine}
-use Rattle.terrain.proofs.Queueing.{queueing-none, queueing-then, queueing-as, line-at, line-on}
+use Rattle.terrain.proofs.InnerQueueing.{queueing-none, queueing-then, queueing-as, line-at, line-on}
 use native.Mathlib.Omega.{arith}
 use lib.ListN.{length}
 use Prim.Native.Nat.{ℕ, _+_, _*_, _-_}

@@ -1,6 +1,6 @@
 -- `terrain::queue::reach_rims` meets its contract. Assumes nothing.
 use Rattle.terrain.specs.InnerFlood.{Rimming}
-use Rattle.terrain.proofs.Queueing.{rimming-none, rimming-then}
+use Rattle.terrain.proofs.InnerQueueing.{rimming-none, rimming-then}
 use lib.ListN.{length}
 use Prim.Native.Nat.{_-_}
 use mathlib.Core.Path.{_≡_, refl}

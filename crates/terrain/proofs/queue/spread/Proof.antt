@@ -1,5 +1,5 @@
 -- `terrain::queue::spread` meets its contract. Assumes nothing.
-use Rattle.terrain.proofs.Queueing.{queueing-none, queueing-then, queueing-as}
+use Rattle.terrain.proofs.InnerQueueing.{queueing-none, queueing-then, queueing-as}
 use Rattle.terrain.specs.InnerFlood.{Queueing}
 use Rattle.terrain.specs.InnerCells.{Around}
 use lib.ListN.{length}

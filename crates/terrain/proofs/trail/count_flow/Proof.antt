@@ -1,6 +1,6 @@
 -- `terrain::trail::count_flow` meets its contract. Assumes nothing.
-use Rattle.terrain.proofs.Descending.{place-valid, place-cell}
-use Rattle.terrain.proofs.Passing.{Passing, pass-start, pass-step, pass-fits, pass-all}
+use Rattle.terrain.proofs.InnerDescending.{place-valid, place-cell}
+use Rattle.terrain.proofs.InnerPassing.{Passing, pass-start, pass-step, pass-fits, pass-all}
 use Prim.Native.Nat.{ℕ, _≤_, _+_, _-_}
 use mathlib.Core.List.{List}
 use mathlib.Core.Path.{refl, sym, subst, _∙_}

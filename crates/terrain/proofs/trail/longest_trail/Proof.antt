@@ -1,6 +1,6 @@
 -- `terrain::trail::longest_trail` meets its contract. Assumes nothing.
-use Rattle.terrain.proofs.Descending.{place-valid, place-cell}
-use Rattle.terrain.proofs.Following.{Backing, back-start, back-small, back-more, back-all}
+use Rattle.terrain.proofs.InnerDescending.{place-valid, place-cell}
+use Rattle.terrain.proofs.InnerFollowing.{Backing, back-start, back-small, back-more, back-all}
 use Prim.Native.Nat.{_≤_, _-_}
 use mathlib.Core.Path.{refl, sym, _∙_}
 use borrow.Author.Needs.{needs}

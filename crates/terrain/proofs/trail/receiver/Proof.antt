@@ -5,7 +5,7 @@ use native.Mathlib.Omega.{arith}
 use lib.Count.{trailingZeros, trailing-le}
 use lib.ListN.{getD}
 use borrow.Author.Needs.{needs}
-use Rattle.terrain.proofs.Interior.{beside-room, beside-is}
+use Rattle.terrain.proofs.InnerInterior.{beside-room, beside-is}
 use Rattle.terrain.proofs.Receivers.{pointing, mapped-code, receiver-leaves, receiver-near, receiver-beside}
 use Rattle.terrain.proofs.trail.receiver.Statement.{statement}
 use Rattle.terrain.proofs.trail.receiver.Tie as tie

@@ -1,7 +1,7 @@
 -- `terrain::direction::Fall::chosen` meets its contract. Assumes nothing.
 use native.Mathlib.Omega.{arith}
 use Rattle.terrain.specs.InnerLevels.{straight}
-use Rattle.terrain.proofs.Keys.{square-small, bit-small}
+use Rattle.terrain.proofs.InnerKeys.{square-small, bit-small}
 use borrow.Author.Needs.{needs}
 use Rattle.terrain.proofs.direction.Fall.chosen.Statement.{statement}
 use Rattle.terrain.proofs.direction.Fall.chosen.Tie as tie

@@ -21,8 +21,8 @@ use Rattle.terrain.specs.Flat.{farSteps, flatAt, seenAt, nearestOf, flat
 use Rattle.terrain.specs.InnerFlats.{Within, StepsKept, StepsStill, Put, queued, dropped, Reached, near, lowered, Waits, Calm, Shores, Wading, Spreading, Waded}
 use Rattle.terrain.specs.InnerLevels.{Levels}
 use Rattle.terrain.proofs.Neighbours.{across, across-small, neighbour-back, inland-valid}
-use Rattle.terrain.proofs.Interior.{beside-room, beside-is}
-use Rattle.terrain.proofs.Flooding.{lower-either}
+use Rattle.terrain.proofs.InnerInterior.{beside-room, beside-is}
+use Rattle.terrain.proofs.InnerFlooding.{lower-either}
 use Rattle.terrain.proofs.Flats.{nearest-none, nearest-more, flat-valid, flat-inland, flat-high, nearest-some, nearest-le, nearest-is, seen-same, seen-level, within-beside, flat-rule}
 
 -- ---- a cell beside one that has 0 steps

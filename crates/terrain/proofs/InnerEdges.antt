@@ -10,7 +10,7 @@ use lib.ListN.{getD}
 use Rattle.terrain.specs.Cells.{rowSteps, colSteps, neighbour}
 use Rattle.terrain.specs.InnerCells.{Sized, besideOf, Beside, Around, Edge}
 use Rattle.terrain.proofs.Neighbours.{col-of, row-of, cell-in, in-grid-lt, col-step-le, neighbour-cases}
-use Rattle.terrain.proofs.Interior.{by-row, beside-is}
+use Rattle.terrain.proofs.InnerInterior.{by-row, beside-is}
 
 module _ (rows cols : ℕ) where
   -- ---- the four lines of the edge

@@ -22,9 +22,9 @@ use Rattle.terrain.specs.Downhill.{Downhill}
 use Rattle.terrain.specs.Answers.{lent, validOf, directionOf, Mapped, answerOf}
 use Rattle.terrain.specs.declared.Answer.{Answer}
 use Rattle.terrain.specs.declared.Answer.the-variants.{Accepted}
-use Rattle.terrain.proofs.Interior.{ready-sized}
+use Rattle.terrain.proofs.InnerInterior.{ready-sized}
 use Rattle.terrain.proofs.Filling.{filled-long, filled-small, filled-valid}
-use Rattle.terrain.proofs.Flooding.{filled-heights}
+use Rattle.terrain.proofs.InnerFlooding.{filled-heights}
 use Rattle.terrain.proofs.Trails.{mapped-in, rank-falls}
 use Rattle.terrain.proofs.Drainage.{potential, falls, mapped-valid, stops-zero}
 

@@ -15,8 +15,8 @@ use Rattle.terrain.specs.InnerCells.{Sized, besideOf, Around, Edge}
 use Rattle.terrain.specs.InnerFlood.{doneOf, queuedFrom, Queueing, OnLine, Waiting, Rimming, Flooded, FloodedTo}
 use Rattle.terrain.proofs.Neighbours.{across, across-small, neighbour-back, col-of}
 use Rattle.terrain.proofs.Filling.{lowest-le, lowest-top}
-use Rattle.terrain.proofs.Edges.{around-cases, edge-north, edge-south, edge-west, edge-east}
-use Rattle.terrain.proofs.Words.{done-at, done-long, done-same, lowest-done, flooded-none, flooded-then, flooded-same, flooded-done}
+use Rattle.terrain.proofs.InnerEdges.{around-cases, edge-north, edge-south, edge-west, edge-east}
+use Rattle.terrain.proofs.InnerWords.{done-at, done-long, done-same, lowest-done, flooded-none, flooded-then, flooded-same, flooded-done}
 
 -- ---- cells that are queued
 
