@@ -9,4 +9,5 @@ pub mod Peel
 pub mod Rings
 pub mod Handing
 pub mod Tests
+pub mod Slices
 pub mod Greatest

@@ -15,7 +15,7 @@ use Rattle.terrain.specs.Cells.{noData, Fine}
 use Rattle.terrain.specs.InnerCells.{Ready}
 use Rattle.terrain.specs.Trail.{countsOf}
 use Rattle.terrain.specs.Drainage.{Drainage}
-use Rattle.terrain.specs.Answers.{Grids, placesOf, tests, judged, validOf, directionOf, Mapped, After, answerOf, answer, accepts}
+use Rattle.terrain.specs.Answers.{Grids, placesOf, tests, judged, validOf, directionOf, Mapped, After, answerOf, answer, accepts, validIn}
 use Rattle.text.specs.declared.Refusal.{Refusal}
 use Rattle.terrain.specs.declared.Answer.{Answer}
 use Rattle.terrain.specs.declared.Answer.the-variants.{Refused}
@@ -116,7 +116,7 @@ module _ (rows cols : ℕ) (ground : List ℤ) (g : Grids) where
   abbrev pub Promised : Answer → Grids → Type 0
   Promised a h =
       (a ≡ answer rows cols ground g)
-      × (After rows cols ground g h (judged rows cols ground g) × (accepts a ≡ true → Drainage rows cols ground (h .filled) (h .direction) (h .count) (validOf rows cols ground)))
+      × (After rows cols ground g h (judged rows cols ground g) × (accepts a ≡ true → Drainage rows cols ground (h .filled) (h .direction) (h .count) (validIn a)))
 
   -- a refusal as the code makes it
   pub refused-is : (f : Refusal) → Refused f ≡ answerOf rows cols ground (failed (f .number) (f .place))
@@ -128,5 +128,8 @@ module _ (rows cols : ℕ) (ground : List ℤ) (g : Grids) where
   refuses {a} {n} {p} j e = (e ∙ ap (answerOf rows cols ground) j, (subst (After rows cols ground g g) j refl, λ t. absurd (true≢false (sym t ∙ ap accepts e))))
 
   pub accepts-all : {a : Answer} {h : Grids} → passed ≡ judged rows cols ground g → a ≡ answerOf rows cols ground passed → Mapped rows cols ground (directionOf rows cols ground) h → Promised a h
-  unfolding answer
-  accepts-all {a} {h} j e m = (e ∙ ap (answerOf rows cols ground) j, (subst (After rows cols ground g h) j m, λ t. mapped-drains (sym j) m))
+  unfolding answer answerOf
+  accepts-all {a} {h} j e m = (
+    e ∙ ap (answerOf rows cols ground) j,
+    (subst (After rows cols ground g h) j m, λ t. subst (Drainage rows cols ground (h .filled) (h .direction) (h .count)) (sym (ap validIn e)) (mapped-drains (sym j) m)),
+  )

@@ -1,6 +1,6 @@
 -- The definitions' own grids are a drainage: each trail stays on valid cells, never rises, never meets a cell twice and leaves at the rim, what leaves is what is on the
 -- map, and the filled heights are the lowest surface that drains. Assumes nothing.
-use mathlib.Core.Path.{_≡_, sym, ap, subst, _∙_}
+use mathlib.Core.Path.{_≡_, refl, sym, ap, subst, _∙_}
 use mathlib.Core.List.{List}
 use mathlib.Core.Logic.{⊎-elim}
 use mathlib.Core.Bool.{Bool, true, false, cond, not, true≢false}
@@ -202,7 +202,7 @@ module _ (rows cols : ℕ) (ground : List ℤ) (ready : Ready rows cols ground) 
   drainage =
       record {
         trails = record { trails = trails; stays = stays; falls = never-rises; once = never-twice; leaves = leaves-rim };
-        totals = whole;
+        totals = record { valids = refl; outflow = whole };
         surface =
             record {
               drained = filled-drained rows cols ground ready;

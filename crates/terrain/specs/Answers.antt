@@ -6,6 +6,7 @@ use Prim.Native.Nat.{ℕ, _*_}
 use lib.ListN.{length}
 use lib.IntN.{ℤ}
 use denote.Ref.{RefT, now}
+use Rattle.laws.specs.Slices.{Slice}
 use Rattle.laws.specs.Tests.{Test, passed, failed, verdict}
 use Rattle.text.specs.Ranges.{sizeTest, lengthTest, heightTest}
 use Rattle.terrain.specs.Cells.{levelsOf}
@@ -29,9 +30,15 @@ pub record Grids : Type 0 where
 abbrev pub lent : List ℤ → List ℕ → List ℕ → List ℕ → List ℕ → Grids
 lent filled direction count falls workspace = record { filled = filled; direction = direction; count = count; falls = falls; workspace = workspace }
 
--- the same of what a call was lent, as it found the slices and as it leaves them
+-- as they stand, as they are at the call, and as they are at the return
 abbrev pub lentAt : RefT (List ℤ) → RefT (List ℕ) → RefT (List ℕ) → RefT (List ℕ) → RefT (List ℕ) → Grids
 lentAt filled direction count falls workspace = lent (now filled) (now direction) (now count) (now falls) (now workspace)
+
+abbrev pub lentBefore : Slice ℤ → Slice ℕ → Slice ℕ → Slice ℕ → Slice ℕ → Grids
+lentBefore filled direction count falls workspace = lentAt (filled .entry) (direction .entry) (count .entry) (falls .entry) (workspace .entry)
+
+abbrev pub lentAfter : Slice ℤ → Slice ℕ → Slice ℕ → Slice ℕ → Slice ℕ → Grids
+lentAfter filled direction count falls workspace = lentAt (filled .exit) (direction .exit) (count .exit) (falls .exit) (workspace .exit)
 
 -- how many places the ground and each lent grid have
 abbrev pub placesOf : List ℤ → Grids → List ℕ
@@ -84,3 +91,8 @@ answer rows cols ground g = answerOf rows cols ground (judged rows cols ground g
 abbrev pub accepts : Answer → Bool
 accepts (Accepted valid longest) = true
 accepts (Refused f) = false
+
+-- the number of valid cells that an answer gives
+abbrev pub validIn : Answer → ℕ
+validIn (Accepted valid longest) = valid
+validIn (Refused f) = 0

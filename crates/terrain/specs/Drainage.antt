@@ -7,9 +7,9 @@ use lib.IntN.{ℤ}
 use lib.Signed.{_≤ℤ_}
 use lib.Dec.{eqb}
 use Rattle.laws.specs.Sums.{sumTo, when}
-use Rattle.terrain.specs.Cells.{noData, Valid, Rim}
+use Rattle.terrain.specs.Cells.{noData, Valid, Rim, levelsOf}
 use Rattle.terrain.specs.Surfaces.{Run, highestOf, Drained}
-use Rattle.terrain.specs.Trail.{Trail, OnValid, TrailNeverRises, NeverTwice, lastOf}
+use Rattle.terrain.specs.Trail.{validsOf, Trail, OnValid, TrailNeverRises, NeverTwice, lastOf}
 
 -- the surface of a grid of heights
 abbrev pub surfaceOf : List ℤ → ℕ → ℤ
@@ -32,9 +32,10 @@ pub record Trails (rows cols : ℕ) (ground filled : List ℤ) (direction : List
   -- and ends at a rim cell with direction 0
   pub leaves : {x : ℕ} (t : Trail rows cols direction x) → Valid ground x → Rim rows cols ground (lastOf rows cols direction t) × (getD direction (lastOf rows cols direction t) 255 ≡ 0)
 
--- the counts of the cells with direction 0 add up to the number of valid cells
-abbrev pub Totals : ℕ → ℕ → List ℕ → List ℕ → ℕ → Type 0
-Totals rows cols direction count valids = outflowOf rows cols direction count ≡ valids
+-- "The flow counts of the cells where trails leave add up to the number of valid cells, and the answer gives that number"
+pub record Totals (rows cols : ℕ) (ground : List ℤ) (direction count : List ℕ) (given : ℕ) : Type 0 where
+  pub valids : given ≡ validsOf rows cols (levelsOf ground)
+  pub outflow : outflowOf rows cols direction count ≡ given
 
 -- the filled surface
 pub record Surface (rows cols : ℕ) (ground filled : List ℤ) : Type 0 where
@@ -47,7 +48,7 @@ pub record Surface (rows cols : ℕ) (ground filled : List ℤ) : Type 0 where
   -- and no run stays below it
   pub least : {x : ℕ} (r : Run rows cols ground x) → surfaceOf filled x ≤ℤ highestOf rows cols ground r
 
-pub record Drainage (rows cols : ℕ) (ground filled : List ℤ) (direction count : List ℕ) (valids : ℕ) : Type 0 where
+pub record Drainage (rows cols : ℕ) (ground filled : List ℤ) (direction count : List ℕ) (given : ℕ) : Type 0 where
   pub trails : Trails rows cols ground filled direction
-  pub totals : Totals rows cols direction count valids
+  pub totals : Totals rows cols ground direction count given
   pub surface : Surface rows cols ground filled

@@ -24,7 +24,7 @@ ghost use Rattle.terrain.specs.Falls.{fallsOf};
 ghost use Rattle.terrain.specs.InnerTrail.{Directed};
 ghost use Rattle.terrain.specs.Downhill.{Downhill};
 ghost use Rattle.terrain.specs.Drainage.{Drainage};
-ghost use Rattle.terrain.specs.Answers.{lentAt, placesOf, judged, validOf, directionOf, After, answer, accepts};
+ghost use Rattle.terrain.specs.Answers.{lentAt, lentBefore, lentAfter, placesOf, judged, directionOf, After, answer, accepts, validIn};
 ghost use Rattle.terrain.specs.InnerAnswers.{found};
 ghost use Rattle.terrain.specs.declared.Answer.the-variants.{Accepted};
 use text::Refusal;
@@ -158,15 +158,12 @@ pub fn map(
     falls: &mut [u32],
     workspace: &mut [u32],
 ) -> Answer
-    ensures answers { λ r. ⌜ r ≡ answer rows columns (now (ground .entry))
-        (lentAt (filled .entry) (direction .entry) (count .entry) (falls .entry) (workspace .entry)) ⌝ }
+    ensures answers { λ r. ⌜ r ≡ answer rows columns (now (ground .entry)) (lentBefore filled direction count falls workspace) ⌝ }
     ensures leaves { λ _. ⌜ After rows columns (now (ground .entry))
-        (lentAt (filled .entry) (direction .entry) (count .entry) (falls .entry) (workspace .entry))
-        (lentAt (filled .exit) (direction .exit) (count .exit) (falls .exit) (workspace .exit))
-        (judged rows columns (now (ground .entry)) (lentAt (filled .entry) (direction .entry) (count .entry) (falls .entry) (workspace .entry))) ⌝ }
+        (lentBefore filled direction count falls workspace) (lentAfter filled direction count falls workspace)
+        (judged rows columns (now (ground .entry)) (lentBefore filled direction count falls workspace)) ⌝ }
     ensures drains { λ r. ⌜ (accepts r ≡ true
-        → Drainage rows columns (now (ground .entry)) (now (filled .exit)) (now (direction .exit)) (now (count .exit))
-        (validOf rows columns (now (ground .entry)))) ⌝ }
+        → Drainage rows columns (now (ground .entry)) (now (filled .exit)) (now (direction .exit)) (now (count .exit)) (validIn r)) ⌝ }
 {
     let judgement = judge(
         rows,
