@@ -45,7 +45,9 @@ use Rattle.text.specs.declared.headers.Extended.{Extended}
 use Rattle.text.specs.declared.headers.Extended.the-variants as E
 use Rattle.text.specs.declared.headers.Moved.{Moved}
 use Rattle.text.specs.declared.headers.Moved.the-variants.{On, Off}
-use Rattle.text.specs.Inner.{wordOf, Inside, numberedOf, measuredOf, countedOf, movedOf, sidedOf, lengthOf, extentOf, extendedOf, Fits, CountFits}
+use Rattle.text.specs.InnerWords.{wordOf, Inside}
+use Rattle.text.specs.InnerNumbers.{numberedOf, measuredOf, countedOf, CountFits}
+use Rattle.text.specs.InnerHeaders.{movedOf, sidedOf, lengthOf, extentOf, extendedOf, Fits}
 
 -- ---- a header name
 

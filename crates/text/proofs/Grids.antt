@@ -34,7 +34,9 @@ use Rattle.text.specs.declared.headers.Lengthed.the-variants.{Length, No
 use Rattle.text.specs.declared.headers.Head as D
 use Rattle.text.specs.declared.headers.Headed.{Headed}
 use Rattle.text.specs.declared.headers.Headed.the-variants.{Head, NoHead}
-use Rattle.text.specs.Inner.{measuredOf, movedOf, lengthOf, headedOf, HeightFits, forget, Good, valuesOf, bodyOutcome}
+use Rattle.text.specs.InnerNumbers.{measuredOf}
+use Rattle.text.specs.InnerHeaders.{movedOf, lengthOf, headedOf}
+use Rattle.text.specs.InnerHeights.{HeightFits, forget, Good, valuesOf, bodyOutcome}
 use Rattle.text.proofs.Ends.{word-found, word-none}
 
 -- ---- one height

@@ -12,7 +12,7 @@ use lib.Dec.{lit<}
 use lib.ListN.{length, getD}
 use Rattle.text.specs.Words.{run}
 use Rattle.text.specs.Numbers.{digit, digitOf, digitAt, value}
-use Rattle.text.specs.Inner.{Limit, DigitsFrom, HundredthsFrom}
+use Rattle.text.specs.InnerNumbers.{Limit, DigitsFrom, HundredthsFrom}
 use Rattle.text.proofs.Bytes.{digit-range}
 use Rattle.text.proofs.Runs.{Along, along-none, along-more, along-stop, along-end}
 

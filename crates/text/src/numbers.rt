@@ -7,7 +7,7 @@ ghost use lib.ListN.{length, getD};
 ghost use Rattle.text.specs.Words.{run, solid, wordEnd};
 ghost use Rattle.text.specs.Numbers.{digit, digitOf, zero, afterSign, value, numberAt, decimals, centimetres, number};
 ghost use Rattle.text.specs.Numbers as D;
-ghost use Rattle.text.specs.Inner.{Limit, DigitsFrom, HundredthsFrom, TailFrom, Parsed, numberedOf, Sized, measuredOf, countedOf, CountFits};
+ghost use Rattle.text.specs.InnerNumbers.{Limit, DigitsFrom, HundredthsFrom, TailFrom, Parsed, numberedOf, Sized, measuredOf, countedOf, CountFits};
 use crate::Refusal;
 use crate::words;
 use crate::words::Cursor;

@@ -1,7 +1,7 @@
 -- `text::read_grid` meets its contract. Assumes nothing.
 use mathlib.Core.Path.{_∙_, subst}
 use denote.Ref.{now}
-use Rattle.text.specs.Inner.{HeadFits}
+use Rattle.text.specs.InnerHeaders.{HeadFits}
 use Rattle.text.proofs.Grids.{grid-off, grid-on}
 use borrow.Author.Needs.{needs}
 use Rattle.text.proofs.read_grid.Statement.{statement}

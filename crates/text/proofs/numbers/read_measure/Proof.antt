@@ -4,7 +4,7 @@ use lib.IntN.{ℤ}
 use mir.Facts.{toZ-ofZ}
 use mir.Syntax.{w64}
 use Rattle.text.specs.Reader.{got}
-use Rattle.text.specs.Inner.{Sized}
+use Rattle.text.specs.InnerNumbers.{Sized}
 use Rattle.text.proofs.Steps.{measure-none, measure-fine, measure-on}
 use borrow.Author.Needs.{needs}
 use Rattle.text.proofs.numbers.read_measure.Statement.{statement}
