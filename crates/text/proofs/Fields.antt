@@ -47,7 +47,7 @@ use Rattle.text.specs.declared.headers.Moved.{Moved}
 use Rattle.text.specs.declared.headers.Moved.the-variants.{On, Off}
 use Rattle.text.specs.InnerWords.{wordOf, Inside}
 use Rattle.text.specs.InnerNumbers.{numberedOf, measuredOf, countedOf, CountFits}
-use Rattle.text.specs.InnerHeaders.{movedOf, sidedOf, lengthOf, extentOf, extendedOf, Fits}
+use Rattle.text.specs.InnerHeaders.{movedOf, sidedOf, lengthedOf, extentOf, extendedOf, Fits}
 
 -- ---- a header name
 
@@ -166,15 +166,15 @@ module _ (x : H.Extent) (s : List ℕ) (at : ℕ) (c : Sided) (m : sidedOf c ≡
   unfolding sideAndNoData
   last-no-side f e = rw (sym m ∙ ap sidedOf e)
 
-  module _ (y : S.Side) (e : c ≡ Side y) (r : Lengthed) (l : lengthOf r ≡ noData s (y .rest .at)) where
+  module _ (y : S.Side) (e : c ≡ Side y) (r : Lengthed) (l : lengthedOf r ≡ noData s (y .rest .at)) where
     pub last-no-data : (f : Refusal) → r ≡ NoLength f → refused (f .number) (f .place) ≡ sideAndNoData x s at
     unfolding sideAndNoData
-    last-no-data f q = rw (sym m ∙ ap sidedOf e, sym l ∙ ap lengthOf q)
+    last-no-data f q = rw (sym m ∙ ap sidedOf e, sym l ∙ ap lengthedOf q)
 
     pub last-on : (z : L.Length) → r ≡ Length z
         → got (record { rows = x .rows; columns = x .columns; side = pos (y .cm); noData = z .cm }) (z .rest .at) ≡ sideAndNoData x s at
     unfolding sideAndNoData
-    last-on z q = rw (sym m ∙ ap sidedOf e, sym l ∙ ap lengthOf q)
+    last-on z q = rw (sym m ∙ ap sidedOf e, sym l ∙ ap lengthedOf q)
 
 -- ---- the header
 

@@ -35,7 +35,7 @@ use Rattle.text.specs.declared.headers.Head as D
 use Rattle.text.specs.declared.headers.Headed.{Headed}
 use Rattle.text.specs.declared.headers.Headed.the-variants.{Head, NoHead}
 use Rattle.text.specs.InnerNumbers.{measuredOf}
-use Rattle.text.specs.InnerHeaders.{movedOf, lengthOf, headedOf}
+use Rattle.text.specs.InnerHeaders.{movedOf, lengthedOf, headedOf}
 use Rattle.text.specs.InnerHeights.{HeightFits, forget, Good, valuesOf, bodyOutcome}
 use Rattle.text.proofs.Ends.{word-found, word-none}
 
@@ -105,11 +105,11 @@ values-joined z (got hs j) g = refl
 values-joined z (refused m p) g = absurd g
 
 -- what the answer of `read_height` tells
-pub length-off : (r : Lengthed) (x : Step ℤ) (f : Refusal) → lengthOf r ≡ x → r ≡ NoLength f → x ≡ refused (f .number) (f .place)
-length-off r x f p q = sym p ∙ ap lengthOf q
+pub length-off : (r : Lengthed) (x : Step ℤ) (f : Refusal) → lengthedOf r ≡ x → r ≡ NoLength f → x ≡ refused (f .number) (f .place)
+length-off r x f p q = sym p ∙ ap lengthedOf q
 
-pub length-on : (r : Lengthed) (x : Step ℤ) (y : L.Length) → lengthOf r ≡ x → r ≡ Length y → x ≡ got (y .cm) (y .rest .at)
-length-on r x y p q = sym p ∙ ap lengthOf q
+pub length-on : (r : Lengthed) (x : Step ℤ) (y : L.Length) → lengthedOf r ≡ x → r ≡ Length y → x ≡ got (y .cm) (y .rest .at)
+length-on r x y p q = sym p ∙ ap lengthedOf q
 
 pub length-fits : (r : Lengthed) (y : L.Length) → HeightFits r → r ≡ Length y → SFits w32 (y .cm)
 length-fits r y h q = let b = subst HeightFits q h in height-32 (y .cm) (b .0) (b .1)

@@ -26,9 +26,9 @@ abbrev pub sidedOf : Sided → Step ℤ
 sidedOf (Side x) = got (pos (x .cm)) (x .rest .at)
 sidedOf (NoSide f) = refused (f .number) (f .place)
 
-abbrev pub lengthOf : Lengthed → Step ℤ
-lengthOf (Length x) = got (x .cm) (x .rest .at)
-lengthOf (NoLength f) = refused (f .number) (f .place)
+abbrev pub lengthedOf : Lengthed → Step ℤ
+lengthedOf (Length x) = got (x .cm) (x .rest .at)
+lengthedOf (NoLength f) = refused (f .number) (f .place)
 
 abbrev pub extentOf : Extent → H.Extent
 extentOf e = record { rows = e .rows; columns = e .columns }

@@ -81,9 +81,9 @@ countedOf (Count x) = got (x .n) (x .rest .at)
 countedOf (NoCount f) = refused (f .number) (f .place)
 
 -- at most nine digits and two decimals
-abbrev pub Sized : Numbered → Type 0
-Sized (Number x) = x .size < 200000000000
-Sized (NoNumber f) = Unit
+abbrev pub SizeFits : Numbered → Type 0
+SizeFits (Number x) = x .size < 200000000000
+SizeFits (NoNumber f) = Unit
 
 -- at most 1,024 rows or columns
 abbrev pub CountFits : Counted → Type 0

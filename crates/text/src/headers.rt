@@ -6,7 +6,7 @@ ghost use Rattle.text.specs.Quantities.{sideIn};
 ghost use Rattle.text.specs.Numbers.{count};
 ghost use Rattle.text.specs.Headers.{lower, letter, letterNext, named, name, corner, side, field, anyMeasure, noData, extent, corners, sideAndNoData, header};
 ghost use Rattle.text.specs.InnerNumbers.{countedOf, CountFits};
-ghost use Rattle.text.specs.InnerHeaders.{movedOf, sidedOf, lengthOf, extentOf, extendedOf, ExtendedFits, headedOf, Fits, HeadFits};
+ghost use Rattle.text.specs.InnerHeaders.{movedOf, sidedOf, lengthedOf, extentOf, extendedOf, ExtendedFits, headedOf, Fits, HeadFits};
 use crate::Header;
 use crate::Refusal;
 use crate::numbers;
@@ -216,7 +216,7 @@ fn side_field(s: &[u8], k: Cursor, n: &[u8]) -> Sided
 
 // A number in cm of any size.
 fn read_length(s: &[u8], k: Cursor) -> Lengthed
-    ensures { λ r. ⌜ lengthOf r ≡ anyMeasure (now (s .entry)) (k .at) ⌝ }
+    ensures { λ r. ⌜ lengthedOf r ≡ anyMeasure (now (s .entry)) (k .at) ⌝ }
 {
     let m = numbers::read_measure(s, k);
     match m {
@@ -230,7 +230,7 @@ fn read_length(s: &[u8], k: Cursor) -> Lengthed
 
 // The name `n` and a number in cm.
 fn length_field(s: &[u8], k: Cursor, n: &[u8]) -> Lengthed
-    ensures { λ r. ⌜ lengthOf r ≡ field (now (n .entry)) anyMeasure (now (s .entry)) (k .at) ⌝ }
+    ensures { λ r. ⌜ lengthedOf r ≡ field (now (n .entry)) anyMeasure (now (s .entry)) (k .at) ⌝ }
 {
     let m = read_name(s, k, n);
     match m {
@@ -253,7 +253,7 @@ fn letter_next(s: &[u8], k: Cursor) -> bool
 
 // The NoData number in cm: the one given, or -9999 m.
 fn read_no_data(s: &[u8], k: Cursor) -> Lengthed
-    ensures { λ r. ⌜ lengthOf r ≡ noData (now (s .entry)) (k .at) ⌝ }
+    ensures { λ r. ⌜ lengthedOf r ≡ noData (now (s .entry)) (k .at) ⌝ }
 {
     if letter_next(s, k) {
         return length_field(s, k, b"nodata_value");

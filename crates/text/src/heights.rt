@@ -4,7 +4,7 @@ ghost use lib.ListN.{length};
 ghost use Rattle.text.specs.Quantities.{heightIn};
 ghost use Rattle.text.specs.Heights.{same, height, heights, end, body};
 ghost use Rattle.text.specs.Answers.{headerOf, gridOutcomeOf};
-ghost use Rattle.text.specs.InnerHeaders.{movedOf, lengthOf, Fits};
+ghost use Rattle.text.specs.InnerHeaders.{movedOf, lengthedOf, Fits};
 ghost use Rattle.text.specs.InnerHeights.{HeightFits, forget, Good, valuesOf, bodyOutcome};
 use crate::Answer;
 use crate::Header;
@@ -39,7 +39,7 @@ fn is_same(a: i64, b: i64) -> bool
 
 // The next height; `n` is the NoData number.
 fn read_height(s: &[u8], k: Cursor, n: i64) -> Lengthed
-    ensures { λ r. ⌜ (lengthOf r ≡ height n (now (s .entry)) (k .at)) × HeightFits r ⌝ }
+    ensures { λ r. ⌜ (lengthedOf r ≡ height n (now (s .entry)) (k .at)) × HeightFits r ⌝ }
 {
     let m = numbers::read_measure(s, k);
     match m {

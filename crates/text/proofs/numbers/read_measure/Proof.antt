@@ -4,7 +4,7 @@ use lib.IntN.{ℤ}
 use mir.Facts.{toZ-ofZ}
 use mir.Syntax.{w64}
 use Rattle.text.specs.Reader.{got}
-use Rattle.text.specs.InnerNumbers.{Sized}
+use Rattle.text.specs.InnerNumbers.{SizeFits}
 use Rattle.text.proofs.Steps.{measure-none, measure-fine, measure-on}
 use borrow.Author.Needs.{needs}
 use Rattle.text.proofs.numbers.read_measure.Statement.{statement}
@@ -27,7 +27,7 @@ returns : tie.Need-returns
 returns c = let x = c .before .before in measure-fine _ _ _ (number-read x .number .ensures .0) _ (x .n2 .given .1) (c .if1 .taken)
 
 signed-requires : tie.Need-signed-requires
-signed-requires c κs = let x = c .before .before .before in subst Sized (x .n2 .given .1) (number-read x .number .ensures .1)
+signed-requires c κs = let x = c .before .before .before in subst SizeFits (x .n2 .given .1) (number-read x .number .ensures .1)
 
 returns-2 : tie.Need-returns-2
 returns-2 c = measure-none _ _ _ (c .before .before .before .number .ensures .0) _ (c .before .n .given .1)
