@@ -8,7 +8,7 @@ use native.Mathlib.Omega.{arith}
 use borrow.Author.Tests.{lt-ltb, le-ltb, leb-true}
 use lib.Dec.{T, leb}
 use lib.ListN.{length, getD}
-use lib.IntN.{ℤ, pos, negsuc, negℤ, natAbs}
+use lib.IntN.{ℤ, pos, negsuc, natAbs}
 use lib.Signed.{nonNeg}
 use mir.Syntax.{w32}
 use mir.Val.{Fits as FitsIn}
@@ -19,7 +19,7 @@ use Rattle.text.specs.Reader.{got, refused, Reader}
 use Rattle.text.specs.Words.{wordStart, word}
 use Rattle.text.specs.Numbers.{number, measure, count}
 use Rattle.text.specs.Headers as H
-use Rattle.text.specs.Headers.{letter, letterNext, named, name, corner, side, field, anyMeasure, noData, extent, corners, sideAndNoData, header}
+use Rattle.text.specs.Headers.{letter, letterNext, named, name, corner, side, field, anyMeasure, absentNoData, noData, extent, corners, sideAndNoData, header}
 use Rattle.text.specs.declared.Refusal.{Refusal}
 use Rattle.text.specs.declared.words.Cursor.{Cursor}
 use Rattle.text.specs.declared.words.Word as W
@@ -125,7 +125,7 @@ module _ (s : List ℕ) (at : ℕ) where
   unfolding noData
   no-data-given t = rw (t, noData)
 
-  pub no-data-absent : letterNext s at ≡ false → got (negℤ (pos 999900)) at ≡ noData s at
+  pub no-data-absent : letterNext s at ≡ false → got absentNoData at ≡ noData s at
   unfolding noData
   no-data-absent t = rw (t, noData)
 

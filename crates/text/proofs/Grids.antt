@@ -59,17 +59,17 @@ module _ (n : ℤ) (s : List ℕ) (at : ℕ) (r : Measured) (m : measuredOf r �
     unfolding height
     height-off t u = rw (sym m ∙ ap measuredOf e, t, u)
 
-above-no-data : (z : ℤ) → T (leZ (negℤ (pos 50000)) z) → T (leZ (negℤ (pos 999900)) z)
+above-no-data : (z : ℤ) → T (leZ (negℤ (pos 50000)) z) → T (leZ noDataHeight z)
 above-no-data (pos n) t = tt
 above-no-data (negsuc n) t = le→leb n 999899 (le-trans (leb→le n 49999 t) (lit≤ tt))
 
-pub height-in-fits : (z : ℤ) → heightIn z ≡ true → T (leZ (negℤ (pos 999900)) z) × T (leZ z (pos 900000))
+pub height-in-fits : (z : ℤ) → heightIn z ≡ true → T (leZ noDataHeight z) × T (leZ z (pos 900000))
 height-in-fits z e =
     let b = and-both (leZ (negℤ (pos 50000)) z) (leZ z (pos 900000)) e in
     (above-no-data z (subst T (sym (b .0)) tt), subst T (sym (b .1)) tt)
 
 -- NoData and every height that is allowed fit 32 bits
-pub height-32 : (z : ℤ) → T (leZ (negℤ (pos 999900)) z) → T (leZ z (pos 900000)) → SFits w32 z
+pub height-32 : (z : ℤ) → T (leZ noDataHeight z) → T (leZ z (pos 900000)) → SFits w32 z
 height-32 (pos n) l h = record { sfits = lt-of-le-of-lt (leb→le n 900000 h) (lit< tt) }
 height-32 (negsuc n) l h = record { sfits = lt-of-le-of-lt (leb→le n 999899 l) (lit< tt) }
 

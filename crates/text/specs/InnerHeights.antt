@@ -1,8 +1,9 @@
 -- What the functions of `heights` ask and answer, in terms of the definitions: only inner functions cite this file. Assumes nothing.
 use mathlib.Core.List.{List, []}
 use lib.Dec.{T}
-use lib.IntN.{ℤ, pos, negℤ}
+use lib.IntN.{ℤ, pos}
 use lib.Signed.{leZ}
+use Rattle.text.specs.Quantities.{noDataHeight}
 use Rattle.text.specs.Reader.{Step, got, refused}
 use Rattle.text.specs.Headers as H
 use Rattle.text.specs.Answers.{GridOutcome, accepted, refusal}
@@ -11,7 +12,7 @@ use Rattle.text.specs.declared.headers.Lengthed.the-variants.{Length, No
 
 -- a height that was read is NoData or within the range
 abbrev pub HeightFits : Lengthed → Type 0
-HeightFits (Length x) = T (leZ (negℤ (pos 999900)) (x .cm)) × T (leZ (x .cm) (pos 900000))
+HeightFits (Length x) = T (leZ noDataHeight (x .cm)) × T (leZ (x .cm) (pos 900000))
 HeightFits (NoLength f) = Unit
 
 -- whether the heights are good, and where they end

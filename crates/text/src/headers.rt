@@ -17,6 +17,9 @@ use crate::words;
 use crate::words::Cursor;
 use crate::words::Next;
 
+// Document 01, "The text": the NoData number where the text gives none, -9999 m, in cm.
+const ABSENT_NO_DATA: i64 = -9999 * 100;
+
 // The moved cursor, or the refusal.
 pub(crate) enum Moved {
     On(Cursor),
@@ -259,7 +262,7 @@ fn read_no_data(s: &[u8], k: Cursor) -> Lengthed
         return length_field(s, k, b"nodata_value");
     }
     Lengthed::Length(Length {
-        cm: -999900,
+        cm: ABSENT_NO_DATA,
         rest: k,
     })
 }

@@ -8,6 +8,7 @@ ghost use Rattle.text.specs.InnerHeaders.{movedOf, lengthedOf, Fits};
 ghost use Rattle.text.specs.InnerHeights.{HeightFits, forget, Good, valuesOf, bodyOutcome};
 use crate::Answer;
 use crate::Header;
+use crate::NO_DATA;
 use crate::Refusal;
 use crate::headers::Length;
 use crate::headers::Lengthed;
@@ -47,7 +48,10 @@ fn read_height(s: &[u8], k: Cursor, n: i64) -> Lengthed
         Measured::Measure(x) => {
             let rest = x.rest;
             if is_same(x.cm, n) {
-                return Lengthed::Length(Length { cm: -999900, rest });
+                return Lengthed::Length(Length {
+                    cm: NO_DATA as i64,
+                    rest,
+                });
             }
             if height_in(x.cm) {
                 return Lengthed::Length(Length { cm: x.cm, rest });

@@ -43,6 +43,9 @@ enum-known-m-2 c = search needs
 is-same-requires : tie.Need-is-same-requires
 is-same-requires c κs = search needs
 
+cast-t10 : tie.Need-cast-t10
+cast-t10 c = search needs
+
 returns : tie.Need-returns
 returns c =
     let m = measured (c .before) in
@@ -80,6 +83,7 @@ read-height-spec =
     enum-known-m
     enum-known-m-2
     is-same-requires
+    cast-t10
     returns
     height-in-requires
     returns-2
