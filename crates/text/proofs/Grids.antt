@@ -36,7 +36,7 @@ use Rattle.text.specs.declared.headers.Headed.{Headed}
 use Rattle.text.specs.declared.headers.Headed.the-variants.{Head, NoHead}
 use Rattle.text.specs.InnerNumbers.{measuredOf}
 use Rattle.text.specs.InnerHeaders.{movedOf, lengthedOf, headedOf}
-use Rattle.text.specs.InnerHeights.{HeightFits, forget, Good, valuesOf, bodyOutcome}
+use Rattle.text.specs.InnerHeights.{HeightFits, forget, Good, valuesOf, bodyOutcome, bodyAnswer}
 use Rattle.text.proofs.Ends.{word-found, word-none}
 
 -- ---- one height
@@ -227,8 +227,7 @@ module _ (lent : List ℤ) (s : List ℕ) (r : Headed) (m : headedOf r ≡ H.hea
   unfolding grid
   grid-off f e = rw (sym m ∙ ap headedOf e)
 
-  pub grid-on : (x : D.Head) → r ≡ Head x
-      → bodyOutcome (headerOf (x .header)) lent (body (headerOf (x .header)) (length lent) s (x .rest .at)) ≡ gridAnswer lent s
+  pub grid-on : (x : D.Head) → r ≡ Head x → bodyAnswer (headerOf (x .header)) lent s (x .rest .at) ≡ gridAnswer lent s
   unfolding grid
   grid-on x e = rw (sym m ∙ ap headedOf e) (go (body (headerOf (x .header)) (length lent) s (x .rest .at)))
     where

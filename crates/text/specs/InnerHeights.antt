@@ -1,11 +1,14 @@
 -- What the functions of `heights` ask and answer, in terms of the definitions: only inner functions cite this file. Assumes nothing.
+use Prim.Native.Nat.{ℕ}
 use mathlib.Core.List.{List, []}
 use lib.Dec.{T}
 use lib.IntN.{ℤ, pos}
+use lib.ListN.{length}
 use lib.Signed.{leZ}
 use Rattle.text.specs.Quantities.{noDataHeight}
 use Rattle.text.specs.Reader.{Step, got, refused}
 use Rattle.text.specs.Headers as H
+use Rattle.text.specs.Heights.{body}
 use Rattle.text.specs.Answers.{GridOutcome, accepted, refusal}
 use Rattle.text.specs.declared.headers.Lengthed.{Lengthed}
 use Rattle.text.specs.declared.headers.Lengthed.the-variants.{Length, NoLength}
@@ -33,3 +36,7 @@ valuesOf (refused n p) = []
 abbrev pub bodyOutcome : H.Header → List ℤ → Step (List ℤ) → GridOutcome
 bodyOutcome h lent (got hs i) = record { answer = accepted h; heights = hs }
 bodyOutcome h lent (refused n p) = record { answer = refusal n p; heights = lent }
+
+-- the same of a text, read on from the place i
+abbrev pub bodyAnswer : H.Header → List ℤ → List ℕ → ℕ → GridOutcome
+bodyAnswer h lent s i = bodyOutcome h lent (body h (length lent) s i)

@@ -2,10 +2,10 @@
 ghost use mathlib.Core.Path.{_≡_};
 ghost use lib.ListN.{length};
 ghost use Rattle.text.specs.Quantities.{heightIn};
-ghost use Rattle.text.specs.Heights.{same, height, heights, end, body};
+ghost use Rattle.text.specs.Heights.{same, height, heights, end};
 ghost use Rattle.text.specs.Answers.{headerOf, gridOutcomeOf};
 ghost use Rattle.text.specs.InnerHeaders.{movedOf, lengthedOf, Fits};
-ghost use Rattle.text.specs.InnerHeights.{HeightFits, forget, Good, valuesOf, bodyOutcome};
+ghost use Rattle.text.specs.InnerHeights.{HeightFits, forget, Good, valuesOf, bodyAnswer};
 use crate::Answer;
 use crate::Header;
 use crate::NO_DATA;
@@ -121,7 +121,7 @@ fn store_heights(s: &[u8], k: Cursor, n: i64, out: &mut [i32])
 // What follows the header: all heights are stored, or none.
 pub(crate) fn read(s: &[u8], k: Cursor, header: Header, out: &mut [i32]) -> Answer
     requires { ⌜ Fits (header .rows) (header .columns) ⌝ }
-    ensures { λ r. ⌜ gridOutcomeOf r (now (out .exit)) ≡ bodyOutcome (headerOf header) (now (out .entry)) (body (headerOf header) (length (now (out .entry))) (now (s .entry)) (k .at)) ⌝ }
+    ensures { λ r. ⌜ gridOutcomeOf r (now (out .exit)) ≡ bodyAnswer (headerOf header) (now (out .entry)) (now (s .entry)) (k .at) ⌝ }
 {
     if out.len() != header.rows * header.columns {
         return Answer::Refused(Refusal {
