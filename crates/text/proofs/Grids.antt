@@ -69,7 +69,7 @@ height-in-fits z e =
     (above-no-data z (subst T (sym (b .0)) tt), subst T (sym (b .1)) tt)
 
 -- NoData and every height that is allowed fit 32 bits
-pub height-32 : (z : ℤ) → T (leZ noDataHeight z) → T (leZ z (pos 900000)) → SFits w32 z
+height-32 : (z : ℤ) → T (leZ noDataHeight z) → T (leZ z (pos 900000)) → SFits w32 z
 height-32 (pos n) l h = record { sfits = lt-of-le-of-lt (leb→le n 900000 h) (lit< tt) }
 height-32 (negsuc n) l h = record { sfits = lt-of-le-of-lt (leb→le n 999899 l) (lit< tt) }
 
