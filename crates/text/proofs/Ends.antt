@@ -44,11 +44,11 @@ module _ (s : List ℕ) where
       (end-after i (run digit s i n) (run-lower digit s i n) (run-within digit s refl i n h)
       (λ k a b. digit-solid (getD s k 0) (run-passes digit s i n k a b)))
 
-  pub end-here : (i : ℕ) → blank (getD s i 0) ≡ true → wordEnd s i ≡ i
+  end-here : (i : ℕ) → blank (getD s i 0) ≡ true → wordEnd s i ≡ i
   unfolding wordEnd
   end-here i h = run-stop solid s i (length s - i) (ap not h)
 
-  pub end-past : (i : ℕ) → length s ≤ i → wordEnd s i ≡ i
+  end-past : (i : ℕ) → length s ≤ i → wordEnd s i ≡ i
   unfolding wordEnd
   end-past i h = run-end solid s i (length s) h
 

@@ -8,7 +8,7 @@ use native.Mathlib.Omega.{arith}
 use borrow.Author.Tests.{lt-ltb, le-ltb, leb-true}
 use lib.Dec.{T, leb}
 use lib.ListN.{length, getD}
-use lib.IntN.{ℤ, pos, negsuc, negℤ, natAbs}
+use lib.IntN.{ℤ, pos, negsuc, natAbs}
 use lib.Signed.{nonNeg}
 use mir.Syntax.{w32}
 use mir.Val.{Fits as FitsIn}
@@ -19,7 +19,7 @@ use Rattle.text.specs.Reader.{got, refused, Reader}
 use Rattle.text.specs.Words.{wordStart, word}
 use Rattle.text.specs.Numbers.{number, measure, count}
 use Rattle.text.specs.Headers as H
-use Rattle.text.specs.Headers.{letter, letterNext, named, name, corner, side, field, anyMeasure, noData, extent, corners, sideAndNoData, header}
+use Rattle.text.specs.Headers.{letter, letterNext, named, name, corner, side, field, anyMeasure, absentNoData, noData, extent, corners, sideAndNoData, header}
 use Rattle.text.specs.declared.Refusal.{Refusal}
 use Rattle.text.specs.declared.words.Cursor.{Cursor}
 use Rattle.text.specs.declared.words.Word as W
@@ -45,7 +45,9 @@ use Rattle.text.specs.declared.headers.Extended.{Extended}
 use Rattle.text.specs.declared.headers.Extended.the-variants as E
 use Rattle.text.specs.declared.headers.Moved.{Moved}
 use Rattle.text.specs.declared.headers.Moved.the-variants.{On, Off}
-use Rattle.text.specs.Inner.{wordOf, Inside, numberedOf, measuredOf, countedOf, movedOf, sidedOf, lengthOf, extentOf, extendedOf, Fits, CountFits}
+use Rattle.text.specs.InnerWords.{wordOf, Inside}
+use Rattle.text.specs.InnerNumbers.{numberedOf, measuredOf, countedOf, CountFits}
+use Rattle.text.specs.InnerHeaders.{movedOf, sidedOf, lengthedOf, extentOf, extendedOf, Fits}
 
 -- ---- a header name
 
@@ -123,7 +125,7 @@ module _ (s : List ℕ) (at : ℕ) where
   unfolding noData
   no-data-given t = rw (t, noData)
 
-  pub no-data-absent : letterNext s at ≡ false → got (negℤ (pos 999900)) at ≡ noData s at
+  pub no-data-absent : letterNext s at ≡ false → got absentNoData at ≡ noData s at
   unfolding noData
   no-data-absent t = rw (t, noData)
 
@@ -164,15 +166,15 @@ module _ (x : H.Extent) (s : List ℕ) (at : ℕ) (c : Sided) (m : sidedOf c ≡
   unfolding sideAndNoData
   last-no-side f e = rw (sym m ∙ ap sidedOf e)
 
-  module _ (y : S.Side) (e : c ≡ Side y) (r : Lengthed) (l : lengthOf r ≡ noData s (y .rest .at)) where
+  module _ (y : S.Side) (e : c ≡ Side y) (r : Lengthed) (l : lengthedOf r ≡ noData s (y .rest .at)) where
     pub last-no-data : (f : Refusal) → r ≡ NoLength f → refused (f .number) (f .place) ≡ sideAndNoData x s at
     unfolding sideAndNoData
-    last-no-data f q = rw (sym m ∙ ap sidedOf e, sym l ∙ ap lengthOf q)
+    last-no-data f q = rw (sym m ∙ ap sidedOf e, sym l ∙ ap lengthedOf q)
 
     pub last-on : (z : L.Length) → r ≡ Length z
         → got (record { rows = x .rows; columns = x .columns; side = pos (y .cm); noData = z .cm }) (z .rest .at) ≡ sideAndNoData x s at
     unfolding sideAndNoData
-    last-on z q = rw (sym m ∙ ap sidedOf e, sym l ∙ ap lengthOf q)
+    last-on z q = rw (sym m ∙ ap sidedOf e, sym l ∙ ap lengthedOf q)
 
 -- ---- the header
 

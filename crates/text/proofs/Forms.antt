@@ -12,7 +12,7 @@ use Rattle.text.specs.Words.{solid, run, wordEnd}
 use Rattle.text.specs.Numbers.{digit, zero, value, afterSign, decimals, wholeAndDecimals, numberAt}
 use Rattle.text.specs.declared.numbers.Form.{Form}
 use Rattle.text.specs.declared.numbers.Form.the-variants as F
-use Rattle.text.specs.Inner.{DigitsFrom, HundredthsFrom, TailFrom, Parsed}
+use Rattle.text.specs.InnerNumbers.{DigitsFrom, HundredthsFrom, TailFrom, Parsed}
 use Rattle.text.proofs.Bytes.{zero-digit}
 use Rattle.text.proofs.Runs.{run-stop, run-lower, run-upper, run-fails, run-passes, run-within, run-split, run-after}
 use Rattle.text.proofs.Ends.{byte-within, end-byte, end-digits}

@@ -34,7 +34,9 @@ use Rattle.text.specs.declared.headers.Lengthed.the-variants.{Length, No
 use Rattle.text.specs.declared.headers.Head as D
 use Rattle.text.specs.declared.headers.Headed.{Headed}
 use Rattle.text.specs.declared.headers.Headed.the-variants.{Head, NoHead}
-use Rattle.text.specs.Inner.{measuredOf, movedOf, lengthOf, headedOf, HeightFits, forget, Good, valuesOf, bodyOutcome}
+use Rattle.text.specs.InnerNumbers.{measuredOf}
+use Rattle.text.specs.InnerHeaders.{movedOf, lengthedOf, headedOf}
+use Rattle.text.specs.InnerHeights.{HeightFits, forget, Good, valuesOf, bodyOutcome, bodyAnswer}
 use Rattle.text.proofs.Ends.{word-found, word-none}
 
 -- ---- one height
@@ -57,17 +59,17 @@ module _ (n : ℤ) (s : List ℕ) (at : ℕ) (r : Measured) (m : measuredOf r �
     unfolding height
     height-off t u = rw (sym m ∙ ap measuredOf e, t, u)
 
-above-no-data : (z : ℤ) → T (leZ (negℤ (pos 50000)) z) → T (leZ (negℤ (pos 999900)) z)
+above-no-data : (z : ℤ) → T (leZ (negℤ (pos 50000)) z) → T (leZ noDataHeight z)
 above-no-data (pos n) t = tt
 above-no-data (negsuc n) t = le→leb n 999899 (le-trans (leb→le n 49999 t) (lit≤ tt))
 
-pub height-in-fits : (z : ℤ) → heightIn z ≡ true → T (leZ (negℤ (pos 999900)) z) × T (leZ z (pos 900000))
+pub height-in-fits : (z : ℤ) → heightIn z ≡ true → T (leZ noDataHeight z) × T (leZ z (pos 900000))
 height-in-fits z e =
     let b = and-both (leZ (negℤ (pos 50000)) z) (leZ z (pos 900000)) e in
     (above-no-data z (subst T (sym (b .0)) tt), subst T (sym (b .1)) tt)
 
 -- NoData and every height that is allowed fit 32 bits
-pub height-32 : (z : ℤ) → T (leZ (negℤ (pos 999900)) z) → T (leZ z (pos 900000)) → SFits w32 z
+height-32 : (z : ℤ) → T (leZ noDataHeight z) → T (leZ z (pos 900000)) → SFits w32 z
 height-32 (pos n) l h = record { sfits = lt-of-le-of-lt (leb→le n 900000 h) (lit< tt) }
 height-32 (negsuc n) l h = record { sfits = lt-of-le-of-lt (leb→le n 999899 l) (lit< tt) }
 
@@ -103,11 +105,11 @@ values-joined z (got hs j) g = refl
 values-joined z (refused m p) g = absurd g
 
 -- what the answer of `read_height` tells
-pub length-off : (r : Lengthed) (x : Step ℤ) (f : Refusal) → lengthOf r ≡ x → r ≡ NoLength f → x ≡ refused (f .number) (f .place)
-length-off r x f p q = sym p ∙ ap lengthOf q
+pub length-off : (r : Lengthed) (x : Step ℤ) (f : Refusal) → lengthedOf r ≡ x → r ≡ NoLength f → x ≡ refused (f .number) (f .place)
+length-off r x f p q = sym p ∙ ap lengthedOf q
 
-pub length-on : (r : Lengthed) (x : Step ℤ) (y : L.Length) → lengthOf r ≡ x → r ≡ Length y → x ≡ got (y .cm) (y .rest .at)
-length-on r x y p q = sym p ∙ ap lengthOf q
+pub length-on : (r : Lengthed) (x : Step ℤ) (y : L.Length) → lengthedOf r ≡ x → r ≡ Length y → x ≡ got (y .cm) (y .rest .at)
+length-on r x y p q = sym p ∙ ap lengthedOf q
 
 pub length-fits : (r : Lengthed) (y : L.Length) → HeightFits r → r ≡ Length y → SFits w32 (y .cm)
 length-fits r y h q = let b = subst HeightFits q h in height-32 (y .cm) (b .0) (b .1)
@@ -225,8 +227,7 @@ module _ (lent : List ℤ) (s : List ℕ) (r : Headed) (m : headedOf r ≡ H.hea
   unfolding grid
   grid-off f e = rw (sym m ∙ ap headedOf e)
 
-  pub grid-on : (x : D.Head) → r ≡ Head x
-      → bodyOutcome (headerOf (x .header)) lent (body (headerOf (x .header)) (length lent) s (x .rest .at)) ≡ gridAnswer lent s
+  pub grid-on : (x : D.Head) → r ≡ Head x → bodyAnswer (headerOf (x .header)) lent s (x .rest .at) ≡ gridAnswer lent s
   unfolding grid
   grid-on x e = rw (sym m ∙ ap headedOf e) (go (body (headerOf (x .header)) (length lent) s (x .rest .at)))
     where

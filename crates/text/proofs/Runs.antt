@@ -9,7 +9,7 @@ use native.Mathlib.Decide.{decLt}
 use native.Mathlib.Omega.{arith}
 use lib.ListN.{length, getD, List·getD-eq-default}
 use Rattle.text.specs.Words.{run}
-use Rattle.text.specs.Inner.{Limit}
+use Rattle.text.specs.InnerNumbers.{Limit}
 
 module _ (p : ℕ → Bool) (s : List ℕ) where
   pub run-stop : (i n : ℕ) → p (getD s i 0) ≡ false → run p s i n ≡ i

@@ -17,7 +17,8 @@ use Rattle.text.specs.declared.numbers.Number as D
 use Rattle.text.specs.declared.numbers.Numbered.{Numbered}
 use Rattle.text.specs.declared.numbers.Numbered.the-variants.{Number, NoNumber}
 use Rattle.text.specs.declared.Refusal.{Refusal}
-use Rattle.text.specs.Inner.{wordOf, formOf, EndsAt, Parsed, DigitsFrom, numberedOf}
+use Rattle.text.specs.InnerWords.{wordOf}
+use Rattle.text.specs.InnerNumbers.{formOf, EndsAt, Parsed, DigitsFrom, numberedOf}
 use Rattle.text.proofs.Ends.{first-solid, word-found, word-none, end-byte, end-digits, end-lower, end-upper}
 
 pub word-step : (s : List ℕ) (at a e : ℕ) → a ≡ wordStart s at → e ≡ wordEnd s a → a < length s

@@ -12,7 +12,7 @@ use lib.Dec.{lit<}
 use lib.ListN.{length, getD}
 use Rattle.text.specs.Words.{run}
 use Rattle.text.specs.Numbers.{digit, digitOf, digitAt, value}
-use Rattle.text.specs.Inner.{Limit, DigitsFrom, HundredthsFrom}
+use Rattle.text.specs.InnerNumbers.{Limit, DigitsFrom, HundredthsFrom}
 use Rattle.text.proofs.Bytes.{digit-range}
 use Rattle.text.proofs.Runs.{Along, along-none, along-more, along-stop, along-end}
 
@@ -24,25 +24,25 @@ digit-small b = go (digit b) refl
     go false e = omega arith
 
 module _ (s : List ℕ) where
-  pub digit-at : (e i : ℕ) → i < e → digitAt s e i ≡ digitOf (getD s i 0)
+  digit-at : (e i : ℕ) → i < e → digitAt s e i ≡ digitOf (getD s i 0)
   digit-at e i h = rw (lt-ltb i e h)
 
-  pub digit-past : (e i : ℕ) → e ≤ i → digitAt s e i ≡ 0
+  digit-past : (e i : ℕ) → e ≤ i → digitAt s e i ≡ 0
   digit-past e i h = rw (le-ltb i e h)
 
   digit-at-small : (e i : ℕ) → digitAt s e i ≤ 9
   digit-at-small e i =
       elim (decLt i e) [ yes h ↦ rw (digit-at e i h) (digit-small (getD s i 0)) | no f ↦ rw (digit-past e i (omega arith)) (omega arith) ]
 
-  pub value-none : (e i : ℕ) → value s e i 0 ≡ 0
+  value-none : (e i : ℕ) → value s e i 0 ≡ 0
   unfolding value
   value-none e i = refl
 
-  pub value-more : (e i n : ℕ) → value s e i (n + 1) ≡ value s e i n * 10 + digitAt s e (i + n)
+  value-more : (e i n : ℕ) → value s e i (n + 1) ≡ value s e i n * 10 + digitAt s e (i + n)
   unfolding value
   value-more e i n = rw (add-one n, value)
 
-  pub value-small : (e i n : ℕ) → value s e i n < 10 ^ n
+  value-small : (e i n : ℕ) → value s e i n < 10 ^ n
   unfolding value
   value-small e i zero = omega arith
   value-small e i (suc n) = rw pow-suc (omega (arith, value-small e i n, digit-at-small e (i + n)))

@@ -1,5 +1,5 @@
 -- Document 01, "The text": the header. Assumes nothing.
-use Prim.Native.Nat.{ℕ, suc, _+_}
+use Prim.Native.Nat.{ℕ, suc, _+_, _*_}
 use mathlib.Core.Bool.{Bool, true, false, cond, _&&_}
 use mathlib.Core.List.{List, [], _∷_}
 use lib.Dec.{leb, ltb, eqb}
@@ -60,9 +60,13 @@ anyMeasure = do
   m ← measure
   give (m .is)
 
+-- absent: -9999, in cm
+abbrev pub absentNoData : ℤ
+absentNoData = negℤ (pos (9999 * 100))
+
 -- then optionally nodata_value and its number (absent: -9999); an eleventh word that begins with a letter must be nodata_value
 unfoldable pub noData : Reader ℤ
-noData s i = elim (letterNext s i) [ true ↦ field (bytes "nodata_value") anyMeasure s i | false ↦ got (negℤ (pos 999900)) i ]
+noData s i = elim (letterNext s i) [ true ↦ field (bytes "nodata_value") anyMeasure s i | false ↦ got absentNoData i ]
 
 pub record Extent : Type 0 where
   pub rows : ℕ

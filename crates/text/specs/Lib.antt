@@ -1,3 +1,4 @@
+-- Document 01's rules of a text and of its ranges, as the promises cite them; those named Inner are cited by inner functions only.
 pub mod Bytes
 pub mod Quantities
 pub mod Reader
@@ -6,5 +7,8 @@ pub mod Numbers
 pub mod Headers
 pub mod Heights
 pub mod Answers
-pub mod Inner
 pub mod Ranges
+pub mod InnerWords
+pub mod InnerNumbers
+pub mod InnerHeaders
+pub mod InnerHeights

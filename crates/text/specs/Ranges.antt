@@ -32,7 +32,7 @@ unfoldable pub allLong : ℕ → List ℕ → Bool
 allLong n [] = true
 allLong n (length ∷ lengths) = eqb length n && allLong n lengths
 
--- ---- the tests of a call, but for its settings
+-- ---- the tests of a call, but for its settings: the promises of the layers above cite them
 
 -- "1: rows or columns 0 or above 1,024"
 unfoldable pub sizeTest : ℕ → ℕ → Test

@@ -4,8 +4,10 @@ ghost use Prim.Native.Nat.{_≤_};
 ghost use lib.ListN.{length};
 ghost use Rattle.text.specs.Quantities.{sideIn};
 ghost use Rattle.text.specs.Numbers.{count};
-ghost use Rattle.text.specs.Headers.{lower, letter, letterNext, named, name, corner, side, field, anyMeasure, noData, extent, corners, sideAndNoData, header};
-ghost use Rattle.text.specs.Inner.{movedOf, countedOf, sidedOf, lengthOf, extentOf, extendedOf, ExtendedFits, headedOf, Fits, CountFits, HeadFits};
+ghost use Rattle.text.specs.Headers.{lower, letter, letterNext, named, name};
+ghost use Rattle.text.specs.Headers.{corner, side, field, anyMeasure, noData, extent, corners, sideAndNoData, header};
+ghost use Rattle.text.specs.InnerNumbers.{countedOf, CountFits};
+ghost use Rattle.text.specs.InnerHeaders.{movedOf, sidedOf, lengthedOf, extentOf, extendedOf, ExtendedFits, headedOf, Fits, HeadFits};
 use crate::Header;
 use crate::Refusal;
 use crate::numbers;
@@ -15,6 +17,9 @@ use crate::numbers::Numbered;
 use crate::words;
 use crate::words::Cursor;
 use crate::words::Next;
+
+// Document 01, "The text": the NoData number where the text gives none, -9999 m, in cm.
+const ABSENT_NO_DATA: i64 = -9999 * 100;
 
 // The moved cursor, or the refusal.
 pub(crate) enum Moved {
@@ -215,7 +220,7 @@ fn side_field(s: &[u8], k: Cursor, n: &[u8]) -> Sided
 
 // A number in cm of any size.
 fn read_length(s: &[u8], k: Cursor) -> Lengthed
-    ensures { λ r. ⌜ lengthOf r ≡ anyMeasure (now (s .entry)) (k .at) ⌝ }
+    ensures { λ r. ⌜ lengthedOf r ≡ anyMeasure (now (s .entry)) (k .at) ⌝ }
 {
     let m = numbers::read_measure(s, k);
     match m {
@@ -229,7 +234,7 @@ fn read_length(s: &[u8], k: Cursor) -> Lengthed
 
 // The name `n` and a number in cm.
 fn length_field(s: &[u8], k: Cursor, n: &[u8]) -> Lengthed
-    ensures { λ r. ⌜ lengthOf r ≡ field (now (n .entry)) anyMeasure (now (s .entry)) (k .at) ⌝ }
+    ensures { λ r. ⌜ lengthedOf r ≡ field (now (n .entry)) anyMeasure (now (s .entry)) (k .at) ⌝ }
 {
     let m = read_name(s, k, n);
     match m {
@@ -252,13 +257,13 @@ fn letter_next(s: &[u8], k: Cursor) -> bool
 
 // The NoData number in cm: the one given, or -9999 m.
 fn read_no_data(s: &[u8], k: Cursor) -> Lengthed
-    ensures { λ r. ⌜ lengthOf r ≡ noData (now (s .entry)) (k .at) ⌝ }
+    ensures { λ r. ⌜ lengthedOf r ≡ noData (now (s .entry)) (k .at) ⌝ }
 {
     if letter_next(s, k) {
         return length_field(s, k, b"nodata_value");
     }
     Lengthed::Length(Length {
-        cm: -999900,
+        cm: ABSENT_NO_DATA,
         rest: k,
     })
 }

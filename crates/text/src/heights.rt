@@ -2,11 +2,13 @@
 ghost use mathlib.Core.Path.{_≡_};
 ghost use lib.ListN.{length};
 ghost use Rattle.text.specs.Quantities.{heightIn};
-ghost use Rattle.text.specs.Heights.{same, height, heights, end, body};
+ghost use Rattle.text.specs.Heights.{same, height, heights, end};
 ghost use Rattle.text.specs.Answers.{headerOf, gridOutcomeOf};
-ghost use Rattle.text.specs.Inner.{movedOf, lengthOf, HeightFits, Fits, forget, Good, valuesOf, bodyOutcome};
+ghost use Rattle.text.specs.InnerHeaders.{movedOf, lengthedOf, Fits};
+ghost use Rattle.text.specs.InnerHeights.{HeightFits, forget, Good, valuesOf, bodyAnswer};
 use crate::Answer;
 use crate::Header;
+use crate::NO_DATA;
 use crate::Refusal;
 use crate::headers::Length;
 use crate::headers::Lengthed;
@@ -38,7 +40,7 @@ fn is_same(a: i64, b: i64) -> bool
 
 // The next height; `n` is the NoData number.
 fn read_height(s: &[u8], k: Cursor, n: i64) -> Lengthed
-    ensures { λ r. ⌜ (lengthOf r ≡ height n (now (s .entry)) (k .at)) × HeightFits r ⌝ }
+    ensures { λ r. ⌜ (lengthedOf r ≡ height n (now (s .entry)) (k .at)) × HeightFits r ⌝ }
 {
     let m = numbers::read_measure(s, k);
     match m {
@@ -46,7 +48,10 @@ fn read_height(s: &[u8], k: Cursor, n: i64) -> Lengthed
         Measured::Measure(x) => {
             let rest = x.rest;
             if is_same(x.cm, n) {
-                return Lengthed::Length(Length { cm: -999900, rest });
+                return Lengthed::Length(Length {
+                    cm: NO_DATA as i64,
+                    rest,
+                });
             }
             if height_in(x.cm) {
                 return Lengthed::Length(Length { cm: x.cm, rest });
@@ -116,7 +121,7 @@ fn store_heights(s: &[u8], k: Cursor, n: i64, out: &mut [i32])
 // What follows the header: all heights are stored, or none.
 pub(crate) fn read(s: &[u8], k: Cursor, header: Header, out: &mut [i32]) -> Answer
     requires { ⌜ Fits (header .rows) (header .columns) ⌝ }
-    ensures { λ r. ⌜ gridOutcomeOf r (now (out .exit)) ≡ bodyOutcome (headerOf header) (now (out .entry)) (body (headerOf header) (length (now (out .entry))) (now (s .entry)) (k .at)) ⌝ }
+    ensures { λ r. ⌜ gridOutcomeOf r (now (out .exit)) ≡ bodyAnswer (headerOf header) (now (out .entry)) (now (s .entry)) (k .at) ⌝ }
 {
     if out.len() != header.rows * header.columns {
         return Answer::Refused(Refusal {

@@ -7,7 +7,7 @@ ghost use lib.ListN.{length, getD};
 ghost use Rattle.text.specs.Words.{run, solid, wordEnd};
 ghost use Rattle.text.specs.Numbers.{digit, digitOf, zero, afterSign, value, numberAt, decimals, centimetres, number};
 ghost use Rattle.text.specs.Numbers as D;
-ghost use Rattle.text.specs.Inner.{Limit, DigitsFrom, HundredthsFrom, TailFrom, Parsed, numberedOf, Sized, measuredOf, countedOf, CountFits};
+ghost use Rattle.text.specs.InnerNumbers.{Limit, DigitsFrom, HundredthsFrom, TailFrom, Parsed, numberedOf, SizeFits, measuredOf, countedOf, CountFits};
 use crate::Refusal;
 use crate::words;
 use crate::words::Cursor;
@@ -240,7 +240,7 @@ pub(crate) enum Numbered {
 impl Cursor {
     // The next word as a number, and the moved cursor.
     pub(crate) fn number(self, s: &[u8]) -> Numbered
-        ensures { λ r. ⌜ (numberedOf r ≡ number (now (s .entry)) (self .at)) × Sized r ⌝ }
+        ensures { λ r. ⌜ (numberedOf r ≡ number (now (s .entry)) (self .at)) × SizeFits r ⌝ }
     {
         let at = self.at;
         let a = words::word_start(s, at);

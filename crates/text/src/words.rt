@@ -3,7 +3,7 @@ ghost use mathlib.Core.Path.{_≡_};
 ghost use Prim.Native.Nat.{_<_};
 ghost use lib.ListN.{length};
 ghost use Rattle.text.specs.Words.{blank, wordStart, wordEnd, word};
-ghost use Rattle.text.specs.Inner.{wordOf, Inside};
+ghost use Rattle.text.specs.InnerWords.{wordOf, Inside};
 
 // Where reading goes on.
 pub(crate) struct Cursor {

@@ -1,7 +1,7 @@
 -- `text::read_header` meets its contract. Assumes nothing.
 use mathlib.Core.Path.{sym, ap, _∙_}
 use Rattle.text.specs.Answers.{headerOutcome}
-use Rattle.text.specs.Inner.{headedOf}
+use Rattle.text.specs.InnerHeaders.{headedOf}
 use borrow.Author.Needs.{needs}
 use Rattle.text.proofs.read_header.Statement.{statement}
 use Rattle.text.proofs.read_header.Tie as tie

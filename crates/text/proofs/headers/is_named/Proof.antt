@@ -15,6 +15,10 @@ Inv-loop s a e n i₀ j₀ i j = (named s a e n ≡ named s i e (drop j n)) × (
 abbrev μ-loop : tie.MeasureT-loop
 μ-loop s a e n i₀ j₀ i j = length n - j
 
+-- the name's next byte, from the comparison on
+abbrev turn : tie.After-lower-case Inv-loop μ-loop → tie.Else1 Inv-loop μ-loop
+turn c = c .before .before
+
 loop-holds : tie.Need-loop-holds Inv-loop μ-loop
 loop-holds c = (refl, omega arith)
 
@@ -31,7 +35,9 @@ shared-slice-read-if2 : tie.Need-shared-slice-read-if2 Inv-loop μ-loop
 shared-slice-read-if2 c = omega arith
 
 returns-2 : tie.Need-returns-2 Inv-loop μ-loop
-returns-2 c = sym (c .before .before .before .before .before .before .loop .inv .0 ∙ named-other _ _ _ _ _ (c .before .before .before .before .before .loop-test .taken) (c .before .before .before .before .if1 .left) (λ q. c .if2 .taken (c .before .before .lower-case .ensures ∙ q)))
+returns-2 c =
+    let b = turn (c .before .before) in
+    sym (b .before .before .loop .inv .0 ∙ named-other _ _ _ _ _ (b .before .loop-test .taken) (b .if1 .left) (λ q. c .if2 .taken (c .before .before .lower-case .ensures ∙ q)))
 
 add-i : tie.Need-add-i Inv-loop μ-loop
 add-i c = omega arith
@@ -43,7 +49,9 @@ loop-less : tie.Need-loop-less Inv-loop μ-loop
 loop-less c = omega arith
 
 loop-again : tie.Need-loop-again Inv-loop μ-loop
-loop-again c = (c .before .before .before .before .before .before .loop .inv .0 ∙ named-more _ _ _ _ _ (c .before .before .before .before .before .loop-test .taken) (c .before .before .before .before .if1 .left) (sym (c .before .before .lower-case .ensures) ∙ c .if2 .left), omega arith)
+loop-again c =
+    let b = turn (c .before .before) in
+    (b .before .before .loop .inv .0 ∙ named-more _ _ _ _ _ (b .before .loop-test .taken) (b .if1 .left) (sym (c .before .before .lower-case .ensures) ∙ c .if2 .left), omega arith)
 
 returns-3 : tie.Need-returns-3 Inv-loop μ-loop
 returns-3 c = sym (c .before .loop .inv .0 ∙ named-end _ _ _ _ _ (c .loop-test .left))

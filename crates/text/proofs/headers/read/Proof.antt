@@ -1,10 +1,17 @@
 -- `text::headers::read` meets its contract. Assumes nothing.
 use mathlib.Core.Path.{_∙_, subst}
-use Rattle.text.specs.Inner.{ExtendedFits}
+use Rattle.text.specs.InnerHeaders.{ExtendedFits}
 use Rattle.text.proofs.Fields.{header-no-extent, header-no-corners, header-on}
 use borrow.Author.Needs.{needs}
 use Rattle.text.proofs.headers.read.Statement.{statement}
 use Rattle.text.proofs.headers.read.Tie as tie
+
+-- the extent, from the corners on; and its reading
+abbrev extent-at : tie.After-read-corners → tie.After-x2
+extent-at c = c .before .before .before
+
+abbrev extent-read : tie.After-x2 → tie.After-read-extent
+extent-read c = c .before .before
 
 read-extent-requires : tie.Need-read-extent-requires
 read-extent-requires c κs = search needs
@@ -25,16 +32,25 @@ enum-known-m-2 : tie.Need-enum-known-m-2
 enum-known-m-2 c = search needs
 
 read-side-and-no-data-requires : tie.Need-read-side-and-no-data-requires
-read-side-and-no-data-requires c κs = subst ExtendedFits (c .before .before .before .before .before .before .x2 .given .1) (c .before .before .before .before .before .before .before .before .read-extent .ensures .1)
+read-side-and-no-data-requires c κs = let e = extent-at (c .before .before .before) in subst ExtendedFits (e .x2 .given .1) (extent-read e .read-extent .ensures .1)
 
 returns : tie.Need-returns
 returns c = (header-no-extent _ _ _ (c .before .before .before .read-extent .ensures .0) _ (c .before .x .given .1), tt)
 
 returns-2 : tie.Need-returns-2
-returns-2 c = (header-no-corners _ _ _ (c .before .before .before .before .before .before .before .before .read-extent .ensures .0) _ (c .before .before .before .before .before .before .x2 .given .1) _ (c .before .before .before .read-corners .ensures) _ (c .before .m .given .1), tt)
+returns-2 c =
+    let k = c .before .before .before in
+    let e = extent-at k in
+    (header-no-corners _ _ _ (extent-read e .read-extent .ensures .0) _ (e .x2 .given .1) _ (k .read-corners .ensures) _ (c .before .m .given .1), tt)
 
 returns-3 : tie.Need-returns-3
-returns-3 c = (c .read-side-and-no-data .ensures .0 ∙ header-on _ _ _ (c .before .before .before .before .before .before .before .before .before .read-extent .ensures .0) _ (c .before .before .before .before .before .before .before .x2 .given .1) _ (c .before .before .before .before .read-corners .ensures) _ (c .before .before .m2 .given .1), c .read-side-and-no-data .ensures .1)
+returns-3 c =
+    let k = c .before .before .before .before in
+    let e = extent-at k in (
+      c .read-side-and-no-data .ensures .0
+          ∙ header-on _ _ _ (extent-read e .read-extent .ensures .0) _ (e .x2 .given .1) _ (k .read-corners .ensures) _ (c .before .before .m2 .given .1),
+      c .read-side-and-no-data .ensures .1,
+    )
 
 pub read-spec : {M : Type 1} → statement M
 read-spec =

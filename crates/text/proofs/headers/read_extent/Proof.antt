@@ -5,6 +5,13 @@ use borrow.Author.Needs.{needs}
 use Rattle.text.proofs.headers.read_extent.Statement.{statement}
 use Rattle.text.proofs.headers.read_extent.Tie as tie
 
+-- the columns, from the rows on; and their reading
+abbrev columns-at : tie.After-count-field2 → tie.After-c2
+columns-at c = c .before .before .before .before
+
+abbrev columns-read : tie.After-c2 → tie.After-count-field
+columns-read c = c .before .before
+
 slice-aggregate-count-field : tie.Need-slice-aggregate-count-field
 slice-aggregate-count-field c = search needs
 
@@ -35,14 +42,21 @@ returns c = (extent-no-columns _ _ _ (c .before .before .before .count-field .en
 
 returns-2 : tie.Need-returns-2
 unfolding bytes
-returns-2 c = (extent-no-rows _ _ _ (c .before .before .before .before .before .before .before .before .before .count-field .ensures .0) _ (c .before .before .before .before .before .before .before .c2 .given .1) _ (c .before .before .before .count-field2 .ensures .0) _ (c .before .r .given .1), tt)
+returns-2 c =
+    let r = c .before .before .before in
+    let k = columns-at r in
+    (extent-no-rows _ _ _ (columns-read k .count-field .ensures .0) _ (k .c2 .given .1) _ (r .count-field2 .ensures .0) _ (c .before .r .given .1), tt)
 
 returns-3 : tie.Need-returns-3
 unfolding bytes
-returns-3 c = (
-  extent-on _ _ _ (c .before .before .before .before .before .before .before .before .before .before .count-field .ensures .0) _ (c .before .before .before .before .before .before .before .before .c2 .given .1) _ (c .before .before .before .before .count-field2 .ensures .0) _ (c .before .before .r2 .given .1),
-  extent-fits _ _ _ _ (c .before .before .before .before .before .before .before .before .c2 .given .1) (c .before .before .r2 .given .1) (c .before .before .before .before .before .before .before .before .before .before .count-field .ensures .1) (c .before .before .before .before .count-field2 .ensures .1),
-)
+returns-3 c =
+    let x = c .before .before in
+    let r = x .before .before in
+    let k = columns-at r in
+    let f = columns-read k .count-field .ensures in (
+      extent-on _ _ _ (f .0) _ (k .c2 .given .1) _ (r .count-field2 .ensures .0) _ (x .r2 .given .1),
+      extent-fits _ _ _ _ (k .c2 .given .1) (x .r2 .given .1) (f .1) (r .count-field2 .ensures .1),
+    )
 
 pub read-extent-spec : {M : Type 1} → statement M
 read-extent-spec =

@@ -7,7 +7,7 @@ use mir.Val.{toZ}
 use mir.Facts.{toZ-ofZ}
 use denote.Ref.{now}
 use Rattle.text.specs.Heights.{heights}
-use Rattle.text.specs.Inner.{forget}
+use Rattle.text.specs.InnerHeights.{forget}
 use Rattle.text.proofs.Grids.{judge-off, judge-on, judge-all, length-off, length-on}
 use borrow.Author.Needs.{needs}
 use Rattle.text.proofs.heights.judge_heights.Statement.{statement}
@@ -30,10 +30,12 @@ enum-known-h c = search needs
 
 returns : tie.Need-returns Inv-loop μ-loop
 returns c =
-    let a = c .before .before .before .before .before .before .before .args in
-    let e = toZ-ofZ (c .before .before .before .before .before .before .before .fits .n) in
-    sym (ap (λ (n : ℤ). forget (heights n (a .count) (now (a .s)) (a .k .at))) (sym e) ∙ c .before .before .before .before .before .loop .inv
-    ∙ judge-off _ _ _ _ _ _ (c .before .before .before .before .loop-test .taken) (length-off _ _ _ (c .before .before .before .read-height .ensures .0) (c .before .h .given .1)))
+    let r = c .before .before .before in
+    let l = r .before .before in
+    let s = l .before .before in
+    let a = s .args in
+    sym (ap (λ (n : ℤ). forget (heights n (a .count) (now (a .s)) (a .k .at))) (sym (toZ-ofZ (s .fits .n))) ∙ l .loop .inv
+    ∙ judge-off _ _ _ _ _ _ (r .before .loop-test .taken) (length-off _ _ _ (r .read-height .ensures .0) (c .before .h .given .1)))
 
 enum-known-h-2 : tie.Need-enum-known-h-2 Inv-loop μ-loop
 enum-known-h-2 c = search needs
@@ -45,7 +47,9 @@ loop-less : tie.Need-loop-less Inv-loop μ-loop
 loop-less c = omega arith
 
 loop-again : tie.Need-loop-again Inv-loop μ-loop
-loop-again c = c .before .before .before .before .before .loop .inv ∙ judge-on _ _ _ _ _ _ (c .before .before .before .before .loop-test .taken) (length-on _ _ _ (c .before .before .before .read-height .ensures .0) (c .before .h2 .given .1))
+loop-again c =
+    let r = c .before .before .before in
+    r .before .before .loop .inv ∙ judge-on _ _ _ _ _ _ (r .before .loop-test .taken) (length-on _ _ _ (r .read-height .ensures .0) (c .before .h2 .given .1))
 
 returns-2 : tie.Need-returns-2 Inv-loop μ-loop
 returns-2 c =

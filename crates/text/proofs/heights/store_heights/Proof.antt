@@ -11,7 +11,7 @@ use mir.Facts.{toZ-ofZ}
 use denote.Ref.{now}
 use Rattle.laws.proofs.Filling.{filling-all}
 use Rattle.text.specs.Heights.{heights}
-use Rattle.text.specs.Inner.{Good, valuesOf}
+use Rattle.text.specs.InnerHeights.{Good, valuesOf}
 use Rattle.text.proofs.Grids.{Storing, storing-more, store-off, store-all, length-off, length-on, length-fits}
 use borrow.Author.Needs.{needs}
 use Rattle.text.proofs.heights.store_heights.Statement.{statement}
@@ -54,8 +54,9 @@ returns c = absurd (store-off _ _ _ _ _ _ (omega arith) (c .before .before .befo
 
 cast-out : tie.Need-cast-out Inv-loop μ-loop
 cast-out c =
-    let ez : toZ w64 (ofZ w64 (c .before .before .before .h .given .0 .0 .cm)) ≡ c .before .before .before .h .given .0 .0 .cm = search needs in
-    rw ez (length-fits _ _ (c .before .before .before .before .before .read-height .ensures .1) (c .before .before .before .h .given .1))
+    let h = c .before .before .before in
+    let ez : toZ w64 (ofZ w64 (h .h .given .0 .0 .cm)) ≡ h .h .given .0 .0 .cm = search needs in
+    rw ez (length-fits _ _ (h .before .before .read-height .ensures .1) (h .h .given .1))
 
 mul-t9 : tie.Need-mul-t9 Inv-loop μ-loop
 mul-t9 c = omega arith
@@ -71,14 +72,16 @@ loop-less c = simp length-set (omega arith)
 
 loop-again : tie.Need-loop-again Inv-loop μ-loop
 loop-again c =
-    let l = c .before .before .before .before .before .before .before .loop in
-    let z = c .before .before .before .h .given .0 .0 .cm in
-    let ez : toZ w64 (ofZ w64 (z)) ≡ z = search needs in
+    let h = c .before .before .before in
+    let r = h .before .before in
+    let l = r .before .before .loop in
+    let z = h .h .given .0 .0 .cm in
+    let ez : toZ w64 (ofZ w64 z) ≡ z = search needs in
     let y = toZ w32 (ofZ w32 (toZ w64 (ofZ w64 z))) in
-    let ey : y ≡ z = ap (λ (x : ℤ). toZ w32 (ofZ w32 x)) ez ∙ toZ-ofZ (length-fits _ _ (c .before .before .before .before .before .read-height .ensures .1) (c .before .before .before .h .given .1)) in (
+    let ey : y ≡ z = ap (λ (x : ℤ). toZ w32 (ofZ w32 x)) ez ∙ toZ-ofZ (length-fits _ _ (r .read-height .ensures .1) (h .h .given .1)) in (
       length-set (l .out) (l .i) y ∙ l .inv .0,
       simp length-set (omega arith),
-      storing-more _ _ _ _ (l .i) _ z y (l .out) (l .inv .2) (c .before .before .before .before .before .before .loop-test .taken) (length-on _ _ _ (c .before .before .before .before .before .read-height .ensures .0) (c .before .before .before .h .given .1)) ey,
+      storing-more _ _ _ _ (l .i) _ z y (l .out) (l .inv .2) (r .before .loop-test .taken) (length-on _ _ _ (r .read-height .ensures .0) (h .h .given .1)) ey,
     )
 
 same-length-2 : tie.Need-same-length-2 Inv-loop μ-loop

@@ -22,16 +22,44 @@ ends-requires : tie.Need-ends-requires
 ends-requires c κs = search needs
 
 returns-3 : tie.Need-returns-3
-returns-3 c = (count-off _ _ _ (c .before .before .before .before .before .word-start .ensures) (c .before .before .before .before .if1 .left) _ _ (c .before .before .before .read-digits .ensures) (c .before .before .if2 .left) (sym (c .before .ends .ensures) ∙ not-true _ (c .if3 .taken)), tt)
+returns-3 c =
+    let n = c .before .before in
+    let d = n .before in
+    let w = d .before in
+    (count-off _ _ _ (w .before .word-start .ensures) (w .if1 .left) _ _ (d .read-digits .ensures) (n .if2 .left) (sym (c .before .ends .ensures) ∙ not-true _ (c .if3 .taken)), tt)
 
 returns-4 : tie.Need-returns-4
-returns-4 c = (count-low _ _ _ (c .before .before .before .before .before .before .word-start .ensures) (c .before .before .before .before .before .if1 .left) _ _ (c .before .before .before .before .read-digits .ensures) (c .before .before .before .if2 .left) (sym (c .before .before .ends .ensures) ∙ not-false _ (c .before .if3 .left)) (c .if4 .taken), tt)
+returns-4 c =
+    let e = c .before in
+    let n = e .before .before in
+    let d = n .before in
+    let w = d .before in (
+      count-low _ _ _ (w .before .word-start .ensures) (w .if1 .left) _ _ (d .read-digits .ensures) (n .if2 .left) (sym (e .before .ends .ensures) ∙ not-false _ (e .if3 .left))
+          (c .if4 .taken),
+      tt,
+    )
 
 returns-5 : tie.Need-returns-5
-returns-5 c = (count-high _ _ _ (c .before .before .before .before .before .before .before .word-start .ensures) (c .before .before .before .before .before .before .if1 .left) _ _ (c .before .before .before .before .before .read-digits .ensures) (c .before .before .before .before .if2 .left) (sym (c .before .before .before .ends .ensures) ∙ not-false _ (c .before .before .if3 .left)) (c .before .if4 .left) (c .if5 .taken), tt)
+returns-5 c =
+    let e = c .before .before in
+    let n = e .before .before in
+    let d = n .before in
+    let w = d .before in (
+      count-high _ _ _ (w .before .word-start .ensures) (w .if1 .left) _ _ (d .read-digits .ensures) (n .if2 .left) (sym (e .before .ends .ensures) ∙ not-false _ (e .if3 .left))
+          (c .before .if4 .left) (c .if5 .taken),
+      tt,
+    )
 
 returns-6 : tie.Need-returns-6
-returns-6 c = (count-on _ _ _ (c .before .before .before .before .before .before .before .word-start .ensures) (c .before .before .before .before .before .before .if1 .left) _ _ (c .before .before .before .before .before .read-digits .ensures) (c .before .before .before .before .if2 .left) (sym (c .before .before .before .ends .ensures) ∙ not-false _ (c .before .before .if3 .left)) (c .before .if4 .left) (c .if5 .left), c .if5 .left)
+returns-6 c =
+    let e = c .before .before in
+    let n = e .before .before in
+    let d = n .before in
+    let w = d .before in (
+      count-on _ _ _ (w .before .word-start .ensures) (w .if1 .left) _ _ (d .read-digits .ensures) (n .if2 .left) (sym (e .before .ends .ensures) ∙ not-false _ (e .if3 .left))
+          (c .before .if4 .left) (c .if5 .left),
+      c .if5 .left,
+    )
 
 pub read-count-spec : {M : Type 1} → statement M
 read-count-spec =
