@@ -4,6 +4,7 @@ ghost use Prim.Native.Nat.{_+_, _*_, _≤_, _<_, _^_};
 ghost use lib.ListN.{length};
 ghost use Rattle.sheet.specs.Words.{decimal, integer, line};
 ghost use Rattle.sheet.specs.Writing.{Wrote};
+ghost use Rattle.sheet.specs.InnerLines.{lengthWords, flowWords, summaryWords, placeWords};
 ghost use Rattle.sheet.specs.Lines.{refusalLine, factorWord, valueWords, shownWords, cellLine, shapeLine, cellLines, mapLines, gridsOf, Long};
 use crate::writer;
 use text::NO_DATA;
@@ -47,7 +48,7 @@ fn put_height(out: &mut [u8], at: usize, height: i32) -> usize
 
 // LS and the line's end.
 fn put_factor(out: &mut [u8], at: usize, factor: u32) -> usize
-    requires { ⌜ at < 2 ^ 60 ⌝ }
+    requires { ⌜ at < 2 ^ 61 ⌝ }
     ensures { λ r. ⌜ (Wrote (now (out .entry)) at (factorWord factor ++ (10 ∷ [])) r (now (out .exit))) × (r ≤ at + 21) ⌝ }
 {
     if factor == 4294967294 {
@@ -56,22 +57,38 @@ fn put_factor(out: &mut [u8], at: usize, factor: u32) -> usize
     put_number(out, at, factor as u64, b'\n')
 }
 
+// The rest of a valid cell's line behind its count: length and LS.
+fn put_length(out: &mut [u8], at: usize, cell: Cell) -> usize
+    requires { ⌜ at < 2 ^ 60 ⌝ }
+    ensures { λ r. ⌜ (Wrote (now (out .entry)) at (line (lengthWords cell)) r (now (out .exit))) × (r ≤ at + 42) ⌝ }
+{
+    let a = put_number(out, at, cell.length, b' ');
+    put_factor(out, a, cell.factor)
+}
+
+// The rest of a valid cell's line behind its heights: direction, count, length and LS.
+fn put_flow(out: &mut [u8], at: usize, cell: Cell) -> usize
+    requires { ⌜ at < 2 ^ 59 ⌝ }
+    ensures { λ r. ⌜ (Wrote (now (out .entry)) at (line (flowWords cell)) r (now (out .exit))) × (r ≤ at + 84) ⌝ }
+{
+    let a = put_number(out, at, cell.direction as u64, b' ');
+    let b = put_number(out, a, cell.count as u64, b' ');
+    put_length(out, b, cell)
+}
+
 // The rest of a valid cell's line behind row and column.
 fn put_values(out: &mut [u8], at: usize, cell: Cell) -> usize
-    requires { ⌜ at < 2 ^ 59 ⌝ }
+    requires { ⌜ at < 2 ^ 58 ⌝ }
     ensures { λ r. ⌜ (Wrote (now (out .entry)) at (line (valueWords cell)) r (now (out .exit))) × (r ≤ at + 108) ⌝ }
 {
     let a = put_height(out, at, cell.ground);
     let b = put_height(out, a, cell.filled);
-    let c = put_number(out, b, cell.direction as u64, b' ');
-    let d = put_number(out, c, cell.count as u64, b' ');
-    let e = put_number(out, d, cell.length, b' ');
-    put_factor(out, e, cell.factor)
+    put_flow(out, b, cell)
 }
 
 // The rest of any cell's line behind row and column.
 fn put_shown(out: &mut [u8], at: usize, cell: Cell) -> usize
-    requires { ⌜ at < 2 ^ 59 ⌝ }
+    requires { ⌜ at < 2 ^ 58 ⌝ }
     ensures { λ r. ⌜ (Wrote (now (out .entry)) at (line (shownWords cell)) r (now (out .exit))) × (r ≤ at + 108) ⌝ }
 {
     if cell.ground == NO_DATA {
@@ -82,12 +99,22 @@ fn put_shown(out: &mut [u8], at: usize, cell: Cell) -> usize
 
 // A cell's line.
 fn put_cell(out: &mut [u8], at: usize, row: usize, column: usize, cell: Cell) -> usize
-    requires { ⌜ at < 2 ^ 58 ⌝ }
+    requires { ⌜ at < 2 ^ 57 ⌝ }
     ensures { λ r. ⌜ (Wrote (now (out .entry)) at (cellLine row column cell) r (now (out .exit))) × (r ≤ at + 150) ⌝ }
 {
     let a = put_number(out, at, row as u64, b' ');
     let b = put_number(out, a, column as u64, b' ');
     put_shown(out, b, cell)
+}
+
+// The rest of a map's first line behind rows and columns: side, valid cells and longest trail.
+fn put_summary(out: &mut [u8], at: usize, shape: Shape) -> usize
+    requires { ⌜ at < 2 ^ 59 ⌝ }
+    ensures { λ r. ⌜ (Wrote (now (out .entry)) at (line (summaryWords shape)) r (now (out .exit))) × (r ≤ at + 63) ⌝ }
+{
+    let a = put_number(out, at, shape.side as u64, b' ');
+    let b = put_number(out, a, shape.valid as u64, b' ');
+    put_number(out, b, shape.longest as u64, b'\n')
 }
 
 // A map's first line.
@@ -97,9 +124,16 @@ fn put_shape(out: &mut [u8], at: usize, shape: Shape) -> usize
 {
     let a = put_number(out, at, shape.rows as u64, b' ');
     let b = put_number(out, a, shape.columns as u64, b' ');
-    let c = put_number(out, b, shape.side as u64, b' ');
-    let d = put_number(out, c, shape.valid as u64, b' ');
-    put_number(out, d, shape.longest as u64, b'\n')
+    put_summary(out, b, shape)
+}
+
+// The rest of a refusal's line behind its number.
+fn put_place(out: &mut [u8], at: usize, place: usize) -> usize
+    requires { ⌜ at < 2 ^ 60 ⌝ }
+    ensures { λ r. ⌜ (Wrote (now (out .entry)) at (line (placeWords place)) r (now (out .exit))) × (r ≤ at + 24) ⌝ }
+{
+    let a = writer::put_all(out, at, b"at ");
+    put_number(out, a, place as u64, b'\n')
 }
 
 // The one line of a refusal.
@@ -108,8 +142,7 @@ pub(crate) fn put_refusal(out: &mut [u8], number: u32, place: usize) -> usize
 {
     let a = writer::put_all(out, 0, b"refused ");
     let b = put_number(out, a, number as u64, b' ');
-    let c = writer::put_all(out, b, b"at ");
-    put_number(out, c, place as u64, b'\n')
+    put_place(out, b, place)
 }
 
 // The lines of a map's cells.
