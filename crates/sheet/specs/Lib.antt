@@ -2,6 +2,8 @@ pub mod Words
 pub mod Writing
 pub mod Lines
 pub mod InnerLines
+pub mod InnerWriting
+pub mod InnerGrids
 pub mod Answers
 pub mod Room
 pub mod Sheet

@@ -3,7 +3,8 @@ ghost use mathlib.Core.List.{[], _∷_, _++_};
 ghost use Prim.Native.Nat.{_+_, _*_, _≤_, _<_, _^_};
 ghost use lib.ListN.{length};
 ghost use Rattle.sheet.specs.Words.{decimal, integer, line};
-ghost use Rattle.sheet.specs.Writing.{Wrote};
+ghost use Rattle.sheet.specs.InnerWriting.{Puts};
+ghost use Rattle.sheet.specs.InnerGrids.{gridsBefore};
 ghost use Rattle.sheet.specs.InnerLines.{lengthWords, flowWords, summaryWords, placeWords};
 ghost use Rattle.sheet.specs.Lines.{refusalLine, factorWord, valueWords, shownWords, cellLine, shapeLine, cellLines, mapLines, gridsOf, Long};
 use crate::writer;
@@ -31,7 +32,7 @@ pub(crate) struct Shape {
 // A number and the byte after it.
 fn put_number(out: &mut [u8], at: usize, n: u64, end: u8) -> usize
     requires { ⌜ at < 2 ^ 61 ⌝ }
-    ensures { λ r. ⌜ (Wrote (now (out .entry)) at (decimal n ++ (end ∷ [])) r (now (out .exit))) × (r ≤ at + 21) ⌝ }
+    ensures { λ r. ⌜ Puts out at (decimal n ++ (end ∷ [])) r (at + 21) ⌝ }
 {
     let next = writer::put_natural(out, at, n);
     writer::put(out, next, end)
@@ -40,7 +41,7 @@ fn put_number(out: &mut [u8], at: usize, n: u64, end: u8) -> usize
 // A height and a blank.
 fn put_height(out: &mut [u8], at: usize, height: i32) -> usize
     requires { ⌜ at < 2 ^ 60 ⌝ }
-    ensures { λ r. ⌜ (Wrote (now (out .entry)) at (integer height ++ (32 ∷ [])) r (now (out .exit))) × (r ≤ at + 12) ⌝ }
+    ensures { λ r. ⌜ Puts out at (integer height ++ (32 ∷ [])) r (at + 12) ⌝ }
 {
     let next = writer::put_integer(out, at, height);
     writer::put(out, next, b' ')
@@ -49,7 +50,7 @@ fn put_height(out: &mut [u8], at: usize, height: i32) -> usize
 // LS and the line's end.
 fn put_factor(out: &mut [u8], at: usize, factor: u32) -> usize
     requires { ⌜ at < 2 ^ 61 ⌝ }
-    ensures { λ r. ⌜ (Wrote (now (out .entry)) at (factorWord factor ++ (10 ∷ [])) r (now (out .exit))) × (r ≤ at + 21) ⌝ }
+    ensures { λ r. ⌜ Puts out at (factorWord factor ++ (10 ∷ [])) r (at + 21) ⌝ }
 {
     if factor == 4294967294 {
         return writer::put_all(out, at, b"long\n");
@@ -60,7 +61,7 @@ fn put_factor(out: &mut [u8], at: usize, factor: u32) -> usize
 // The rest of a valid cell's line behind its count: length and LS.
 fn put_length(out: &mut [u8], at: usize, cell: Cell) -> usize
     requires { ⌜ at < 2 ^ 60 ⌝ }
-    ensures { λ r. ⌜ (Wrote (now (out .entry)) at (line (lengthWords cell)) r (now (out .exit))) × (r ≤ at + 42) ⌝ }
+    ensures { λ r. ⌜ Puts out at (line (lengthWords cell)) r (at + 42) ⌝ }
 {
     let a = put_number(out, at, cell.length, b' ');
     put_factor(out, a, cell.factor)
@@ -69,7 +70,7 @@ fn put_length(out: &mut [u8], at: usize, cell: Cell) -> usize
 // The rest of a valid cell's line behind its heights: direction, count, length and LS.
 fn put_flow(out: &mut [u8], at: usize, cell: Cell) -> usize
     requires { ⌜ at < 2 ^ 59 ⌝ }
-    ensures { λ r. ⌜ (Wrote (now (out .entry)) at (line (flowWords cell)) r (now (out .exit))) × (r ≤ at + 84) ⌝ }
+    ensures { λ r. ⌜ Puts out at (line (flowWords cell)) r (at + 84) ⌝ }
 {
     let a = put_number(out, at, cell.direction as u64, b' ');
     let b = put_number(out, a, cell.count as u64, b' ');
@@ -79,7 +80,7 @@ fn put_flow(out: &mut [u8], at: usize, cell: Cell) -> usize
 // The rest of a valid cell's line behind row and column.
 fn put_values(out: &mut [u8], at: usize, cell: Cell) -> usize
     requires { ⌜ at < 2 ^ 58 ⌝ }
-    ensures { λ r. ⌜ (Wrote (now (out .entry)) at (line (valueWords cell)) r (now (out .exit))) × (r ≤ at + 108) ⌝ }
+    ensures { λ r. ⌜ Puts out at (line (valueWords cell)) r (at + 108) ⌝ }
 {
     let a = put_height(out, at, cell.ground);
     let b = put_height(out, a, cell.filled);
@@ -89,7 +90,7 @@ fn put_values(out: &mut [u8], at: usize, cell: Cell) -> usize
 // The rest of any cell's line behind row and column.
 fn put_shown(out: &mut [u8], at: usize, cell: Cell) -> usize
     requires { ⌜ at < 2 ^ 58 ⌝ }
-    ensures { λ r. ⌜ (Wrote (now (out .entry)) at (line (shownWords cell)) r (now (out .exit))) × (r ≤ at + 108) ⌝ }
+    ensures { λ r. ⌜ Puts out at (line (shownWords cell)) r (at + 108) ⌝ }
 {
     if cell.ground == NO_DATA {
         return writer::put_all(out, at, b"- - - - - -\n");
@@ -100,7 +101,7 @@ fn put_shown(out: &mut [u8], at: usize, cell: Cell) -> usize
 // A cell's line.
 fn put_cell(out: &mut [u8], at: usize, row: usize, column: usize, cell: Cell) -> usize
     requires { ⌜ at < 2 ^ 57 ⌝ }
-    ensures { λ r. ⌜ (Wrote (now (out .entry)) at (cellLine row column cell) r (now (out .exit))) × (r ≤ at + 150) ⌝ }
+    ensures { λ r. ⌜ Puts out at (cellLine row column cell) r (at + 150) ⌝ }
 {
     let a = put_number(out, at, row as u64, b' ');
     let b = put_number(out, a, column as u64, b' ');
@@ -110,7 +111,7 @@ fn put_cell(out: &mut [u8], at: usize, row: usize, column: usize, cell: Cell) ->
 // The rest of a map's first line behind rows and columns: side, valid cells and longest trail.
 fn put_summary(out: &mut [u8], at: usize, shape: Shape) -> usize
     requires { ⌜ at < 2 ^ 59 ⌝ }
-    ensures { λ r. ⌜ (Wrote (now (out .entry)) at (line (summaryWords shape)) r (now (out .exit))) × (r ≤ at + 63) ⌝ }
+    ensures { λ r. ⌜ Puts out at (line (summaryWords shape)) r (at + 63) ⌝ }
 {
     let a = put_number(out, at, shape.side as u64, b' ');
     let b = put_number(out, a, shape.valid as u64, b' ');
@@ -120,7 +121,7 @@ fn put_summary(out: &mut [u8], at: usize, shape: Shape) -> usize
 // A map's first line.
 fn put_shape(out: &mut [u8], at: usize, shape: Shape) -> usize
     requires { ⌜ at < 2 ^ 58 ⌝ }
-    ensures { λ r. ⌜ (Wrote (now (out .entry)) at (shapeLine shape) r (now (out .exit))) × (r ≤ at + 105) ⌝ }
+    ensures { λ r. ⌜ Puts out at (shapeLine shape) r (at + 105) ⌝ }
 {
     let a = put_number(out, at, shape.rows as u64, b' ');
     let b = put_number(out, a, shape.columns as u64, b' ');
@@ -130,7 +131,7 @@ fn put_shape(out: &mut [u8], at: usize, shape: Shape) -> usize
 // The rest of a refusal's line behind its number.
 fn put_place(out: &mut [u8], at: usize, place: usize) -> usize
     requires { ⌜ at < 2 ^ 60 ⌝ }
-    ensures { λ r. ⌜ (Wrote (now (out .entry)) at (line (placeWords place)) r (now (out .exit))) × (r ≤ at + 24) ⌝ }
+    ensures { λ r. ⌜ Puts out at (line (placeWords place)) r (at + 24) ⌝ }
 {
     let a = writer::put_all(out, at, b"at ");
     put_number(out, a, place as u64, b'\n')
@@ -138,7 +139,7 @@ fn put_place(out: &mut [u8], at: usize, place: usize) -> usize
 
 // The one line of a refusal.
 pub(crate) fn put_refusal(out: &mut [u8], number: u32, place: usize) -> usize
-    ensures { λ r. ⌜ (Wrote (now (out .entry)) 0 (refusalLine number place) r (now (out .exit))) × (r ≤ 53) ⌝ }
+    ensures { λ r. ⌜ Puts out 0 (refusalLine number place) r 53 ⌝ }
 {
     let a = writer::put_all(out, 0, b"refused ");
     let b = put_number(out, a, number as u64, b' ');
@@ -157,8 +158,10 @@ fn put_cells(
     lengths: &[u64],
     factors: &[u32],
 ) -> usize
-    requires { ⌜ (at ≤ 105) × (0 < columns) × Long (length (now ground)) (gridsOf (now ground) (now filled) (now direction) (now count) (now lengths) (now factors)) ⌝ }
-    ensures { λ r. ⌜ (Wrote (now (out .entry)) at (cellLines columns (gridsOf (now (ground .entry)) (now (filled .entry)) (now (direction .entry)) (now (count .entry)) (now (lengths .entry)) (now (factors .entry))) (length (now (ground .entry)))) r (now (out .exit))) × (r ≤ at + 150 * length (now (ground .entry))) ⌝ }
+    requires { ⌜ (at ≤ 105) × (0 < columns)
+        × Long (length (now ground)) (gridsOf (now ground) (now filled) (now direction) (now count) (now lengths) (now factors)) ⌝ }
+    ensures { λ r. ⌜ Puts out at (cellLines columns (gridsBefore ground filled direction count lengths factors) (length (now (ground .entry))))
+        r (at + 150 * length (now (ground .entry))) ⌝ }
 {
     let mut next = at;
     let mut x = 0;
@@ -188,8 +191,10 @@ pub(crate) fn put_map(
     lengths: &[u64],
     factors: &[u32],
 ) -> usize
-    requires { ⌜ (0 < shape .columns) × Long (shape .rows * shape .columns) (gridsOf (now ground) (now filled) (now direction) (now count) (now lengths) (now factors)) ⌝ }
-    ensures { λ r. ⌜ (Wrote (now (out .entry)) 0 (mapLines shape (gridsOf (now (ground .entry)) (now (filled .entry)) (now (direction .entry)) (now (count .entry)) (now (lengths .entry)) (now (factors .entry)))) r (now (out .exit))) × (r ≤ 105 + 150 * (shape .rows * shape .columns)) ⌝ }
+    requires { ⌜ (0 < shape .columns)
+        × Long (shape .rows * shape .columns) (gridsOf (now ground) (now filled) (now direction) (now count) (now lengths) (now factors)) ⌝ }
+    ensures { λ r. ⌜ Puts out 0 (mapLines shape (gridsBefore ground filled direction count lengths factors))
+        r (105 + 150 * (shape .rows * shape .columns)) ⌝ }
 {
     let columns = shape.columns;
     let next = put_shape(out, 0, shape);
