@@ -9,6 +9,7 @@ use lib.ListN.{length, getD, replicate}
 use Rattle.text.specs.Bytes.{bytes}
 use Rattle.text.specs.Heights.{same}
 use Rattle.text.specs.Quantities.{noDataHeight}
+use Rattle.factor.specs.Cell.{tooLong}
 use Rattle.sheet.specs.Words.{decimal, integer, line}
 use Rattle.sheet.specs.declared.lines.Cell.{Cell}
 use Rattle.sheet.specs.declared.lines.Shape.{Shape}
@@ -18,10 +19,10 @@ unfoldable pub refusalLine : ℕ → ℕ → List ℕ
 unfolding decimal line bytes
 refusalLine number place = line (bytes "refused" ∷ decimal number ∷ bytes "at" ∷ decimal place ∷ [])
 
--- "too long shows `long`": LS 4,294,967,294
+-- "too long shows `long`"
 unfoldable pub factorWord : ℕ → List ℕ
 unfolding decimal bytes
-factorWord n = cond (eqb n 4294967294) (bytes "long") (decimal n)
+factorWord n = cond (eqb n tooLong) (bytes "long") (decimal n)
 
 -- what a cell shows behind its row and column: ground, filled, direction, count, length, LS
 unfoldable pub valueWords : Cell → List (List ℕ)

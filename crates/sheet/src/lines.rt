@@ -10,6 +10,9 @@ ghost use Rattle.sheet.specs.Lines.{refusalLine, factorWord, valueWords,
 use crate::writer;
 use text::NO_DATA;
 
+// The LS of a cell whose slope is too long for one.
+const TOO_LONG: u32 = 4294967294;
+
 // What a map has at one cell.
 pub(crate) struct Cell {
     pub(crate) ground: i32,
@@ -52,7 +55,7 @@ fn put_factor(out: &mut [u8], at: usize, factor: u32) -> usize
     requires { ⌜ at < 2 ^ 61 ⌝ }
     ensures { λ r. ⌜ Puts out at (factorWord factor ++ (10 ∷ [])) r (at + 21) ⌝ }
 {
-    if factor == 4294967294 {
+    if factor == TOO_LONG {
         return writer::put_all(out, at, b"long\n");
     }
     put_number(out, at, factor as u64, b'\n')
