@@ -1,4 +1,4 @@
--- The words that stand in a line from a place on, as the functions that write a line in turn promise them. Only contracts of inner functions cite this file. Assumes nothing.
+-- The words that stand in a line from a place on, as the functions that write a line in turn promise them: only inner functions cite this file. Assumes nothing.
 use mathlib.Core.List.{List, [], _∷_}
 use Prim.Native.Nat.{ℕ}
 use Rattle.text.specs.Bytes.{bytes}

@@ -1,11 +1,10 @@
 -- Document 01, "Small fields": the lines that the printer shows. Assumes nothing.
-use mathlib.Core.Path.{_≡_}
 use mathlib.Core.Bool.{cond}
 use mathlib.Core.List.{List, [], _∷_, _++_}
-use Prim.Native.Nat.{ℕ, zero, suc, _*_, _/_, _%_, _≤_}
+use Prim.Native.Nat.{ℕ, zero, suc, _*_, _/_, _%_}
 use lib.Dec.{eqb}
 use lib.IntN.{ℤ, pos}
-use lib.ListN.{length, getD, replicate}
+use lib.ListN.{getD, replicate}
 use Rattle.text.specs.Bytes.{bytes}
 use Rattle.text.specs.Heights.{same}
 use Rattle.text.specs.Quantities.{noDataHeight}
@@ -79,13 +78,3 @@ cellLines columns g (suc x) = cellLines columns g x ++ cellLine (x / columns) (x
 unfoldable pub mapLines : Shape → Grids → List ℕ
 unfolding shapeLine cellLines
 mapLines s g = shapeLine s ++ cellLines (s .columns) g (s .rows * s .columns)
-
--- every grid has n cells, and they are not too many to count their bytes
-pub record Long (n : ℕ) (g : Grids) : Type 0 where
-  pub few : n ≤ 1048576
-  pub ground-long : length (g .ground) ≡ n
-  pub filled-long : length (g .filled) ≡ n
-  pub direction-long : length (g .direction) ≡ n
-  pub count-long : length (g .count) ≡ n
-  pub lengths-long : length (g .lengths) ≡ n
-  pub factors-long : length (g .factors) ≡ n

@@ -12,9 +12,8 @@ ghost use lib.ListN.{length, replicate};
 ghost use Rattle.factor.specs.Answers.{lent};
 ghost use Rattle.sheet.specs.Writing.{overlay};
 ghost use Rattle.sheet.specs.InnerWriting.{Puts};
-ghost use Rattle.sheet.specs.InnerGrids.{lentBefore};
+ghost use Rattle.sheet.specs.InnerGrids.{lentBefore, LentLong};
 ghost use Rattle.sheet.specs.Sheet.{mapSheet, gridSheet, zeros, sheetOf};
-ghost use Rattle.sheet.specs.Room.{Room};
 use answers::Head;
 use lines::Shape;
 use settings::Settings;
@@ -32,7 +31,7 @@ fn print_map(
     workspace: &mut [u32],
     sheet: &mut [u8],
 ) -> usize
-    requires { ⌜ Room (head .rows * head .columns) (now ground)
+    requires { ⌜ LentLong (head .rows * head .columns) (now ground)
         (lent (now filled) (now direction) (now count) (now lengths) (now factors) (now workspace)) ⌝ }
     ensures { λ r. ⌜ Puts sheet 0 (mapSheet (head .rows) (head .columns) (head .side) settings (now (ground .entry))
         (lentBefore filled direction count lengths factors workspace)) r 307305 ⌝ }
@@ -86,7 +85,7 @@ fn print_heights(
     workspace: &mut [u32],
     sheet: &mut [u8],
 ) -> usize
-    requires { ⌜ Room (head .rows * head .columns) (now heights)
+    requires { ⌜ LentLong (head .rows * head .columns) (now heights)
         (lent (now filled) (now direction) (now count) (now lengths) (now factors) (now workspace)) ⌝ }
     ensures { λ r. ⌜ Puts sheet 0 (gridSheet (head .rows) (head .columns) (head .side) settings (now (text .entry)) (now (heights .entry))
         (lentBefore filled direction count lengths factors workspace)) r 307305 ⌝ }

@@ -4,9 +4,9 @@ ghost use Prim.Native.Nat.{_+_, _*_, _≤_, _<_, _^_};
 ghost use lib.ListN.{length};
 ghost use Rattle.sheet.specs.Words.{decimal, integer, line};
 ghost use Rattle.sheet.specs.InnerWriting.{Puts};
-ghost use Rattle.sheet.specs.InnerGrids.{gridsBefore};
+ghost use Rattle.sheet.specs.InnerGrids.{gridsBefore, Long};
 ghost use Rattle.sheet.specs.InnerLines.{lengthWords, flowWords, summaryWords, placeWords};
-ghost use Rattle.sheet.specs.Lines.{refusalLine, factorWord, valueWords, shownWords, cellLine, shapeLine, cellLines, mapLines, gridsOf, Long};
+ghost use Rattle.sheet.specs.Lines.{refusalLine, factorWord, valueWords, shownWords, cellLine, shapeLine, cellLines, mapLines, gridsOf};
 use crate::writer;
 use text::NO_DATA;
 

@@ -7,8 +7,9 @@ use native.Mathlib.Omega.{arith}
 use lib.ListN.{length}
 use denote.Ref.{now}
 use Rattle.text.specs.Answers.{headerAnswer}
-use Rattle.sheet.specs.Writing.{overlay, Wrote}
-use Rattle.sheet.specs.Answers.{headNumbers}
+use Rattle.sheet.specs.Writing.{overlay}
+use Rattle.sheet.specs.InnerWriting.{Wrote}
+use Rattle.sheet.specs.InnerAnswers.{headNumbers}
 use Rattle.sheet.specs.declared.answers.Head.{Head}
 use Rattle.sheet.proofs.Writing.{wrote-as}
 use Rattle.sheet.proofs.Sizes.{header-few}

@@ -4,7 +4,7 @@ use native.Mathlib.Omega.{arith}
 use denote.Ref.{now}
 use Rattle.text.specs.Answers.{GridOutcome, gridAnswer}
 use Rattle.factor.specs.Answers.{Grids, lent}
-use Rattle.sheet.specs.Answers.{headNumbers}
+use Rattle.sheet.specs.InnerAnswers.{headNumbers}
 use Rattle.sheet.proofs.Writing.{wrote-as}
 use Rattle.sheet.proofs.Sheets.{grid-refused, grid-printed}
 use borrow.Author.Needs.{needs}

@@ -6,7 +6,7 @@ use native.Mathlib.Omega.{arith}
 use lib.ListN.{length}
 use borrow.Author.Needs.{needs, sfits-of}
 use mir.Facts.{toZ-ofZ}
-use Rattle.sheet.specs.Writing.{Wrote}
+use Rattle.sheet.specs.InnerWriting.{Wrote}
 use Rattle.sheet.specs.Lines.{Grids, cellLines, gridsOf}
 use Rattle.sheet.proofs.Writing.{wrote-as, wrote-long}
 use Rattle.sheet.proofs.Shown.{cells-none, cells-more}
