@@ -2,7 +2,7 @@
 ghost use mathlib.Core.Path.{_≡_};
 ghost use Rattle.text.specs.Answers.{outcomeOf};
 ghost use Rattle.factor.specs.Answers.{told};
-ghost use Rattle.fullsize.specs.Outcomes.{reading, mapping};
+ghost use Rattle.fullsize.specs.Lent.{readingAfter, mappingAfter};
 
 // Hands out the answer of a reading.
 pub(crate) fn hand_out_reading(
@@ -13,7 +13,7 @@ pub(crate) fn hand_out_reading(
     side: &mut u32,
     no_data: &mut i64,
 ) -> u32
-    ensures { λ r. ⌜ reading r (now (place .exit)) (now (rows .exit)) (now (columns .exit)) (now (side .exit)) (now (no_data .exit)) ≡ outcomeOf answer ⌝ }
+    ensures { λ r. ⌜ readingAfter r place rows columns side no_data ≡ outcomeOf answer ⌝ }
 {
     match answer {
         text::Answer::Accepted(header) => {
@@ -43,7 +43,7 @@ pub(crate) fn hand_out_mapping(
     valid: &mut u32,
     longest: &mut u32,
 ) -> u32
-    ensures { λ r. ⌜ mapping r (now (place .exit)) (now (valid .exit)) (now (longest .exit)) ≡ told answer ⌝ }
+    ensures { λ r. ⌜ mappingAfter r place valid longest ≡ told answer ⌝ }
 {
     match answer {
         factor::Answer::Accepted {

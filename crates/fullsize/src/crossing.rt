@@ -1,7 +1,8 @@
 // Settings as plain numbers: the two cutoffs, the kind of channel rule (0 none, 1 a number of cells, 2 a percentage), and the
 // number of cells and the percentage, of which the kind says which one counts.
 ghost use mathlib.Core.Path.{_≡_};
-ghost use Rattle.fullsize.specs.Crossing.{numbers, numbersOf, channelOf, settingsOf};
+ghost use Rattle.fullsize.specs.Crossing.{numbersOf, channelOf, settingsOf};
+ghost use Rattle.fullsize.specs.Lent.{numbersAfter};
 use settings::Channel;
 use settings::Settings;
 
@@ -41,7 +42,7 @@ pub(crate) fn hand_out(
     cells: &mut u32,
     percentage: &mut f64,
 )
-    ensures { λ _. ⌜ numbers (now (low .exit)) (now (high .exit)) (now (kind .exit)) (now (cells .exit)) (now (percentage .exit)) ≡ numbersOf settings ⌝ }
+    ensures { λ _. ⌜ numbersAfter low high kind cells percentage ≡ numbersOf settings ⌝ }
 {
     *low = settings.low;
     *high = settings.high;

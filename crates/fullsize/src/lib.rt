@@ -10,9 +10,10 @@ ghost use mathlib.Core.Path.{_≡_};
 ghost use Rattle.text.specs.Answers.{headerAnswer, gridAnswer};
 ghost use Rattle.settings.specs.Settings.{defaultSettings};
 ghost use Rattle.terrain.specs.Drainage.{Trails, Totals, Surface};
-ghost use Rattle.factor.specs.Answers.{lent, answer, after, told};
-ghost use Rattle.fullsize.specs.Outcomes.{reading, gridReading, mapping};
-ghost use Rattle.fullsize.specs.Crossing.{numbers, numbersOf, settingsOf};
+ghost use Rattle.factor.specs.Answers.{answer, after, told};
+ghost use Rattle.fullsize.specs.Outcomes.{gridReading};
+ghost use Rattle.fullsize.specs.Crossing.{numbersOf, settingsOf};
+ghost use Rattle.fullsize.specs.Lent.{lentBefore, lentAfter, readingAfter, mappingAfter, numbersAfter};
 use settings::Settings;
 
 // Reads the header alone: `text::read_header`.
@@ -25,7 +26,7 @@ pub extern "C" fn lsmap_read_header(
     side: &mut u32,
     no_data: &mut i64,
 ) -> u32
-    ensures { λ r. ⌜ reading r (now (place .exit)) (now (rows .exit)) (now (columns .exit)) (now (side .exit)) (now (no_data .exit)) ≡ headerAnswer (now (text .entry)) ⌝ }
+    ensures { λ r. ⌜ readingAfter r place rows columns side no_data ≡ headerAnswer (now (text .entry)) ⌝ }
 {
     let answer = text::read_header(text);
     answers::hand_out_reading(answer, place, rows, columns, side, no_data)
@@ -42,7 +43,8 @@ pub extern "C" fn lsmap_read_grid(
     side: &mut u32,
     no_data: &mut i64,
 ) -> u32
-    ensures { λ r. ⌜ gridReading (reading r (now (place .exit)) (now (rows .exit)) (now (columns .exit)) (now (side .exit)) (now (no_data .exit))) (now (heights .exit)) ≡ gridAnswer (now (heights .entry)) (now (text .entry)) ⌝ }
+    ensures { λ r. ⌜ gridReading (readingAfter r place rows columns side no_data) (now (heights .exit))
+        ≡ gridAnswer (now (heights .entry)) (now (text .entry)) ⌝ }
 {
     let answer = text::read_grid(text, heights);
     answers::hand_out_reading(answer, place, rows, columns, side, no_data)
@@ -57,7 +59,7 @@ pub extern "C" fn lsmap_default_settings(
     cells: &mut u32,
     percentage: &mut f64,
 )
-    ensures { λ _. ⌜ numbers (now (low .exit)) (now (high .exit)) (now (kind .exit)) (now (cells .exit)) (now (percentage .exit)) ≡ numbersOf defaultSettings ⌝ }
+    ensures { λ _. ⌜ numbersAfter low high kind cells percentage ≡ numbersOf defaultSettings ⌝ }
 {
     let settings = Settings::default();
     crossing::hand_out(settings, low, high, kind, cells, percentage)
@@ -85,8 +87,12 @@ pub extern "C" fn lsmap_map(
     valid: &mut u32,
     longest: &mut u32,
 ) -> u32
-    ensures answers { λ r. ⌜ mapping r (now (place .exit)) (now (valid .exit)) (now (longest .exit)) ≡ told (answer rows columns side (settingsOf low high kind cells percentage) (now (ground .entry)) (lent (now (filled .entry)) (now (direction .entry)) (now (count .entry)) (now (lengths .entry)) (now (factors .entry)) (now (workspace .entry)))) ⌝ }
-    ensures leaves { λ _. ⌜ lent (now (filled .exit)) (now (direction .exit)) (now (count .exit)) (now (lengths .exit)) (now (factors .exit)) (now (workspace .exit)) ≡ after rows columns side (settingsOf low high kind cells percentage) (now (ground .entry)) (lent (now (filled .entry)) (now (direction .entry)) (now (count .entry)) (now (lengths .entry)) (now (factors .entry)) (now (workspace .entry))) ⌝ }
+    ensures answers { λ r. ⌜ mappingAfter r place valid longest
+        ≡ told (answer rows columns side (settingsOf low high kind cells percentage) (now (ground .entry))
+        (lentBefore filled direction count lengths factors workspace)) ⌝ }
+    ensures leaves { λ _. ⌜ lentAfter filled direction count lengths factors workspace
+        ≡ after rows columns side (settingsOf low high kind cells percentage) (now (ground .entry))
+        (lentBefore filled direction count lengths factors workspace) ⌝ }
     ensures trails { λ r. ⌜ (r ≡ 0 → Trails rows columns (now (ground .entry)) (now (filled .exit)) (now (direction .exit))) ⌝ }
     ensures totals { λ r. ⌜ (r ≡ 0 → Totals rows columns (now (direction .exit)) (now (count .exit)) (now (valid .exit))) ⌝ }
     ensures surface { λ r. ⌜ (r ≡ 0 → Surface rows columns (now (ground .entry)) (now (filled .exit))) ⌝ }

@@ -18,7 +18,7 @@ use Rattle.factor.specs.Answers.{Grids, placesOf, tests, judged, answerOf, answ
 use Rattle.factor.specs.declared.Answer.{Answer}
 use Rattle.factor.proofs.Judging.{number-some}
 use Rattle.sheet.specs.Lines.{refusalLine, gridsOf, mapLines}
-use Rattle.sheet.specs.Answers.{headNumbers, surveyNumbers}
+use Rattle.sheet.specs.InnerAnswers.{headNumbers, surveyNumbers}
 use Rattle.sheet.specs.Sheet.{linesOr, mapSheet, gridSheet, zeros, headSheet, sheetOf}
 use Rattle.sheet.specs.declared.answers.Head.{Head}
 use Rattle.sheet.specs.declared.answers.Survey.{Survey}

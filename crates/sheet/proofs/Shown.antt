@@ -15,7 +15,7 @@ use Rattle.text.specs.Heights.{same}
 use Rattle.text.specs.Quantities.{noDataHeight}
 use Rattle.sheet.specs.Words.{decimal, line}
 use Rattle.sheet.specs.Lines.{valueWords, shownWords, cellLine, Grids, cellOf, cellLines}
-use Rattle.sheet.specs.Writing.{Wrote}
+use Rattle.sheet.specs.InnerWriting.{Wrote}
 use Rattle.sheet.proofs.Writing.{wrote-none, wrote-as, wrote-then}
 use Rattle.sheet.specs.declared.lines.Cell.{Cell}
 

@@ -51,21 +51,21 @@ unfolding count
 count-in = gives-last word (λ w. gives-last (read countAt w) (λ n. gives-then (check (extentIn n) 1 (w .start)) (gives-check (extentIn n) 1 (w .start)) (λ u h. gives-give h)))
 
 -- sizes in range
-record Sized (rows columns : ℕ) : Type 0 where
+record SizesIn (rows columns : ℕ) : Type 0 where
   rows-in : extentIn rows ≡ true
   columns-in : extentIn columns ≡ true
 
-extent-in : Gives (λ (e : Extent). Sized (e .rows) (e .columns)) extent
+extent-in : Gives (λ (e : Extent). SizesIn (e .rows) (e .columns)) extent
 unfolding extent field
 extent-in =
     gives-then (field (bytes "ncols") count) (gives-last (name (bytes "ncols")) (λ u. count-in))
     (λ c hc. gives-then (field (bytes "nrows") count) (gives-last (name (bytes "nrows")) (λ u. count-in)) (λ r hr. gives-give (record { rows-in = hr; columns-in = hc })))
 
-rest-in : (e : Extent) → Sized (e .rows) (e .columns) → Gives (λ (h : Header). Sized (h .rows) (h .columns)) (sideAndNoData e)
+rest-in : (e : Extent) → SizesIn (e .rows) (e .columns) → Gives (λ (h : Header). SizesIn (h .rows) (h .columns)) (sideAndNoData e)
 unfolding sideAndNoData
 rest-in e h = gives-last (field (bytes "cellsize") side) (λ m. gives-last noData (λ n. gives-give h))
 
-header-in : Gives (λ (h : Header). Sized (h .rows) (h .columns)) header
+header-in : Gives (λ (h : Header). SizesIn (h .rows) (h .columns)) header
 unfolding header
 header-in = gives-then extent extent-in (λ e h. gives-last corners (λ u. rest-in e h))
 
@@ -76,6 +76,6 @@ few n h = leb-true n 1024 (and-both (leb 1 n) (leb n 1024) h .1)
 pub header-few : (s : List ℕ) → (headerAnswer s .rows ≤ 1024) × (headerAnswer s .columns ≤ 1024)
 header-few s = go (header s 0) (header-in .passes s 0)
   where
-    go : (t : Step Header) → Passes (λ (h : Header). Sized (h .rows) (h .columns)) t → (headerOutcome t .rows ≤ 1024) × (headerOutcome t .columns ≤ 1024)
+    go : (t : Step Header) → Passes (λ (h : Header). SizesIn (h .rows) (h .columns)) t → (headerOutcome t .rows ≤ 1024) × (headerOutcome t .columns ≤ 1024)
     go (got h i) z = (few (h .rows) (z .rows-in), few (h .columns) (z .columns-in))
     go (refused n p) z = (omega arith, omega arith)

@@ -7,7 +7,8 @@ use native.Mathlib.Nat.{add-zero, add-suc, suc-add}
 use native.Mathlib.Numerals.{add-one}
 use lib.ListN.{length, set, getD, take, length-append}
 use lib.Seq.{sets, length-sets, set-out, take-suc, take-all, append-snoc}
-use Rattle.sheet.specs.Writing.{overlay, Wrote}
+use Rattle.sheet.specs.Writing.{overlay}
+use Rattle.sheet.specs.InnerWriting.{Wrote}
 
 -- one run of bytes laid after another is both laid at once
 pub overlay-append : (room : List ℕ) (at : ℕ) (a b : List ℕ) → overlay (overlay room at a) (at + length a) b ≡ overlay room at (a ++ b)

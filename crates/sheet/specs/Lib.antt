@@ -1,6 +1,10 @@
+-- What the promise of `print` cites
 pub mod Words
 pub mod Writing
 pub mod Lines
-pub mod Answers
-pub mod Room
 pub mod Sheet
+-- What only inner functions cite
+pub mod InnerAnswers
+pub mod InnerGrids
+pub mod InnerLines
+pub mod InnerWriting

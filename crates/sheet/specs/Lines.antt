@@ -1,14 +1,14 @@
 -- Document 01, "Small fields": the lines that the printer shows. Assumes nothing.
-use mathlib.Core.Path.{_≡_}
 use mathlib.Core.Bool.{cond}
 use mathlib.Core.List.{List, [], _∷_, _++_}
-use Prim.Native.Nat.{ℕ, zero, suc, _*_, _/_, _%_, _≤_}
+use Prim.Native.Nat.{ℕ, zero, suc, _*_, _/_, _%_}
 use lib.Dec.{eqb}
 use lib.IntN.{ℤ, pos}
-use lib.ListN.{length, getD, replicate}
+use lib.ListN.{getD, replicate}
 use Rattle.text.specs.Bytes.{bytes}
 use Rattle.text.specs.Heights.{same}
 use Rattle.text.specs.Quantities.{noDataHeight}
+use Rattle.factor.specs.Cell.{tooLong}
 use Rattle.sheet.specs.Words.{decimal, integer, line}
 use Rattle.sheet.specs.declared.lines.Cell.{Cell}
 use Rattle.sheet.specs.declared.lines.Shape.{Shape}
@@ -18,10 +18,10 @@ unfoldable pub refusalLine : ℕ → ℕ → List ℕ
 unfolding decimal line bytes
 refusalLine number place = line (bytes "refused" ∷ decimal number ∷ bytes "at" ∷ decimal place ∷ [])
 
--- "too long shows `long`": LS 4,294,967,294
+-- "too long shows `long`"
 unfoldable pub factorWord : ℕ → List ℕ
 unfolding decimal bytes
-factorWord n = cond (eqb n 4294967294) (bytes "long") (decimal n)
+factorWord n = cond (eqb n tooLong) (bytes "long") (decimal n)
 
 -- what a cell shows behind its row and column: ground, filled, direction, count, length, LS
 unfoldable pub valueWords : Cell → List (List ℕ)
@@ -78,13 +78,3 @@ cellLines columns g (suc x) = cellLines columns g x ++ cellLine (x / columns) (x
 unfoldable pub mapLines : Shape → Grids → List ℕ
 unfolding shapeLine cellLines
 mapLines s g = shapeLine s ++ cellLines (s .columns) g (s .rows * s .columns)
-
--- every grid has n cells, and they are not too many to count their bytes
-pub record Long (n : ℕ) (g : Grids) : Type 0 where
-  pub few : n ≤ 1048576
-  pub ground-long : length (g .ground) ≡ n
-  pub filled-long : length (g .filled) ≡ n
-  pub direction-long : length (g .direction) ≡ n
-  pub count-long : length (g .count) ≡ n
-  pub lengths-long : length (g .lengths) ≡ n
-  pub factors-long : length (g .factors) ≡ n

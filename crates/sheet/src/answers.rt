@@ -2,7 +2,7 @@
 ghost use mathlib.Core.Path.{_≡_};
 ghost use Rattle.text.specs.Answers.{outcomeOf};
 ghost use Rattle.factor.specs.Answers.{told};
-ghost use Rattle.sheet.specs.Answers.{headNumbers, surveyNumbers};
+ghost use Rattle.sheet.specs.InnerAnswers.{headNumbers, surveyNumbers};
 
 // What a text call answers, but for the NoData number.
 pub(crate) struct Head {

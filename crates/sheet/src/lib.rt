@@ -10,9 +10,10 @@ ghost use Prim.Native.Nat.{_*_, _≤_};
 ghost use lib.IntN.{pos};
 ghost use lib.ListN.{length, replicate};
 ghost use Rattle.factor.specs.Answers.{lent};
-ghost use Rattle.sheet.specs.Writing.{overlay, Wrote};
+ghost use Rattle.sheet.specs.Writing.{overlay};
+ghost use Rattle.sheet.specs.InnerWriting.{Puts};
+ghost use Rattle.sheet.specs.InnerGrids.{lentBefore, LentLong};
 ghost use Rattle.sheet.specs.Sheet.{mapSheet, gridSheet, zeros, sheetOf};
-ghost use Rattle.sheet.specs.Room.{Room};
 use answers::Head;
 use lines::Shape;
 use settings::Settings;
@@ -30,8 +31,10 @@ fn print_map(
     workspace: &mut [u32],
     sheet: &mut [u8],
 ) -> usize
-    requires { ⌜ Room (head .rows * head .columns) (now ground) (lent (now filled) (now direction) (now count) (now lengths) (now factors) (now workspace)) ⌝ }
-    ensures { λ r. ⌜ Wrote (now (sheet .entry)) 0 (mapSheet (head .rows) (head .columns) (head .side) settings (now (ground .entry)) (lent (now (filled .entry)) (now (direction .entry)) (now (count .entry)) (now (lengths .entry)) (now (factors .entry)) (now (workspace .entry)))) r (now (sheet .exit)) × (r ≤ 307305) ⌝ }
+    requires { ⌜ LentLong (head .rows * head .columns) (now ground)
+        (lent (now filled) (now direction) (now count) (now lengths) (now factors) (now workspace)) ⌝ }
+    ensures { λ r. ⌜ Puts sheet 0 (mapSheet (head .rows) (head .columns) (head .side) settings (now (ground .entry))
+        (lentBefore filled direction count lengths factors workspace)) r 307305 ⌝ }
 {
     let map = answers::survey_of(factor::map(
         head.rows,
@@ -82,8 +85,10 @@ fn print_heights(
     workspace: &mut [u32],
     sheet: &mut [u8],
 ) -> usize
-    requires { ⌜ Room (head .rows * head .columns) (now heights) (lent (now filled) (now direction) (now count) (now lengths) (now factors) (now workspace)) ⌝ }
-    ensures { λ r. ⌜ Wrote (now (sheet .entry)) 0 (gridSheet (head .rows) (head .columns) (head .side) settings (now (text .entry)) (now (heights .entry)) (lent (now (filled .entry)) (now (direction .entry)) (now (count .entry)) (now (lengths .entry)) (now (factors .entry)) (now (workspace .entry)))) r (now (sheet .exit)) × (r ≤ 307305) ⌝ }
+    requires { ⌜ LentLong (head .rows * head .columns) (now heights)
+        (lent (now filled) (now direction) (now count) (now lengths) (now factors) (now workspace)) ⌝ }
+    ensures { λ r. ⌜ Puts sheet 0 (gridSheet (head .rows) (head .columns) (head .side) settings (now (text .entry)) (now (heights .entry))
+        (lentBefore filled direction count lengths factors workspace)) r 307305 ⌝ }
 {
     let read = answers::head_of(text::read_grid(text, heights));
     if read.number != 0 {
@@ -106,7 +111,8 @@ fn print_heights(
 // What follows a good header, on grids of this call's own.
 fn print_grid(text: &[u8], head: Head, settings: Settings, sheet: &mut [u8]) -> usize
     requires { ⌜ head .rows * head .columns ≤ 2048 ⌝ }
-    ensures { λ r. ⌜ Wrote (now (sheet .entry)) 0 (gridSheet (head .rows) (head .columns) (head .side) settings (now (text .entry)) (replicate (head .rows * head .columns) (pos 0)) (zeros (head .rows * head .columns))) r (now (sheet .exit)) × (r ≤ 307305) ⌝ }
+    ensures { λ r. ⌜ Puts sheet 0 (gridSheet (head .rows) (head .columns) (head .side) settings (now (text .entry))
+        (replicate (head .rows * head .columns) (pos 0)) (zeros (head .rows * head .columns))) r 307305 ⌝ }
 {
     let cells = head.rows * head.columns;
     let mut heights = [0i32; 2048];

@@ -5,7 +5,7 @@ ghost use mathlib.Core.Path.{_≡_};
 ghost use Prim.Native.Nat.{_<_, _≤_, _-_, _^_};
 ghost use lib.IntN.{natAbs};
 ghost use Rattle.sheet.specs.Words.{decimal, integer};
-ghost use Rattle.sheet.specs.Writing.{Wrote};
+ghost use Rattle.sheet.specs.InnerWriting.{Wrote};
 
 // One byte.
 pub(crate) fn put(out: &mut [u8], at: usize, b: u8) -> usize

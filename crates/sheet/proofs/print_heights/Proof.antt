@@ -1,15 +1,34 @@
 -- `sheet::print_heights` meets its contract. Assumes nothing.
-use mathlib.Core.Path.{ap, _∙_}
+use mathlib.Core.Path.{_≡_, ap, _∙_}
 use native.Mathlib.Omega.{arith}
 use denote.Ref.{now}
-use Rattle.text.specs.Answers.{GridOutcome}
-use Rattle.factor.specs.Answers.{lent}
-use Rattle.sheet.specs.Answers.{headNumbers}
+use Rattle.text.specs.Answers.{GridOutcome, gridAnswer}
+use Rattle.factor.specs.Answers.{Grids, lent}
+use Rattle.sheet.specs.InnerAnswers.{headNumbers}
 use Rattle.sheet.proofs.Writing.{wrote-as}
 use Rattle.sheet.proofs.Sheets.{grid-refused, grid-printed}
 use borrow.Author.Needs.{needs}
 use Rattle.sheet.proofs.print_heights.Statement.{statement}
 use Rattle.sheet.proofs.print_heights.Tie as tie
+
+-- the reading, from its numbers on; and the arguments, from the reading on
+abbrev reading : tie.After-head-of → tie.After-read-grid
+reading c = c .before .before
+
+abbrev start : tie.After-read-grid → tie.Start
+start c = let a = c .before .before .before .before in a .before .before .before .before .before
+
+-- a reading that is accepted, from the printed map on
+abbrev accepted : tie.After-print-map → tie.Else1
+accepted c = let a = c .before .before .before .before in a .before .before .before .before .before
+
+-- the lent grids
+abbrev grids : tie.Start → Grids
+grids s = lent (now (s .args .filled)) (now (s .args .direction)) (now (s .args .count)) (now (s .args .lengths)) (now (s .args .factors)) (now (s .args .workspace))
+
+-- the reading's numbers are those of its answer
+numbers : (c : tie.After-head-of) → c .head-of .result ≡ headNumbers (gridAnswer (now (start (reading c) .args .heights)) (now (start (reading c) .args .text)) .answer)
+numbers c = c .head-of .ensures ∙ ap (λ (g : GridOutcome). headNumbers (g .answer)) (reading c .read-grid .ensures)
 
 read-grid-requires : tie.Need-read-grid-requires
 read-grid-requires c κs = search needs
@@ -28,10 +47,12 @@ same-length-2 c = search needs
 
 returns : tie.Need-returns
 returns c =
-    let a = c .before .before .before .before .before .before .before .before .before .before .before .before .before .before .before .before .before .args in
+    let bad = c .before .before .before .before in
+    let head = bad .before .before in
+    let s = start (reading head) in
+    let a = s .args in
     let put = c .before .before .put-refusal .ensures in
-    let e = c .before .before .before .before .before .before .head-of .ensures ∙ ap (λ (g : GridOutcome). headNumbers (g .answer)) (c .before .before .before .before .before .before .before .before .read-grid .ensures) in
-    (wrote-as (grid-refused (a .head .rows) (a .head .columns) (a .head .side) (a .settings) (now (a .text)) (now (a .heights)) (lent (now (a .filled)) (now (a .direction)) (now (a .count)) (now (a .lengths)) (now (a .factors)) (now (a .workspace))) _ e (c .before .before .before .before .if1 .taken)) (put .0), omega (arith, put .1))
+    (wrote-as (grid-refused (a .head .rows) (a .head .columns) (a .head .side) (a .settings) (now (a .text)) (now (a .heights)) (grids s) _ (numbers head) (bad .if1 .taken)) (put .0), omega (arith, put .1))
 
 print-map-requires : tie.Need-print-map-requires
 print-map-requires c κs = search needs
@@ -62,11 +83,15 @@ same-length-10 c = search needs
 
 returns-2 : tie.Need-returns-2
 returns-2 c =
-    let a = c .before .before .before .before .before .before .before .before .before .before .before .before .before .before .before .before .before .before .before .before .before .before .before .before .before .before .before .before .before .before .before .before .before .before .before .args in
-    let put = c .before .before .before .before .before .before .before .before .before .before .before .before .before .print-map .ensures in
-    let read = c .before .before .before .before .before .before .before .before .before .before .before .before .before .before .before .before .before .before .before .before .before .before .before .before .before .before .read-grid in
-    let e = c .before .before .before .before .before .before .before .before .before .before .before .before .before .before .before .before .before .before .before .before .before .before .before .before .head-of .ensures ∙ ap (λ (g : GridOutcome). headNumbers (g .answer)) (read .ensures) in
-    (wrote-as (grid-printed (a .head .rows) (a .head .columns) (a .head .side) (a .settings) (now (a .text)) (now (a .heights)) (lent (now (a .filled)) (now (a .direction)) (now (a .count)) (now (a .lengths)) (now (a .factors)) (now (a .workspace))) _ e (read .last .1 .0) (ap (λ (g : GridOutcome). g .heights) (read .ensures)) (c .before .before .before .before .before .before .before .before .before .before .before .before .before .before .before .before .before .before .before .before .before .before .if1 .left)) (put .0), put .1)
+    let b = c .before .before .before .before .before .before in
+    let p = b .before .before .before .before .before .before .before in
+    let good = accepted p in
+    let head = good .before .before in
+    let read = reading head .read-grid in
+    let s = start (reading head) in
+    let a = s .args in
+    let put = p .print-map .ensures in
+    (wrote-as (grid-printed (a .head .rows) (a .head .columns) (a .head .side) (a .settings) (now (a .text)) (now (a .heights)) (grids s) _ (numbers head) (read .last .1 .0) (ap (λ (g : GridOutcome). g .heights) (read .ensures)) (good .if1 .left)) (put .0), put .1)
 
 pub print-heights-spec : {M : Type 1} → statement M
 print-heights-spec =

@@ -32,7 +32,10 @@ array-share-prefix-lines : tie.Need-array-share-prefix-lines
 array-share-prefix-lines c = search needs
 
 slice-aggregate-write-all-3 : tie.Need-slice-aggregate-write-all-3
-slice-aggregate-write-all-3 c = let put = c .before .before .before .before .before .before .before .print in part-of-room (c .before .before .before .before .before .before .before .before .before .room .result) (put .last .1 .1 .0) (c .before .before .before .before .before .before .before .before .before .room .ensures) (put .kept .1 .1 .0) (put .ensures .1 .1)
+slice-aggregate-write-all-3 c =
+    let p = c .before .before .before .before .before .before .before in
+    let room = p .before .before .room in
+    part-of-room (room .result) (p .print .last .1 .1 .0) (room .ensures) (p .print .kept .1 .1 .0) (p .print .ensures .1 .1)
 
 write-all-requires-3 : tie.Need-write-all-requires-3
 write-all-requires-3 c κs = search needs

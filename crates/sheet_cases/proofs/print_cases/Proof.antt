@@ -6,6 +6,7 @@ use lib.ListN.{length}
 use denote.Ref.{now}
 use borrow.Author.Needs.{needs}
 use Rattle.sheet_cases.specs.Frames.{Inside}
+use Rattle.sheet_cases.specs.declared.frames.Frame.the-variants.{Text}
 use Rattle.sheet_cases.proofs.print_cases.Statement.{statement}
 use Rattle.sheet_cases.proofs.print_cases.Tie as tie
 
@@ -14,6 +15,14 @@ Inv-loop stream at₀ number₀ t6 at number = (at ≤ length stream) × (number
 
 abbrev μ-loop : tie.MeasureT-loop
 μ-loop stream at₀ number₀ t6 at number = length stream - at
+
+-- the turn of a text, from its frame on
+abbrev turn : tie.After-start Inv-loop μ-loop → tie.At-loop Inv-loop μ-loop
+turn c = c .before .before .before .before
+
+-- the text lies behind the place and within the stream
+inside : (c : tie.After-start Inv-loop μ-loop) → Inside (turn c .loop .at) (length (now (turn c .before .before .args .stream))) (Text (c .start .given .0 .0) (c .start .given .0 .1 .0))
+inside c = subst (Inside (turn c .loop .at) (length (now (turn c .before .before .args .stream)))) (c .start .given .1) (c .before .before .next .ensures)
 
 loop-holds : tie.Need-loop-holds Inv-loop μ-loop
 loop-holds c = (omega arith, omega arith, refl)
@@ -37,25 +46,25 @@ returns : tie.Need-returns Inv-loop μ-loop
 returns c = search needs
 
 sub-print-case : tie.Need-sub-print-case Inv-loop μ-loop
-sub-print-case c = let i = (subst (Inside (c .before .before .before .before .before .loop .at) (length (now (c .before .before .before .before .before .before .before .args .stream)))) (c .before .start .given .1) (c .before .before .before .next .ensures)) in omega (arith, i .0, i .1, i .2)
+sub-print-case c = let i = inside (c .before) in omega (arith, i .0, i .1, i .2)
 
 part-print-case-start : tie.Need-part-print-case-start Inv-loop μ-loop
-part-print-case-start c = let i = (subst (Inside (c .before .before .before .before .before .loop .at) (length (now (c .before .before .before .before .before .before .before .args .stream)))) (c .before .start .given .1) (c .before .before .before .next .ensures)) in omega (arith, i .0, i .1, i .2)
+part-print-case-start c = let i = inside (c .before) in omega (arith, i .0, i .1, i .2)
 
 part-print-case-end : tie.Need-part-print-case-end Inv-loop μ-loop
-part-print-case-end c = let i = (subst (Inside (c .before .before .before .before .before .loop .at) (length (now (c .before .before .before .before .before .before .before .args .stream)))) (c .before .start .given .1) (c .before .before .before .next .ensures)) in omega (arith, i .0, i .1, i .2)
+part-print-case-end c = let i = inside (c .before) in omega (arith, i .0, i .1, i .2)
 
 print-case-requires : tie.Need-print-case-requires Inv-loop μ-loop
 print-case-requires c κs = search needs
 
 add-number : tie.Need-add-number Inv-loop μ-loop
-add-number c = let i = (subst (Inside (c .before .before .before .before .before .before .before .loop .at) (length (now (c .before .before .before .before .before .before .before .before .before .args .stream)))) (c .before .before .before .start .given .1) (c .before .before .before .before .before .next .ensures)) in omega (arith, i .0, i .1, i .2)
+add-number c = let i = inside (c .before .before .before) in omega (arith, i .0, i .1, i .2)
 
 loop-less : tie.Need-loop-less Inv-loop μ-loop
-loop-less c = let i = (subst (Inside (c .before .before .before .before .before .before .before .loop .at) (length (now (c .before .before .before .before .before .before .before .before .before .args .stream)))) (c .before .before .before .start .given .1) (c .before .before .before .before .before .next .ensures)) in omega (arith, i .0, i .1, i .2)
+loop-less c = let i = inside (c .before .before .before) in omega (arith, i .0, i .1, i .2)
 
 loop-again : tie.Need-loop-again Inv-loop μ-loop
-loop-again c = let i = (subst (Inside (c .before .before .before .before .before .before .before .loop .at) (length (now (c .before .before .before .before .before .before .before .before .before .args .stream)))) (c .before .before .before .start .given .1) (c .before .before .before .before .before .next .ensures)) in (i .2, omega (arith, i .0, i .1), c .before .before .before .before .before .before .before .loop .inv .2)
+loop-again c = let i = inside (c .before .before .before) in (i .2, omega (arith, i .0, i .1), turn (c .before .before .before) .loop .inv .2)
 
 returns-2 : tie.Need-returns-2 Inv-loop μ-loop
 returns-2 c = search needs

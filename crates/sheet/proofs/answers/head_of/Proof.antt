@@ -2,7 +2,7 @@
 use mathlib.Core.Path.{sym, ap}
 use Rattle.text.specs.declared.Answer.{Answer}
 use Rattle.text.specs.Answers.{outcomeOf}
-use Rattle.sheet.specs.Answers.{headNumbers}
+use Rattle.sheet.specs.InnerAnswers.{headNumbers}
 use borrow.Author.Needs.{needs}
 use Rattle.sheet.proofs.answers.head_of.Statement.{statement}
 use Rattle.sheet.proofs.answers.head_of.Tie as tie

@@ -2,7 +2,7 @@
 use mathlib.Core.Path.{sym, ap}
 use Rattle.factor.specs.declared.Answer.{Answer}
 use Rattle.factor.specs.Answers.{told}
-use Rattle.sheet.specs.Answers.{surveyNumbers}
+use Rattle.sheet.specs.InnerAnswers.{surveyNumbers}
 use borrow.Author.Needs.{needs}
 use Rattle.sheet.proofs.answers.survey_of.Statement.{statement}
 use Rattle.sheet.proofs.answers.survey_of.Tie as tie

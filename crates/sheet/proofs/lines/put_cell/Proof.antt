@@ -22,9 +22,11 @@ same-length c = search needs
 
 returns : tie.Need-returns
 returns c =
-    let a = c .before .before .before .before .before .before .before .before .before .before .before .before .before .args in
-    let row = c .before .before .before .before .before .before .before .before .before .before .put-number .ensures in
-    let column = c .before .before .before .before .before .before .put-number2 .ensures in
+    let second = c .before .before .before .before .before .before in
+    let first = second .before .before .before .before in
+    let a = first .before .before .before .args in
+    let row = first .put-number .ensures in
+    let column = second .put-number2 .ensures in
     let shown = c .before .before .put-shown .ensures in (
       wrote-as (sym (cell-line (a .row) (a .column) (a .cell))) (wrote-word (decimal (a .row)) (row .0) (wrote-word (decimal (a .column)) (column .0) (shown .0))),
       omega (arith, row .1, column .1, shown .1),

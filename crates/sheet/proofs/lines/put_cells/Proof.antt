@@ -6,8 +6,8 @@ use native.Mathlib.Omega.{arith}
 use lib.ListN.{length}
 use borrow.Author.Needs.{needs, sfits-of}
 use mir.Facts.{toZ-ofZ}
-use Rattle.sheet.specs.Writing.{Wrote}
-use Rattle.sheet.specs.Lines.{cellLines, gridsOf}
+use Rattle.sheet.specs.InnerWriting.{Wrote}
+use Rattle.sheet.specs.Lines.{Grids, cellLines, gridsOf}
 use Rattle.sheet.proofs.Writing.{wrote-as, wrote-long}
 use Rattle.sheet.proofs.Shown.{cells-none, cells-more}
 use Rattle.sheet.proofs.lines.put_cells.Statement.{statement}
@@ -20,10 +20,18 @@ Inv-loop out₀ at columns ground filled direction count lengths factors next₀
 abbrev μ-loop : tie.MeasureT-loop
 μ-loop out₀ at columns ground filled direction count lengths factors next₀ x₀ out next x = length ground - x
 
+-- the arguments, from the loop on
+abbrev start : tie.At-loop Inv-loop μ-loop → tie.Start Inv-loop μ-loop
+start c = c .before .before .before .before .before .before
+
+-- the lent grids
+abbrev grids : tie.Start Inv-loop μ-loop → Grids
+grids s = gridsOf (now (s .args .ground)) (now (s .args .filled)) (now (s .args .direction)) (now (s .args .count)) (now (s .args .lengths)) (now (s .args .factors))
+
 loop-holds : tie.Need-loop-holds Inv-loop μ-loop
 loop-holds c =
-    let a = c .before .before .before .before .before .args in
-    (omega arith, cells-none (a .columns) (gridsOf (now (a .ground)) (now (a .filled)) (now (a .direction)) (now (a .count)) (now (a .lengths)) (now (a .factors))) (now (a .out)) (a .at), omega arith)
+    let s = c .before .before .before .before .before in
+    (omega arith, cells-none (s .args .columns) (grids s) (now (s .args .out)) (s .args .at), omega arith)
 
 mul-t13 : tie.Need-mul-t13 Inv-loop μ-loop
 mul-t13 c = search needs
@@ -75,20 +83,26 @@ loop-less c = search needs
 
 loop-again : tie.Need-loop-again Inv-loop μ-loop
 loop-again c =
-    let a = c .before .before .before .before .before .before .before .before .before .before .before .before .before .before .before .before .before .args in
-    let p = c .before .before .before .before .before .before .before .before .before .before .before .loop in
-    let put = c .before .before .put-cell .ensures in
-    (omega arith, cells-more (a .columns) (gridsOf (now (a .ground)) (now (a .filled)) (now (a .direction)) (now (a .count)) (now (a .lengths)) (now (a .factors))) (p .x) (toZ-ofZ (sfits-of (c .before .before .before .before .before .before .before .before .before .t16 .given))) (toZ-ofZ (sfits-of (c .before .before .before .before .before .before .before .before .t19 .given))) (p .inv .1) (put .0), omega (arith, put .1, p .inv .2))
+    let put = c .before .before in
+    let filled = put .before .before .before .before .before .before in
+    let ground = filled .before in
+    let l = ground .before .before in
+    let s = start l in
+    let p = l .loop in (
+      omega arith,
+      cells-more (s .args .columns) (grids s) (p .x) (toZ-ofZ (sfits-of (ground .t16 .given))) (toZ-ofZ (sfits-of (filled .t19 .given))) (p .inv .1) (put .put-cell .ensures .0),
+      omega (arith, put .put-cell .ensures .1, p .inv .2),
+    )
 
 same-length : tie.Need-same-length Inv-loop μ-loop
 same-length c = wrote-long (c .before .loop .inv .1)
 
 returns : tie.Need-returns Inv-loop μ-loop
 returns c =
-    let a = c .before .before .before .before .before .before .before .args in
-    let p = c .before .loop in
-    let e : p .x ≡ length (now (a .ground)) = omega arith in
-    (wrote-as (ap (cellLines (a .columns) (gridsOf (now (a .ground)) (now (a .filled)) (now (a .direction)) (now (a .count)) (now (a .lengths)) (now (a .factors)))) e) (p .inv .1), omega arith)
+    let l = c .before in
+    let s = start l in
+    let e : l .loop .x ≡ length (now (s .args .ground)) = omega arith in
+    (wrote-as (ap (cellLines (s .args .columns) (grids s)) e) (l .loop .inv .1), omega arith)
 
 pub put-cells-spec : {M : Type 1} → statement M
 put-cells-spec =

@@ -7,6 +7,7 @@ use mathlib.Core.Bool.{Bool, cond}
 use mathlib.Core.List.{[], _∷_, _++_}
 use borrow.Author.Tests.{eq-eqb, ne-eqb}
 use Rattle.text.specs.Bytes.{bytes}
+use Rattle.factor.specs.Cell.{tooLong}
 use Rattle.sheet.specs.Words.{decimal}
 use Rattle.sheet.specs.Lines.{factorWord}
 use Rattle.sheet.proofs.lines.put_factor.Statement.{statement}
@@ -26,7 +27,7 @@ unfolding factorWord bytes
 returns c =
     let n = c .before .before .before .before .before .before .before .args .factor in
     let put = c .before .before .put-all .ensures in
-    (wrote-as (ap (λ (b : Bool). cond b (bytes "long") (decimal n) ++ (10 ∷ [])) (sym (eq-eqb n 4294967294 (c .before .before .before .before .before .if1 .taken)))) put, omega (arith, put .ends))
+    (wrote-as (ap (λ (b : Bool). cond b (bytes "long") (decimal n) ++ (10 ∷ [])) (sym (eq-eqb n tooLong (c .before .before .before .before .before .if1 .taken)))) put, omega (arith, put .ends))
 
 put-number-requires : tie.Need-put-number-requires
 put-number-requires c κs = search needs
@@ -39,7 +40,7 @@ unfolding factorWord bytes
 returns-2 c =
     let n = c .before .before .before .before .before .before .args .factor in
     let put = c .before .before .put-number .ensures in
-    (wrote-as (ap (λ (b : Bool). cond b (bytes "long") (decimal n) ++ (10 ∷ [])) (sym (ne-eqb n 4294967294 (c .before .before .before .before .if1 .left)))) (put .0), put .1)
+    (wrote-as (ap (λ (b : Bool). cond b (bytes "long") (decimal n) ++ (10 ∷ [])) (sym (ne-eqb n tooLong (c .before .before .before .before .if1 .left)))) (put .0), put .1)
 
 pub put-factor-spec : {M : Type 1} → statement M
 put-factor-spec =

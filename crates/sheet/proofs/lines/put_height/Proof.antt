@@ -9,23 +9,30 @@ use Rattle.sheet.proofs.Signs.{integer-short}
 use Rattle.sheet.proofs.lines.put_height.Statement.{statement}
 use Rattle.sheet.proofs.lines.put_height.Tie as tie
 
+-- the arguments, from the digits on
+abbrev start : tie.After-put-integer → tie.Start
+start c = c .before .before .before
+
 put-integer-requires : tie.Need-put-integer-requires
 put-integer-requires c κs = search needs
 
 put-requires : tie.Need-put-requires
 put-requires c κs =
-    let s = c .before .before .before .before .before .before in
+    let digits = c .before .before .before in
+    let s = start digits in
     let e = toZ-ofZ (s .fits .height) in
-    omega (arith, rw e at (c .before .before .before .put-integer .ensures .ends), integer-short (s .args .height) (s .fits .height))
+    omega (arith, rw e at (digits .put-integer .ensures .ends), integer-short (s .args .height) (s .fits .height))
 
 same-length : tie.Need-same-length
 same-length c = search needs
 
 returns : tie.Need-returns
 returns c =
-    let s = c .before .before .before .before .before .before .before .before .before in
-    let put = wrote-as (ap integer (toZ-ofZ (s .fits .height))) (c .before .before .before .before .before .before .put-integer .ensures) in
-    (wrote-then put (c .before .before .put .ensures), omega (arith, put .ends, c .before .before .put .ensures .ends, integer-short (s .args .height) (s .fits .height)))
+    let digits = c .before .before .before .before .before .before in
+    let s = start digits in
+    let height = wrote-as (ap integer (toZ-ofZ (s .fits .height))) (digits .put-integer .ensures) in
+    let put = c .before .before .put .ensures in
+    (wrote-then height put, omega (arith, height .ends, put .ends, integer-short (s .args .height) (s .fits .height)))
 
 pub put-height-spec : {M : Type 1} → statement M
 put-height-spec = tie.close (tie.spec put-integer-requires put-requires same-length returns)

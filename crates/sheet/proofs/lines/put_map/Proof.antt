@@ -20,9 +20,10 @@ same-length c = search needs
 returns : tie.Need-returns
 unfolding mapLines
 returns c =
-    let s = c .before .before .before .before .before .before .before .before .before .before .before .before .before in
+    let first = c .before .before .before .before .before .before in
+    let s = first .before .before .before .before .before .before .before in
     let a = s .args in
-    let shape = c .before .before .before .before .before .before .put-shape .ensures in
+    let shape = first .put-shape .ensures in
     let cells = c .before .before .put-cells .ensures in
     let long = s .pre .1 .ground-long in (
       wrote-then (shape .0) (wrote-as (ap (cellLines (a .shape .columns) (gridsOf (now (a .ground)) (now (a .filled)) (now (a .direction)) (now (a .count)) (now (a .lengths)) (now (a .factors)))) long) (cells .0)),

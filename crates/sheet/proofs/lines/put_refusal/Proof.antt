@@ -17,14 +17,8 @@ put-all-requires c κs = search needs
 put-number-requires : tie.Need-put-number-requires
 put-number-requires c κs = search needs
 
-slice-aggregate-put-all-2 : tie.Need-slice-aggregate-put-all-2
-slice-aggregate-put-all-2 c = search needs
-
-put-all-requires-2 : tie.Need-put-all-requires-2
-put-all-requires-2 c κs = search needs
-
-put-number-requires-2 : tie.Need-put-number-requires-2
-put-number-requires-2 c κs = search needs
+put-place-requires : tie.Need-put-place-requires
+put-place-requires c κs = search needs
 
 same-length : tie.Need-same-length
 same-length c = search needs
@@ -32,13 +26,13 @@ same-length c = search needs
 returns : tie.Need-returns
 unfolding refusalLine line bytes
 returns c =
-    let a = c .before .before .before .before .before .before .before .before .before .before .before .before .before .before .before .before .before .before .before .args in
-    let number = c .before .before .before .before .before .before .before .before .before .before .before .put-number .ensures in
-    let place = c .before .before .put-number2 .ensures in (
-      wrote-word (bytes "refused") (c .before .before .before .before .before .before .before .before .before .before .before .before .before .before .before .put-all .ensures)
-          (wrote-word (decimal (a .number)) (number .0) (wrote-word (bytes "at") (c .before .before .before .before .before .before .put-all2 .ensures) (place .0))),
-      omega (arith, c .before .before .before .before .before .before .before .before .before .before .before .before .before .before .before .put-all .ensures .ends, number .1, c .before .before .before .before .before .before .put-all2 .ensures .ends, place .1),
-    )
+    let second = c .before .before .before .before .before .before in
+    let first = second .before .before .before .before in
+    let a = first .before .before .before .before .args in
+    let refused = first .put-all .ensures in
+    let number = second .put-number .ensures in
+    let place = c .before .before .put-place .ensures in
+    (wrote-word (bytes "refused") refused (wrote-word (decimal (a .number)) (number .0) (place .0)), omega (arith, refused .ends, number .1, place .1))
 
 pub put-refusal-spec : {M : Type 1} → statement M
 put-refusal-spec =
@@ -47,8 +41,6 @@ put-refusal-spec =
     slice-aggregate-put-all
     put-all-requires
     put-number-requires
-    slice-aggregate-put-all-2
-    put-all-requires-2
-    put-number-requires-2
+    put-place-requires
     same-length
     returns)

@@ -96,9 +96,10 @@ put-natural-put-requires-2 : (t : ℕ) → put-natural-lts.Need-put-requires-2 (
   put-natural.Post,
 ) (put-natural-at t) put-natural.Post
 put-natural-put-requires-2 t c κs =
-    let s = c .before .before .before .before .before .before .before in
+    let tenth = c .before .before .before in
+    let s = tenth .before .before .before .before in
     let n = s .args .n in
-    omega (arith, c .before .before .before .put-natural .ensures .ends, decimal-short 19 (n / 10) (omega (arith, s .fits .n)), s .pre .1)
+    omega (arith, tenth .put-natural .ensures .ends, decimal-short 19 (n / 10) (omega (arith, s .fits .n)), s .pre .1)
 
 put-natural-same-length-2 : (t : ℕ) → put-natural-lts.Need-same-length-2 (
   put-reads.Asked,
@@ -115,9 +116,9 @@ put-natural-returns-2 : (t : ℕ) → put-natural-lts.Need-returns-2 (
   put-natural.Post,
 ) (put-natural-at t) put-natural.Post
 put-natural-returns-2 t c =
-    let s = c .before .before .before .before .before .before .before .before .before .before in
-    let n = s .args .n in
-    wrote-as (sym (decimal-more n (omega arith))) (wrote-then (c .before .before .before .before .before .before .put-natural .ensures) (c .before .before .put2 .ensures))
+    let tenth = c .before .before .before .before .before .before in
+    let n = tenth .before .before .before .before .args .n in
+    wrote-as (sym (decimal-more n (omega arith))) (wrote-then (tenth .put-natural .ensures) (c .before .before .put2 .ensures))
 
 pub +put-natural-spec : {M : Type 1} → statement M
 +put-natural-spec = close μ-put-natural λ t. put-natural-lts.spec (

@@ -3,7 +3,7 @@ use Prim.Native.Nat.{_≤_, _-_}
 use native.Mathlib.Omega.{arith}
 use lib.ListN.{length, take, length-take}
 use denote.Ref.{now}
-use Rattle.sheet.specs.Writing.{Wrote}
+use Rattle.sheet.specs.InnerWriting.{Wrote}
 use Rattle.sheet.proofs.Writing.{wrote-none, wrote-more, wrote-long, wrote-all}
 use Rattle.sheet.proofs.writer.put_all.Statement.{statement}
 use Rattle.sheet.proofs.writer.put_all.Tie as tie
@@ -34,8 +34,9 @@ loop-less c = omega arith
 
 loop-again : tie.Need-loop-again Inv-loop μ-loop
 loop-again c =
-    let p = c .before .before .before .before .before .before .loop in
-    let a = c .before .before .before .before .before .before .before .before .before .args in
+    let l = c .before .before .before .before .before .before in
+    let p = l .loop in
+    let a = l .before .before .before .args in
     (omega arith, wrote-more (now (a .out)) (a .at) (now (a .bytes)) (p .i) (omega arith) (p .inv .1) (c .before .before .put .ensures))
 
 same-length : tie.Need-same-length Inv-loop μ-loop

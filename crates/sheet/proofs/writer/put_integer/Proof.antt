@@ -25,10 +25,12 @@ same-length c = search needs
 
 returns : tie.Need-returns
 returns c =
-    let s = c .before .before .before .before .before .before .before .before .before .before .before in
-    let e = c .before .before .before .size .ensures .0 ∙ ap natAbs (toZ-ofZ (s .fits .z)) in
-    wrote-as (ap (λ (n : ℕ). 45 ∷ decimal n) e ∙ sym (integer-minus (s .args .z) (s .fits .z) (c .before .before .before .before .before .before .before .before .before .if1 .taken)))
-    (wrote-then (c .before .before .before .before .before .before .before .put .ensures) (c .before .before .put-natural .ensures))
+    let sized = c .before .before .before in
+    let minus = sized .before .before .before .before in
+    let below = minus .before .before in
+    let s = below .before .before in
+    let e = sized .size .ensures .0 ∙ ap natAbs (toZ-ofZ (s .fits .z)) in
+    wrote-as (ap (λ (n : ℕ). 45 ∷ decimal n) e ∙ sym (integer-minus (s .args .z) (s .fits .z) (below .if1 .taken))) (wrote-then (minus .put .ensures) (c .before .before .put-natural .ensures))
 
 size-requires-2 : tie.Need-size-requires-2
 size-requires-2 c κs = search needs
@@ -41,9 +43,11 @@ same-length-2 c = search needs
 
 returns-2 : tie.Need-returns-2
 returns-2 c =
-    let s = c .before .before .before .before .before .before .before in
-    let e = c .before .before .before .size2 .ensures .0 ∙ ap natAbs (toZ-ofZ (s .fits .z)) in
-    wrote-as (ap decimal e ∙ sym (integer-plus (s .args .z) (s .fits .z) (c .before .before .before .before .before .if1 .left))) (c .before .before .put-natural2 .ensures)
+    let sized = c .before .before .before in
+    let above = sized .before .before in
+    let s = above .before .before in
+    let e = sized .size2 .ensures .0 ∙ ap natAbs (toZ-ofZ (s .fits .z)) in
+    wrote-as (ap decimal e ∙ sym (integer-plus (s .args .z) (s .fits .z) (above .if1 .left))) (c .before .before .put-natural2 .ensures)
 
 pub put-integer-spec : {M : Type 1} → statement M
 put-integer-spec =
