@@ -25,7 +25,7 @@ use Rattle.factor.specs.Length.{lengthsOf}
 use Rattle.factor.specs.Grid.{factorsOf}
 use Rattle.factor.specs.Answers.{Grids, lent, judged, mapOf, answerOf, gridsOf, answer, after, accepts}
 use Rattle.factor.specs.Inner.{firstTests, Promised}
-use Rattle.factor.specs.Pass.{Measuring}
+use Rattle.factor.specs.InnerPass.{Measuring}
 use Rattle.factor.specs.declared.Answer.{Answer}
 use Rattle.factor.specs.declared.Answer.the-variants.{Accepted, Refused}
 use Rattle.factor.proofs.Judging.{lentOn, first-fails, first-passes, first-side, first-lengths}

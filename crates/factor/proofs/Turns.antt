@@ -12,7 +12,7 @@ use Rattle.terrain.specs.Inside.{besideOf}
 use Rattle.factor.specs.Cell.{factorOf}
 use Rattle.factor.specs.Inflow.{cutoffFor, startLength, stepOver}
 use Rattle.factor.specs.Inner.{greatestLength, steepnessOf, settledOf, broughtBy}
-use Rattle.factor.specs.Pass.{Ruled, sideAt, lengthNow, amountNow, lengthsNext, Turned}
+use Rattle.factor.specs.InnerPass.{Ruled, sideAt, lengthNow, amountNow, lengthsNext, Turned}
 use Rattle.factor.specs.declared.pass.Terms.{Terms}
 use Rattle.factor.proofs.Lengths.{step-le, amount-le}
 

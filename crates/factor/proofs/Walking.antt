@@ -32,7 +32,7 @@ use Rattle.factor.specs.Length.{cutoffAt, broughtTo, lengthsOf}
 use Rattle.factor.specs.Cell.{factorOf}
 use Rattle.factor.specs.Grid.{factorAt, factorsOf}
 use Rattle.factor.specs.Inner.{greatestFall, steepnessOf, settledOf, leftBy, broughtBy}
-use Rattle.factor.specs.Pass.{Ruled, sideAt, Turning, lengthNow, amountNow, lengthsNext, Turned, Measuring}
+use Rattle.factor.specs.InnerPass.{Ruled, sideAt, Turning, lengthNow, amountNow, lengthsNext, Turned, Measuring}
 use Rattle.factor.specs.declared.pass.Terms.{Terms}
 use Rattle.factor.proofs.Slopes.{fall-steepness, fall-small}
 use Rattle.factor.proofs.Lengths.{lengths-long, lengths-at}

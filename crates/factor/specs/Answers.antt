@@ -74,7 +74,7 @@ unfoldable pub after : ℕ → ℕ → ℕ → Settings → List ℤ → Grids �
 unfolding judged gridsOf
 after rows cols side settings ground g = gridsOf rows cols side settings ground g (judged rows cols side settings ground g)
 
--- ---- an answer as the paper's numbers
+-- ---- an answer as the paper's numbers, for the promises of the crates above
 
 -- number and place, the number of valid cells and the steps of the longest trail
 pub record Numbers : Type 0 where

@@ -1,4 +1,4 @@
--- What the functions inside the crate assume, and what they answer: no promise of a public call cites this file. Assumes nothing.
+-- Only inner functions cite this file: what they assume, and what they answer. Assumes nothing.
 use Prim.Native.Nat.{ℕ, _+_, _-_, _*_, _/_, _%_, _^_, _≤_, _<_}
 use mathlib.Core.Bool.{Bool, true, cond}
 use mathlib.Core.List.{List, [], _∷_}

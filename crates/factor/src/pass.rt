@@ -14,7 +14,7 @@ ghost use Rattle.factor.specs.Inflow.{cutoffFor};
 ghost use Rattle.factor.specs.Length.{lengthsOf};
 ghost use Rattle.factor.specs.Grid.{factorsOf};
 ghost use Rattle.factor.specs.Inner.{steepest, greatestLength, settledOf, leftBy, broughtBy, Listed};
-ghost use Rattle.factor.specs.Pass.{Ruled, Turning, Turned, Measuring};
+ghost use Rattle.factor.specs.InnerPass.{Ruled, Turning, Turned, Measuring};
 use crate::cell::factor_of;
 use crate::channel::channel_bound;
 use crate::channel::largest;

@@ -1,4 +1,4 @@
--- What the functions of `pass` assume of a map, and what they leave: no promise of a public call cites this file. Assumes nothing.
+-- Only inner functions cite this file: what those of `pass` assume of a map, and what they leave. Assumes nothing.
 use mathlib.Core.Path.{_≡_}
 use mathlib.Core.List.{List}
 use Prim.Native.Nat.{ℕ, _+_, _*_, _≤_, _<_, max}
