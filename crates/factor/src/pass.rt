@@ -99,7 +99,8 @@ fn turn(
     guesses: &mut Guesses,
 )
     requires { ⌜ Turning terms (now direction) (now count) (now lengths) (now factors) x × Listed (now lists) × Shifts (terms .columns) (now shifts) ⌝ }
-    ensures { λ _. ⌜ Turned terms (now (direction .entry)) (now (count .entry)) (now (lengths .entry)) (now (factors .entry)) x (now (lengths .exit)) (now (factors .exit)) ⌝ }
+    ensures { λ _. ⌜ Turned terms (now (direction .entry)) (now (count .entry)) (now (lengths .entry)) (now (factors .entry)) x
+        (now (lengths .exit)) (now (factors .exit)) ⌝ }
 {
     let length = final_length(terms.most, count[x], lengths[x]);
     lengths[x] = length;
@@ -139,7 +140,11 @@ pub(crate) fn measure(
     factors: &mut [u32],
 )
     requires { ⌜ ((rows : ℕ) × (lv : List ℕ) × Measuring rows columns side lv (now direction) (now count) (now order) places (now lengths) (now factors)) ⌝ }
-    ensures { λ _. ⌜ ((rows : ℕ) (lv : List ℕ) → Measuring rows columns side lv (now (direction .entry)) (now (count .entry)) (now (order .entry)) places (now (lengths .entry)) (now (factors .entry)) → (now (lengths .exit) ≡ lengthsOf rows columns side rules lv (now (direction .entry)) (now (count .entry))) × (now (factors .exit) ≡ factorsOf rows columns side lv (now (direction .entry)) (now (lengths .exit)))) ⌝ }
+    ensures { λ _. ⌜ ((rows : ℕ) (lv : List ℕ) →
+        Measuring rows columns side lv (now (direction .entry)) (now (count .entry)) (now (order .entry)) places
+        (now (lengths .entry)) (now (factors .entry)) →
+        (now (lengths .exit) ≡ lengthsOf rows columns side rules lv (now (direction .entry)) (now (count .entry)))
+        × (now (factors .exit) ≡ factorsOf rows columns side lv (now (direction .entry)) (now (lengths .exit)))) ⌝ }
 {
     let square = (side as u64) * (side as u64);
     let threshold = rules.threshold;

@@ -5,7 +5,7 @@ use lib.ListN.{replicate}
 use borrow.Author.Needs.{needs}
 use Rattle.terrain.specs.Filled.{filledLevels}
 use Rattle.terrain.specs.Answers as terrain
-use Rattle.factor.specs.Answers.{Grids, lent}
+use Rattle.factor.specs.Answers.{Grids, lentAt}
 use Rattle.factor.proofs.Judging.{first-workspace}
 use Rattle.factor.proofs.Answers.{terrain-refused, accepted-measuring, accepted-promised}
 use Rattle.factor.proofs.map_sound.Statement.{statement}
@@ -24,7 +24,7 @@ accepted-at c = c .before .before .before .before .before .before .before
 
 -- the lent grids, and the terrain layer's as it leaves them
 abbrev grids : tie.Start → Grids
-grids s = lent (s .args .filled .now) (s .args .direction .now) (s .args .count .now) (s .args .lengths .now) (s .args .factors .now) (s .args .workspace .now)
+grids s = lentAt (s .args .filled) (s .args .direction) (s .args .count) (s .args .lengths) (s .args .factors) (s .args .workspace)
 
 abbrev left : tie.After-map → terrain.Grids
 left c = let l = c .map .last .1 .1 .1 in terrain.lent (l .0) (l .1 .0) (l .1 .1 .0) (l .1 .1 .1 .0) (l .1 .1 .1 .1 .0)

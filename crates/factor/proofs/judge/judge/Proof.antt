@@ -7,7 +7,7 @@ use borrow.Author.Tests.{not-true, not-false}
 use borrow.Author.Needs.{needs}
 use Rattle.text.specs.Ranges.{sizeAccepted, sideAccepted, allLong}
 use Rattle.text.proofs.Accepted.{area-few}
-use Rattle.factor.specs.Answers.{Grids, lent, placesOf}
+use Rattle.factor.specs.Answers.{Grids, lentAt, placesOf}
 use Rattle.factor.proofs.Judging.{judges-rows, judges-columns, judges-long, judges-side, judges-settings, judges-sound}
 use Rattle.factor.proofs.judge.judge.Statement.{statement}
 use Rattle.factor.proofs.judge.judge.Tie as tie
@@ -18,7 +18,7 @@ start c = c .before .before .before .before .before .before
 
 -- the lent grids
 abbrev grids : tie.Start → Grids
-grids s = lent (s .args .filled .now) (s .args .direction .now) (s .args .count .now) (s .args .lengths .now) (s .args .factors .now) (s .args .workspace .now)
+grids s = lentAt (s .args .filled) (s .args .direction) (s .args .count) (s .args .lengths) (s .args .factors) (s .args .workspace)
 
 -- what the tests tell
 rows-are : (c : tie.Else1) → sizeAccepted (start (c .before) .args .rows) ≡ true
