@@ -17,8 +17,7 @@ use Rattle.settings.specs.declared.Rules.{Rules}
 use Rattle.terrain.specs.Cells.{neighbour, sideOf, cardinal}
 use Rattle.terrain.specs.Trail.{mappedAt, stepsIn, intoAt}
 use Rattle.terrain.specs.Directed.{Directed}
-use Rattle.terrain.proofs.Public.{steps-le}
-use Rattle.terrain.proofs.Public.{into-above}
+use Rattle.terrain.proofs.Public.{steps-le, into-above}
 use Rattle.factor.specs.Slope.{steepnessAt}
 use Rattle.factor.specs.Channel.{channelAt}
 use Rattle.factor.specs.Inflow.{isCut, startLength, stepOver, amountOf}

@@ -7,7 +7,7 @@ ghost use mathlib.Core.Path.{_≡_};
 ghost use mathlib.Core.List.{List};
 ghost use lib.ListN.{length, replicate};
 ghost use lib.Dec.{ltb};
-ghost use Prim.Native.Nat.{ℕ, _*_, _≤_, _<_, max};
+ghost use Prim.Native.Nat.{ℕ, _≤_, max};
 ghost use Rattle.terrain.specs.Inside.{Beside, besideOf, Shifts};
 ghost use Rattle.settings.specs.declared.Rules.{Rules};
 ghost use Rattle.factor.specs.Inflow.{cutoffFor};
