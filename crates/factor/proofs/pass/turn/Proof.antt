@@ -24,7 +24,8 @@ measured-at c = c .before .before .before .before .before .before
 length-small : (c : tie.After-final-length) → c .final-length .result ≤ greatestLength
 length-small c =
     let s = start c in
-    omega (arith, c .final-length .ensures, final-small (ltb (s .args .terms .most) (getD (s .args .count .now) (s .args .x) 0)) (getD (s .args .lengths .now) (s .args .x) 0) (s .pre .0 .gathered-small))
+    let a = s .args in
+    omega (arith, c .final-length .ensures, final-small (ltb (a .terms .most) (getD (a .count .now) (a .x) 0)) (getD (a .lengths .now) (a .x) 0) (s .pre .0 .gathered-small))
 
 -- the cell that x points at is another, and has its places
 next-in : (c : tie.After-beside) → let s = start (measured-at (c .before)) in (c .beside .result < length (s .args .lengths .now)) × (c .beside .result < length (s .args .factors .now))
@@ -72,8 +73,9 @@ factor-of-requires : tie.Need-factor-of-requires
 factor-of-requires c κs =
     let t = c .before .before .before in
     let s = start t in
+    let small = steepness-small {fall = getD (s .args .factors .now) (s .args .x) 0} (s .pre .0 .fall-small) in
     record {
-      sloping = record { side-some = s .pre .0 .side-some; side-small = s .pre .0 .side-small; steepness-small = omega (arith, c .before .steepness-of .ensures, steepness-small {fall = getD (s .args .factors .now) (s .args .x) 0} (s .pre .0 .fall-small)) };
+      sloping = record { side-some = s .pre .0 .side-some; side-small = s .pre .0 .side-small; steepness-small = omega (arith, c .before .steepness-of .ensures, small) };
       length-small = omega (arith, length-small t);
       listed = s .pre .1;
     }
@@ -100,8 +102,9 @@ returns : tie.Need-returns
 returns c =
     let f = c .before .before in
     let t = f .before .before .before .before in
-    let s = start t in
-    turned-off (s .args .terms) (s .args .direction .now) (s .args .count .now) (s .args .lengths .now) (s .args .factors .now) (s .args .x) (t .final-length .ensures) (f .before .before .steepness-of .ensures) (f .factor-of .ensures) (c .if1 .taken)
+    let a = start t .args in
+    turned-off (a .terms) (a .direction .now) (a .count .now) (a .lengths .now) (a .factors .now) (a .x)
+    (t .final-length .ensures) (f .before .before .steepness-of .ensures) (f .factor-of .ensures) (c .if1 .taken)
 
 beside-requires : tie.Need-beside-requires
 beside-requires c κs = let s = start (measured-at c) in (s .pre .0 .beside-room (c .if1 .left), s .pre .2)
@@ -110,7 +113,10 @@ mul-steepness-of : tie.Need-mul-steepness-of
 mul-steepness-of c = omega (arith, next-in c .1, start (measured-at (c .before)) .pre .0 .factors-few)
 
 slice-read-steepness-of : tie.Need-slice-read-steepness-of
-slice-read-steepness-of c = let b = c .before in let s = start (measured-at (b .before)) in omega (arith, next-in b .1, length-set (s .args .factors .now) (s .args .x) (b .before .before .before .factor-of .result))
+slice-read-steepness-of c =
+    let b = c .before in
+    let s = start (measured-at (b .before)) in
+    omega (arith, next-in b .1, length-set (s .args .factors .now) (s .args .x) (b .before .before .before .factor-of .result))
 
 steepness-of-requires-2 : tie.Need-steepness-of-requires-2
 steepness-of-requires-2 c κs =
@@ -124,9 +130,10 @@ brought-requires c κs =
     let f = b .before .before .before in
     let t = measured-at (b .before) in
     let s = start t in
+    let falls = set (s .args .factors .now) (s .args .x) (f .factor-of .result) in
     let other = getD-set-other (s .args .factors .now) (s .args .x) (b .beside .result) (f .factor-of .result) 0 (next-other b) in (
       omega (arith, f .before .before .steepness-of .ensures, steepness-small {fall = getD (s .args .factors .now) (s .args .x) 0} (s .pre .0 .fall-small)),
-      omega (arith, c .steepness-of2 .ensures, steepness-small {fall = getD (set (s .args .factors .now) (s .args .x) (f .factor-of .result)) (b .beside .result) 0} (omega (arith, other, next-small b))),
+      omega (arith, c .steepness-of2 .ensures, steepness-small {fall = getD falls (b .beside .result) 0} (omega (arith, other, next-small b))),
       length-small t,
       (s .pre .0 .rules, s .pre .0 .ruled),
     )
@@ -135,7 +142,11 @@ mul-longer : tie.Need-mul-longer
 mul-longer c = let b = c .before .before .before in omega (arith, next-in b .0, start (measured-at (b .before)) .pre .0 .lengths-few)
 
 slice-read-longer : tie.Need-slice-read-longer
-slice-read-longer c = let b = c .before .before .before .before in let t = measured-at (b .before) in let s = start t in omega (arith, next-in b .0, length-set (s .args .lengths .now) (s .args .x) (t .final-length .result))
+slice-read-longer c =
+    let b = c .before .before .before .before in
+    let t = measured-at (b .before) in
+    let s = start t in
+    omega (arith, next-in b .0, length-set (s .args .lengths .now) (s .args .x) (t .final-length .result))
 
 add-longer : tie.Need-add-longer
 add-longer c =
@@ -157,7 +168,11 @@ mul-lengths-2 : tie.Need-mul-lengths-2
 mul-lengths-2 c = let b = c .before .before .before .before .before in omega (arith, next-in b .0, start (measured-at (b .before)) .pre .0 .lengths-few)
 
 slice-write-lengths-2 : tie.Need-slice-write-lengths-2
-slice-write-lengths-2 c = let b = c .before .before .before .before .before in let t = measured-at (b .before) in let s = start t in omega (arith, next-in b .0, length-set (s .args .lengths .now) (s .args .x) (t .final-length .result))
+slice-write-lengths-2 c =
+    let b = c .before .before .before .before .before in
+    let t = measured-at (b .before) in
+    let s = start t in
+    omega (arith, next-in b .0, length-set (s .args .lengths .now) (s .args .x) (t .final-length .result))
 
 same-length-3 : tie.Need-same-length-3
 same-length-3 c = search needs
@@ -171,8 +186,10 @@ returns-2 c =
     let b = w .before .before .before in
     let f = b .before .before .before in
     let t = measured-at (b .before) in
-    let s = start t in
-    turned-on (s .args .terms) (s .args .direction .now) (s .args .count .now) (s .args .lengths .now) (s .args .factors .now) (s .args .x) (t .final-length .ensures) (f .before .before .steepness-of .ensures) (f .factor-of .ensures) (b .beside .ensures) (next-other b) (w .before .steepness-of2 .ensures) (w .brought .ensures) (c .longer .ensures) (b .before .if1 .left)
+    let a = start t .args in
+    turned-on (a .terms) (a .direction .now) (a .count .now) (a .lengths .now) (a .factors .now) (a .x)
+    (t .final-length .ensures) (f .before .before .steepness-of .ensures) (f .factor-of .ensures) (b .beside .ensures) (next-other b)
+    (w .before .steepness-of2 .ensures) (w .brought .ensures) (c .longer .ensures) (b .before .if1 .left)
 
 pub turn-spec : {M : Type 1} → statement M
 turn-spec =
