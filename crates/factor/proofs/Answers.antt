@@ -1,7 +1,7 @@
 -- The promise of the map call: from the judge's finding, the terrain layer's promise, and the pass along the order. Assumes nothing.
 use mathlib.Core.Path.{_≡_, refl, sym, ap, ap₂, subst, _∙_}
 use mathlib.Core.List.{List}
-use mathlib.Core.Bool.{true, false, true≢false}
+use mathlib.Core.Bool.{true≢false}
 use Prim.Native.Nat.{ℕ, _*_}
 use native.Mathlib.Omega.{arith}
 use lib.ListN.{length, replicate}
@@ -25,7 +25,7 @@ use Rattle.factor.specs.Length.{lengthsOf}
 use Rattle.factor.specs.Grid.{factorsOf}
 use Rattle.factor.specs.Answers.{Grids, lent, judged, mapOf, answerOf, gridsOf, answer, after, accepts}
 use Rattle.factor.specs.Inner.{firstTests, Promised}
-use Rattle.factor.specs.Pass.{Measuring}
+use Rattle.factor.specs.InnerPass.{Measuring}
 use Rattle.factor.specs.declared.Answer.{Answer}
 use Rattle.factor.specs.declared.Answer.the-variants.{Accepted, Refused}
 use Rattle.factor.proofs.Judging.{lentOn, first-fails, first-passes, first-side, first-lengths}

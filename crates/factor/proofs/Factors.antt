@@ -8,7 +8,7 @@ use borrow.Author.Tests.{leb-true, leb-false, ltb-true, ltb-false, lt-ltb, le-lt
 use mir.Val.{boolByte}
 use lib.Dec.{leb, ltb}
 use Rattle.factor.specs.Exponent.{exponentOf}
-use Rattle.factor.specs.LengthFactor.{millimetres, longest, reached, lengthFactor}
+use Rattle.factor.specs.LengthFactor.{millimetres, greatestMm, reached, lengthFactor}
 use Rattle.factor.specs.Steepness.{steepnessFactor}
 use Rattle.factor.specs.Cell.{tooLong, factorOf}
 use Rattle.factor.specs.Grid.{noDataFactor}
@@ -52,18 +52,18 @@ pub product-within : (k mm c q : ℕ) → lengthFactor k mm * steepnessFactor c 
 product-within k mm c q = omega (arith, mul-le-mul (length-factor-within k mm) (steepness-within c q))
 
 module _ (c q len : ℕ) where
-  pub factor-long : longest < millimetres c len → tooLong ≡ factorOf c q len
+  pub factor-long : greatestMm < millimetres c len → tooLong ≡ factorOf c q len
   unfolding factorOf
-  factor-long h = rw (lt-ltb longest (millimetres c len) h)
+  factor-long h = rw (lt-ltb greatestMm (millimetres c len) h)
 
-  pub factor-short : {k t s : ℕ} → millimetres c len ≤ longest → k ≡ exponentOf c q → t ≡ lengthFactor k (millimetres c len) → s ≡ steepnessFactor c q → t * s ≡ factorOf c q len
+  pub factor-short : {k t s : ℕ} → millimetres c len ≤ greatestMm → k ≡ exponentOf c q → t ≡ lengthFactor k (millimetres c len) → s ≡ steepnessFactor c q → t * s ≡ factorOf c q len
   unfolding factorOf
-  factor-short h e f g = rw (le-ltb longest (millimetres c len) h, f, e, g)
+  factor-short h e f g = rw (le-ltb greatestMm (millimetres c len) h, f, e, g)
 
   -- a valid cell's LS is never NoData's
   pub factor-valid : factorOf c q len < noDataFactor
   unfolding factorOf
-  factor-valid = go (ltb longest (millimetres c len))
+  factor-valid = go (ltb greatestMm (millimetres c len))
     where
       go : (b : Bool) → cond b tooLong (lengthFactor (exponentOf c q) (millimetres c len) * steepnessFactor c q) < noDataFactor
       go true = omega arith

@@ -22,7 +22,7 @@ use Rattle.terrain.proofs.Public.{pointing, inflow-greatest}
 use Rattle.factor.specs.Channel.{channelAt}
 use Rattle.factor.specs.Inflow.{startLength}
 use Rattle.factor.specs.Length.{broughtTo, lengthIn}
-use Rattle.factor.specs.Inner.{greatestLength, settledOf}
+use Rattle.factor.specs.Inner.{greatestLength, finalLength}
 use Rattle.factor.proofs.Lengths.{brought-le, most, from-is, length-local, length-small}
 
 module _ (rows cols side : ℕ) (rules : Rules) (lv dir count : List ℕ) where
@@ -36,14 +36,14 @@ module _ (rows cols side : ℕ) (rules : Rules) (lv dir count : List ℕ) where
   gatheredAt z = greatestTo (rows * cols) (λ x. when (eqb (receiverOf rows cols dir x) z) (broughtTo rows cols side rules lv dir z x (lengthAt x) + 1))
 
   -- what becomes of what is gathered at z when its turn comes
-  unfoldable pub settledAt : ℕ → ℕ → ℕ
-  unfolding settledOf channelAt
-  settledAt z m = settledOf (channelAt rows cols rules count z) m
+  unfoldable pub finalAt : ℕ → ℕ → ℕ
+  unfolding finalLength channelAt
+  finalAt z m = finalLength (channelAt rows cols rules count z) m
 
   -- one more than what x gives, when so much is gathered at x
   unfoldable pub givenBy : ℕ → ℕ → ℕ
-  unfolding broughtTo settledAt receiverOf
-  givenBy x m = broughtTo rows cols side rules lv dir (receiverOf rows cols dir x) x (settledAt x m) + 1
+  unfolding broughtTo finalAt receiverOf
+  givenBy x m = broughtTo rows cols side rules lv dir (receiverOf rows cols dir x) x (finalAt x m) + 1
 
 module _ {rows cols : ℕ} {dir : List ℕ} (d : Directed rows cols dir) (side : ℕ) (rules : Rules) (lv count : List ℕ) where
   abbrev n : ℕ
@@ -67,9 +67,6 @@ module _ {rows cols : ℕ} {dir : List ℕ} (d : Directed rows cols dir) (side :
   abbrev gathered : ℕ → ℕ
   gathered = gatheredAt rows cols side rules lv dir count
 
-  abbrev settled : ℕ → ℕ → ℕ
-  settled = settledAt rows cols side rules lv dir count
-
   abbrev given : ℕ → ℕ → ℕ
   given = givenBy rows cols side rules lv dir count
 
@@ -82,8 +79,8 @@ module _ {rows cols : ℕ} {dir : List ℕ} (d : Directed rows cols dir) (side :
   gathered-sides z h = sym (inflow-greatest d h (λ x. brings z x + 1))
 
   -- one more than the greatest amount, or 0 where there is no inflow
-  settle : (z : ℕ) → z < n → cond (ltb (gathered z) 1) startLength (gathered z - 1) ≡ cond (someOf (into z) 8) (most d side rules lv count len z) startLength
-  settle z h =
+  final-inflows : (z : ℕ) → z < n → cond (ltb (gathered z) 1) startLength (gathered z - 1) ≡ cond (someOf (into z) 8) (most d side rules lv count len z) startLength
+  final-inflows z h =
       ⊎-elim
       (λ e.
       let s = some-is (into z) 8 e in
@@ -95,10 +92,10 @@ module _ {rows cols : ℕ} {dir : List ℕ} (d : Directed rows cols dir) (side :
       (two (someOf (into z) 8))
 
   -- what becomes of it is the length
-  pub settled-is : (z : ℕ) → mappedAt rows cols dir z ≡ true → settledAt rows cols side rules lv dir count z (gatheredAt rows cols side rules lv dir count z) ≡ lengthAt rows cols side rules lv dir count z
-  unfolding settledAt settledOf
-  settled-is z v =
-      ap (λ (m : ℕ). cond (channelAt rows cols rules count z) 0 m) (settle z (pointing d .within z v))
+  pub final-is : (z : ℕ) → mappedAt rows cols dir z ≡ true → finalAt rows cols side rules lv dir count z (gatheredAt rows cols side rules lv dir count z) ≡ lengthAt rows cols side rules lv dir count z
+  unfolding finalAt finalLength
+  final-is z v =
+      ap (λ (m : ℕ). cond (channelAt rows cols rules count z) 0 m) (final-inflows z (pointing d .within z v))
       ∙ sym (ap (λ (b : Bool). cond b (cond (channelAt rows cols rules count z) 0 (cond (someOf (into z) 8) (most d side rules lv count len z) startLength)) 0) v)
       ∙ sym (length-local d side rules lv count z ∙ from-is d side rules lv count len z)
 
@@ -121,7 +118,7 @@ module _ {rows cols : ℕ} {dir : List ℕ} (d : Directed rows cols dir) (side :
   given-is : (z x : ℕ) → z < n → recv x ≡ z → brings z x + 1 ≡ given x (gathered x)
   unfolding givenBy
   given-is z x h e =
-      sym (ap (λ (m : ℕ). broughtTo rows cols side rules lv dir (recv x) x m + 1) (settled-is x (pointing d .from x (omega arith))) ∙ ap (λ (y : ℕ). broughtTo rows cols side rules lv dir y x (len x) + 1) e)
+      sym (ap (λ (m : ℕ). broughtTo rows cols side rules lv dir (recv x) x m + 1) (final-is x (pointing d .from x (omega arith))) ∙ ap (λ (y : ℕ). broughtTo rows cols side rules lv dir y x (len x) + 1) e)
 
   local : (z : ℕ) → z < n → gathered z ≡ greatestTo n (λ x. when (eqb (recv x) z) (given x (gathered x)))
   unfolding gatheredAt

@@ -12,7 +12,7 @@ use lib.Dec.{leb, eqb}
 use lib.ListN.{getD, length}
 use Rattle.laws.proofs.Tests.{and-both}
 use Rattle.laws.specs.Greatest.{greatest}
-use Rattle.factor.specs.LengthFactor.{longest, reached, lengthFactor}
+use Rattle.factor.specs.LengthFactor.{greatestMm, reached, lengthFactor}
 use Rattle.factor.specs.Inner.{Listed}
 use Rattle.laws.proofs.Greatest.{Falling, greatest-is, greatest-passes, greatest-above}
 use Rattle.factor.proofs.Guesses.{greatest-here}
@@ -45,15 +45,15 @@ missed-on k {m} {n} {t} {u} h l f = go (reached k m u) refl
 
 -- the entry x of t is 0, or the millimetre before does not reach t; it reaches t, if it is a length that has a factor, and else none does
 abbrev pub isFirst : ℕ → ℕ → ℕ → Bool
-isFirst k t x = cond (leb x longest) (reached k x t && (leb x 0 || not (reached k (x - 1) t))) (not (reached k longest t))
+isFirst k t x = cond (leb x greatestMm) (reached k x t && (leb x 0 || not (reached k (x - 1) t))) (not (reached k greatestMm t))
 
 -- so is each entry of the four rows
 abbrev pub passes : List ℕ → Bool
 passes xs = eqb (length xs) 1492 && every (λ i x. isFirst (i / 373 + 2) (i % 373) x) 0 xs
 
 -- such an entry tells whether a length reaches t
-first-tells : (k t x mm : ℕ) → isFirst k t x ≡ true → mm ≤ longest → leb x mm ≡ reached k mm t
-first-tells k t x mm f h = go (leb x longest) refl f
+first-tells : (k t x mm : ℕ) → isFirst k t x ≡ true → mm ≤ greatestMm → leb x mm ≡ reached k mm t
+first-tells k t x mm f h = go (leb x greatestMm) refl f
   where
     here : (b : Bool) → leb x mm ≡ b → reached k x t ≡ true → (leb x 0 || not (reached k (x - 1) t)) ≡ true → leb x mm ≡ reached k mm t
     here true e r n = e ∙ sym (reached-on k (leb-true x mm e) (le-refl t) r)
@@ -63,11 +63,11 @@ first-tells k t x mm f h = go (leb x longest) refl f
         before true z n = absurd (omega (arith, leb-true x 0 z, leb-false x mm e))
         before false z n = missed-on k (omega (arith, leb-false x mm e)) (le-refl t) (not-true (reached k (x - 1) t) n)
 
-    go : (b : Bool) → leb x longest ≡ b → cond b (reached k x t && (leb x 0 || not (reached k (x - 1) t))) (not (reached k longest t)) ≡ true → leb x mm ≡ reached k mm t
+    go : (b : Bool) → leb x greatestMm ≡ b → cond b (reached k x t && (leb x 0 || not (reached k (x - 1) t))) (not (reached k greatestMm t)) ≡ true → leb x mm ≡ reached k mm t
     go true e f =
         let both = and-both (reached k x t) (leb x 0 || not (reached k (x - 1) t)) f in
         here (leb x mm) refl (both .0) (both .1)
-    go false e f = lt-leb x mm (omega (arith, leb-false x longest e)) ∙ sym (missed-on k h (le-refl t) (not-true (reached k longest t) f))
+    go false e f = lt-leb x mm (omega (arith, leb-false x greatestMm e)) ∙ sym (missed-on k h (le-refl t) (not-true (reached k greatestMm t) f))
 
 pub listed : {xs : List ℕ} → passes xs ≡ true → Listed xs
 listed {xs} p = record { tells = λ class t mm c l h. first-tells (class + 2) t (getD xs (373 * class + t) 0) mm (at class t c l) h }
@@ -97,7 +97,7 @@ factor-here k mm t l r m = greatest-here 1000 t (reached-falling k mm 1000) l r 
 
 -- ---- the factor is the greatest of all, not only of those up to 1,000
 
-pub length-factor-greatest : (k mm : ℕ) → k ≤ 5 → mm ≤ longest →
+pub length-factor-greatest : (k mm : ℕ) → k ≤ 5 → mm ≤ greatestMm →
     (reached k mm (lengthFactor k mm) ≡ true) × ((u : ℕ) → lengthFactor k mm < u → reached k mm u ≡ false)
 unfolding lengthFactor
 length-factor-greatest k mm h l =
@@ -107,7 +107,7 @@ length-factor-greatest k mm h l =
     low zero p = le-leb (asked k 0) (given k mm) (omega arith)
     low (suc t) p = p (omega arith)
 
-    over : (k : ℕ) → k ≤ 5 → reached k longest 1001 ≡ false
+    over : (k : ℕ) → k ≤ 5 → reached k greatestMm 1001 ≡ false
     over zero h = refl
     over (suc zero) h = refl
     over (suc (suc zero)) h = refl
@@ -122,14 +122,14 @@ length-factor-greatest k mm h l =
 
 -- ---- the search in a row, which ends at 371
 
-last : (class : ℕ) → class < 4 → reached (class + 2) longest 372 ≡ false
+last : (class : ℕ) → class < 4 → reached (class + 2) greatestMm 372 ≡ false
 last zero h = refl
 last (suc zero) h = refl
 last (suc (suc zero)) h = refl
 last (suc (suc (suc zero))) h = refl
 last (suc (suc (suc (suc class)))) h = absurd (omega arith)
 
-pub factor-in-row : (class mm : ℕ) → class < 4 → mm ≤ longest → greatest (reached (class + 2) mm) 371 ≡ lengthFactor (class + 2) mm
+pub factor-in-row : (class mm : ℕ) → class < 4 → mm ≤ greatestMm → greatest (reached (class + 2) mm) 371 ≡ lengthFactor (class + 2) mm
 factor-in-row class mm h l =
     let all = length-factor-greatest (class + 2) mm (omega arith) l in
     greatest-is (reached (class + 2) mm) 371 (lengthFactor (class + 2) mm) (within (decLe (lengthFactor (class + 2) mm) 371) (all .0)) (λ p. all .0) (λ u a b. all .1 u a)

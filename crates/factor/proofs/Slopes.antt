@@ -7,20 +7,21 @@ use native.Mathlib.Omega.{arith}
 use lib.Dec.{eqb}
 use borrow.Author.Tests.{lt-ltb}
 use Rattle.terrain.specs.Cells.{cardinal}
+use Rattle.terrain.specs.Filled.{top}
 use Rattle.terrain.specs.Direction.{steepOf}
 use Rattle.terrain.specs.Falls.{fallOf}
 use Rattle.factor.specs.Inner.{greatestFall, steepest, steepnessOf}
 
 -- ---- how large falls and steepnesses are
 
-pub square-small : (d : ℕ) → d ≤ 1900000 → d * d ≤ 3610000000000
+pub square-small : (d : ℕ) → d ≤ top → d * d ≤ top * top
 square-small d h = omega (arith, mul-le-mul h h)
 
 pub steepness-small : {fall : ℕ} → fall ≤ greatestFall → steepnessOf fall ≤ steepest
 unfolding steepnessOf
 steepness-small {fall} h = go (eqb (fall % 2) 0)
   where
-    small : (fall / 2) * (fall / 2) ≤ 3610000000000
+    small : (fall / 2) * (fall / 2) ≤ top * top
     small = square-small (fall / 2) (omega arith)
 
     go : (b : Bool) → cond b (2 * ((fall / 2) * (fall / 2))) ((fall / 2) * (fall / 2)) ≤ steepest
@@ -35,7 +36,7 @@ fall-some : (k d : ℕ) → 0 < d → fallOf k d ≡ 2 * d + k % 2
 unfolding fallOf
 fall-some k d h = ap (λ (b : Bool). cond b (2 * d + k % 2) 0) (lt-ltb 0 d h)
 
-pub fall-small : (k d : ℕ) → d ≤ 1900000 → fallOf k d ≤ greatestFall
+pub fall-small : (k d : ℕ) → d ≤ top → fallOf k d ≤ greatestFall
 fall-small k zero h = omega (arith, fall-none k)
 fall-small k (suc d) h = omega (arith, fall-some k (suc d) (omega arith))
 

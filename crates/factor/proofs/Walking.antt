@@ -21,6 +21,7 @@ use Rattle.laws.proofs.Handing.{hand-start, hand-next, turn-off, turn-on, turn-
 use Rattle.settings.specs.declared.Rules.{Rules}
 use Rattle.terrain.specs.Cells.{sideOf}
 use Rattle.terrain.specs.Trail.{mappedAt, flowsAt, nextAt, receiverOf}
+use Rattle.terrain.specs.Filled.{top}
 use Rattle.terrain.specs.InnerCells.{besideOf}
 use Rattle.terrain.specs.Falls.{noFall, fallOf, dropAt, fallAt, fallsOf}
 use Rattle.terrain.specs.InnerTrail.{Directed}
@@ -31,17 +32,17 @@ use Rattle.factor.specs.Channel.{channelAt}
 use Rattle.factor.specs.Length.{cutoffAt, broughtTo, lengthsOf}
 use Rattle.factor.specs.Cell.{factorOf}
 use Rattle.factor.specs.Grid.{factorAt, factorsOf}
-use Rattle.factor.specs.Inner.{greatestFall, steepnessOf, settledOf, leftBy, broughtBy}
-use Rattle.factor.specs.Pass.{Ruled, sideAt, Turning, lengthNow, amountNow, lengthsNext, Turned, Measuring}
+use Rattle.factor.specs.Inner.{greatestFall, steepnessOf, finalLength, leftBy, broughtBy}
+use Rattle.factor.specs.InnerPass.{Ruled, compassAt, Turning, lengthNow, amountNow, lengthsNext, Turned, Measuring}
 use Rattle.factor.specs.declared.pass.Terms.{Terms}
 use Rattle.factor.proofs.Slopes.{fall-steepness, fall-small}
 use Rattle.factor.proofs.Lengths.{lengths-long, lengths-at}
-use Rattle.factor.proofs.Gathering.{lengthAt, gatheredAt, settledAt, givenBy, settled-is, length-none, gathered-none, gathered-small, lengths-handed}
+use Rattle.factor.proofs.Gathering.{lengthAt, gatheredAt, finalAt, givenBy, final-is, length-none, gathered-none, gathered-small, lengths-handed}
 
 module _ (rows cols side : ℕ) (rules : Rules) (lv dir count : List ℕ) where
   -- the cells at the first p places have their length and LS, and have handed on
   pub record Walking (order lengths factors : List ℕ) (p : ℕ) : Type 0 where
-    pub handing : Handing max greatestTo (rows * cols) (receiverOf rows cols dir) (givenBy rows cols side rules lv dir count) (λ z. 0) (gatheredAt rows cols side rules lv dir count) (settledAt rows cols side rules lv dir count) order lengths p
+    pub handing : Handing max greatestTo (rows * cols) (receiverOf rows cols dir) (givenBy rows cols side rules lv dir count) (λ z. 0) (gatheredAt rows cols side rules lv dir count) (finalAt rows cols side rules lv dir count) order lengths p
     pub factors-long : length factors ≡ rows * cols
     pub falls : (z : ℕ) → z < rows * cols → standsIn order p z ≡ 0 → getD factors z 0 ≡ fallAt rows cols lv dir z
     pub done : (z : ℕ) → 0 < standsIn order p z → getD factors z 0 ≡ factorOf side (steepnessAt rows cols lv dir z) (lengthAt rows cols side rules lv dir count z)
@@ -49,7 +50,7 @@ module _ (rows cols side : ℕ) (rules : Rules) (lv dir count : List ℕ) where
 -- what the pass assumes of a map: its levels lv, rules, directions, counts, and an order of its cells
 pub record Charted (rows : ℕ) (lv : List ℕ) (rules : Rules) (terms : Terms) (dir count order : List ℕ) (places : ℕ) : Type 0 where
   pub directed : Directed rows (terms .columns) dir
-  pub capped : (x : ℕ) → getD lv x 0 ≤ 1900000
+  pub capped : (x : ℕ) → getD lv x 0 ≤ top
   pub ruled : Ruled rules terms
   pub side-some : 1 ≤ terms .side
   pub side-small : terms .side ≤ 100000
@@ -59,12 +60,12 @@ pub record Charted (rows : ℕ) (lv : List ℕ) (rules : Rules) (terms : Terms) 
 
 -- ---- the map as the code reads it
 
-module _ (rows cols : ℕ) (lv dir : List ℕ) (capped : (x : ℕ) → getD lv x 0 ≤ 1900000) where
-  drop-le : (x : ℕ) → dropAt rows cols lv dir x ≤ 1900000
+module _ (rows cols : ℕ) (lv dir : List ℕ) (capped : (x : ℕ) → getD lv x 0 ≤ top) where
+  drop-le : (x : ℕ) → dropAt rows cols lv dir x ≤ top
   unfolding dropAt
   drop-le x = go (flowsAt rows cols dir x)
     where
-      go : (b : Bool) → cond b (getD lv x 0 - getD lv (nextAt rows cols dir x) 0) 0 ≤ 1900000
+      go : (b : Bool) → cond b (getD lv x 0 - getD lv (nextAt rows cols dir x) 0) 0 ≤ top
       go true = omega (arith, capped x)
       go false = omega arith
 
@@ -108,7 +109,7 @@ module _ {rows : ℕ} {lv dir count order : List ℕ} {places : ℕ} {rules : Ru
   handed = lengths-handed (c .directed) (terms .side) rules lv count
 
   abbrev Turns : List ℕ → List ℕ → ℕ → Type 0
-  Turns = Turn max size to (givenBy rows cols (terms .side) rules lv dir count) whole (settledAt rows cols (terms .side) rules lv dir count)
+  Turns = Turn max size to (givenBy rows cols (terms .side) rules lv dir count) whole (finalAt rows cols (terms .side) rules lv dir count)
 
   module _ {lengths factors : List ℕ} {p x : ℕ} (w : Walks lengths factors p) (h : p < places) (e : x ≡ getD order p 0) where
     here-valid : mappedAt rows cols dir x ≡ true
@@ -131,17 +132,17 @@ module _ {rows : ℕ} {lv dir count order : List ℕ} {places : ℕ} {rules : Ru
     code-some q = mapped-is rows cols dir x here-valid (code-read (c .directed) x here-in ∙ q)
 
     -- its length
-    here-length : lengthNow terms dir count lengths factors x ≡ settledAt rows cols (terms .side) rules lv dir count x (whole x)
-    unfolding settledAt
-    here-length = ap₂ settledOf (c .channel x here-in) here-whole
+    here-length : lengthNow terms dir count lengths factors x ≡ finalAt rows cols (terms .side) rules lv dir count x (whole x)
+    unfolding finalAt
+    here-length = ap₂ finalLength (c .channel x here-in) here-whole
 
     here-final : lengthNow terms dir count lengths factors x ≡ final x
-    here-final = here-length ∙ settled-is (c .directed) (terms .side) rules lv count x here-valid
+    here-final = here-length ∙ final-is (c .directed) (terms .side) rules lv count x here-valid
 
-    module _ (k : sideAt dir x < 8) where
+    module _ (k : compassAt dir x < 8) where
       -- the cell that it points at
-      next-is : besideOf cols x (sideAt dir x) ≡ to x
-      next-is = beside-is rows cols x (sideAt dir x) (receiver-near (c .directed) x here-in code-some k) ∙ receiver-beside (c .directed) x here-in code-some k
+      next-is : besideOf cols x (compassAt dir x) ≡ to x
+      next-is = beside-is rows cols x (compassAt dir x) (receiver-near (c .directed) x here-in code-some k) ∙ receiver-beside (c .directed) x here-in code-some k
 
       next-in : to x < size
       next-in = omega (arith, receiver-near (c .directed) x here-in code-some k, receiver-beside (c .directed) x here-in code-some k)
@@ -169,7 +170,7 @@ module _ {rows : ℕ} {lv dir count order : List ℕ} {places : ℕ} {rules : Ru
           factors-few = omega (arith, w .factors-long, c .directed .sized .small);
           fall-small = here-fall .0;
           gathered-small = omega (arith, here-whole, gathered-small (c .directed) (terms .side) rules lv count x);
-          beside-room = (λ k. beside-room rows cols x (sideAt dir x) (c .directed .sized) (omega (arith, here-in, c .directed .sized .small)) k (receiver-near (c .directed) x here-in code-some k));
+          beside-room = (λ k. beside-room rows cols x (compassAt dir x) (c .directed .sized) (omega (arith, here-in, c .directed .sized .small)) k (receiver-near (c .directed) x here-in code-some k));
           next-other = (λ k q. pointing (c .directed) .apart x (next-in k) (sym (next-is k) ∙ q));
           next-lengths = (λ k. omega (arith, next-is k, next-in k, w .handing .long));
           next-factors = (λ k. omega (arith, next-is k, next-in k, w .factors-long));
@@ -180,20 +181,20 @@ module _ {rows : ℕ} {lv dir count order : List ℕ} {places : ℕ} {rules : Ru
       abbrev now : ℕ
       now = lengthNow terms dir count lengths factors x
 
-      stored : getD (set lengths x now) x 0 ≡ settledAt rows cols (terms .side) rules lv dir count x (whole x)
+      stored : getD (set lengths x now) x 0 ≡ finalAt rows cols (terms .side) rules lv dir count x (whole x)
       stored = getD-set-same lengths x now 0 (omega (arith, here-in, w .handing .long)) ∙ here-length
 
       turn-of : Turns lengths lengths′ x
       turn-of =
           turn-stored handed now
-          (elim (decLt (sideAt dir x) 8) [
+          (elim (decLt (compassAt dir x) 8) [
             | yes k ↦ subst (λ (l : List ℕ). Turns (set lengths x now) l x) (sym (on k))
                 (turn-on handed (length-set lengths x now ∙ w .handing .long) (next-in k) stored (ap₂ max (sym (getD-set-other lengths x (to x) now 0 (pointing (c .directed) .apart x (next-in k)))) (here-given k)))
             | no f ↦ subst (λ (l : List ℕ). Turns (set lengths x now) l x) (sym (t .leaves (omega arith)))
                 (turn-off handed (omega (arith, receiver-leaves (c .directed) x here-in (omega arith))) stored)
           ])
         where
-          on : (k : sideAt dir x < 8) → lengths′ ≡ lengthsNext terms dir count lengths factors x rules (to x)
+          on : (k : compassAt dir x < 8) → lengths′ ≡ lengthsNext terms dir count lengths factors x rules (to x)
           on k = t .hands-on rules (c .ruled) k ∙ ap (lengthsNext terms dir count lengths factors x rules) (next-is k)
 
       stands : (z : ℕ) → standsIn order (p + 1) z ≡ standsIn order p z + when (eqb x z) 1
@@ -264,7 +265,7 @@ module _ {rows cols side : ℕ} {lv dir count order lengths factors : List ℕ} 
 
     length-there : (z : ℕ) → z < cells → getD lengths′ z 0 ≡ length-of z
     length-there z h =
-        ⊎-elim (λ v. hand-all (lengths-handed (m .directed) side rules lv count) (m .order-is .cells) (w .handing) z v ∙ settled-is (m .directed) side rules lv count z v)
+        ⊎-elim (λ v. hand-all (lengths-handed (m .directed) side rules lv count) (m .order-is .cells) (w .handing) z v ∙ final-is (m .directed) side rules lv count z v)
         (λ v. hand-rest (lengths-handed (m .directed) side rules lv count) (m .order-is .cells) (w .handing) z h v ∙ gathered-none (m .directed) side rules lv count z h v ∙ sym (length-none (m .directed) side rules lv count z v)) (two (valid-at z))
 
     factor-there : (z : ℕ) → z < cells → getD factors′ z 0 ≡ factorAt rows cols side lv dir lengths′ z

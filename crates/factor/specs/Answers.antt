@@ -4,6 +4,8 @@ use mathlib.Core.Bool.{Bool, true, false}
 use Prim.Native.Nat.{ℕ, _*_}
 use lib.ListN.{length, replicate}
 use lib.IntN.{ℤ}
+use denote.Ref.{RefT, now}
+use denote.Triple.Both.{Both}
 use Rattle.laws.specs.Tests.{Test, passed, failed, verdict}
 use Rattle.text.specs.Ranges.{sizeTest, lengthTest, sideTest, heightTest}
 use Rattle.settings.specs.declared.Settings.{Settings}
@@ -29,6 +31,20 @@ pub record Grids : Type 0 where
 -- the lent slices together
 abbrev pub lent : List ℤ → List ℕ → List ℕ → List ℕ → List ℕ → List ℕ → Grids
 lent filled direction count lengths factors workspace = record { filled = filled; direction = direction; count = count; lengths = lengths; factors = factors; workspace = workspace }
+
+-- a lent slice as a contract names it: at the call, and at the return
+abbrev pub Slice : Type 0 → Type 0
+Slice A = Both (RefT (List A)) (RefT (List A))
+
+-- the lent slices together: as they stand, as they are at the call, and as they are at the return
+abbrev pub lentAt : RefT (List ℤ) → RefT (List ℕ) → RefT (List ℕ) → RefT (List ℕ) → RefT (List ℕ) → RefT (List ℕ) → Grids
+lentAt filled direction count lengths factors workspace = lent (now filled) (now direction) (now count) (now lengths) (now factors) (now workspace)
+
+abbrev pub lentBefore : Slice ℤ → Slice ℕ → Slice ℕ → Slice ℕ → Slice ℕ → Slice ℕ → Grids
+lentBefore filled direction count lengths factors workspace = lentAt (filled .entry) (direction .entry) (count .entry) (lengths .entry) (factors .entry) (workspace .entry)
+
+abbrev pub lentAfter : Slice ℤ → Slice ℕ → Slice ℕ → Slice ℕ → Slice ℕ → Slice ℕ → Grids
+lentAfter filled direction count lengths factors workspace = lentAt (filled .exit) (direction .exit) (count .exit) (lengths .exit) (factors .exit) (workspace .exit)
 
 -- how many places the ground and each lent grid have
 abbrev pub placesOf : List ℤ → Grids → List ℕ
@@ -74,7 +90,7 @@ unfoldable pub after : ℕ → ℕ → ℕ → Settings → List ℤ → Grids �
 unfolding judged gridsOf
 after rows cols side settings ground g = gridsOf rows cols side settings ground g (judged rows cols side settings ground g)
 
--- ---- an answer as the paper's numbers
+-- ---- an answer as the paper's numbers, for the promises of the crates above
 
 -- number and place, the number of valid cells and the steps of the longest trail
 pub record Numbers : Type 0 where

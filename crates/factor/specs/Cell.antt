@@ -3,7 +3,7 @@ use Prim.Native.Nat.{ℕ, _*_}
 use mathlib.Core.Bool.{cond}
 use lib.Dec.{ltb}
 use Rattle.factor.specs.Exponent.{exponentOf}
-use Rattle.factor.specs.LengthFactor.{millimetres, longest, lengthFactor}
+use Rattle.factor.specs.LengthFactor.{millimetres, greatestMm, lengthFactor}
 use Rattle.factor.specs.Steepness.{steepnessFactor}
 
 -- "LS: 4,294,967,294 too long"
@@ -15,4 +15,4 @@ unfoldable pub factorOf : ℕ → ℕ → ℕ → ℕ
 unfolding exponentOf lengthFactor steepnessFactor
 factorOf c q length =
     let mm = millimetres c length in
-    cond (ltb longest mm) tooLong (lengthFactor (exponentOf c q) mm * steepnessFactor c q)
+    cond (ltb greatestMm mm) tooLong (lengthFactor (exponentOf c q) mm * steepnessFactor c q)

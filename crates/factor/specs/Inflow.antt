@@ -16,7 +16,7 @@ isCut n q p = (ltb n 100 && ltb q p) && leb (10000 * q) ((100 - n) * (100 - n) *
 abbrev pub startLength : ℕ
 startLength = 5000
 
--- the step over the side k: "10,000, or 14,142 if diagonal"
+-- the step to the neighbour k: "10,000, or 14,142 if diagonal"
 unfoldable pub stepOver : ℕ → ℕ
 stepOver k = cond (cardinal k) 10000 14142
 

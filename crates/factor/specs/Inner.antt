@@ -1,4 +1,4 @@
--- What the functions inside the crate assume, and what they answer: no promise of a public call cites this file. Assumes nothing.
+-- Only inner functions cite this file: what they assume, and what they answer. Assumes nothing.
 use Prim.Native.Nat.{ℕ, _+_, _-_, _*_, _/_, _%_, _^_, _≤_, _<_}
 use mathlib.Core.Bool.{Bool, true, cond}
 use mathlib.Core.List.{List, [], _∷_}
@@ -12,7 +12,8 @@ use Rattle.settings.specs.declared.Settings.{Settings}
 use Rattle.settings.specs.declared.Rules.{Rules}
 use Rattle.settings.specs.Settings.{rulesOf, settingsTest}
 use Rattle.factor.specs.Inflow.{cutoffFor, startLength, stepOver, amountOf}
-use Rattle.factor.specs.LengthFactor.{longest, reached}
+use Rattle.factor.specs.LengthFactor.{greatestMm, reached}
+use Rattle.terrain.specs.Filled.{top}
 use Rattle.terrain.specs.Drainage.{Trails, Totals, Surface}
 use Rattle.terrain.specs.Answers.{validOf}
 use Rattle.factor.specs.Answers.{Grids, placesOf, answer, after, accepts}
@@ -29,12 +30,12 @@ pub record Sloping (side q : ℕ) : Type 0 where
 -- "a constant list gives the first millimetre at which each t is reached": in the row of each class of slopes, the entry of t is at
 -- most a length just where the length reaches t
 pub record Listed (lists : List ℕ) : Type 0 where
-  pub tells : (class t mm : ℕ) → class < 4 → t < 373 → mm ≤ longest → leb (getD lists (373 * class + t) 0) mm ≡ reached (class + 2) mm t
+  pub tells : (class t mm : ℕ) → class < 4 → t < 373 → mm ≤ greatestMm → leb (getD lists (373 * class + t) 0) mm ≡ reached (class + 2) mm t
 
 -- a class and a length that have a factor
 pub record Looked (class mm : ℕ) (lists : List ℕ) : Type 0 where
   pub class-in : class < 4
-  pub length-in : mm ≤ longest
+  pub length-in : mm ≤ greatestMm
   pub listed : Listed lists
 
 -- a cell, whose length is as small as those of a map: at most 14,142 for each of 1,048,576 cells, and 5,000
@@ -43,12 +44,12 @@ pub record Measured (side q len : ℕ) (lists : List ℕ) : Type 0 where
   pub length-small : len < 2 ^ 36
   pub listed : Listed lists
 
--- no less than any fall, any steepness and any length: heights go from -999,900 to 900,000, and a step is at most a diagonal
+-- no less than any fall, any steepness and any length: no level is above `top`, and a step is at most a diagonal
 abbrev pub greatestFall : ℕ
-greatestFall = 3800001
+greatestFall = 2 * top + 1
 
 abbrev pub steepest : ℕ
-steepest = 7220000000000
+steepest = 2 * (top * top)
 
 abbrev pub greatestLength : ℕ
 greatestLength = 15000000000
@@ -58,14 +59,14 @@ unfoldable pub steepnessOf : ℕ → ℕ
 steepnessOf fall = cond (eqb (fall % 2) 0) (2 * ((fall / 2) * (fall / 2))) ((fall / 2) * (fall / 2))
 
 -- the length of a cell that is a channel or not, from one more than the greatest amount brought, 0 for none
-unfoldable pub settledOf : Bool → ℕ → ℕ
-settledOf channel gathered = cond channel 0 (cond (ltb gathered 1) startLength (gathered - 1))
+unfoldable pub finalLength : Bool → ℕ → ℕ
+finalLength channel gathered = cond channel 0 (cond (ltb gathered 1) startLength (gathered - 1))
 
 -- what a cutoff of n percent leaves of 100, squared
 unfoldable pub leftBy : ℕ → ℕ
 leftBy n = (100 - n) * (100 - n)
 
--- what an inflow of steepness p and this length brings over the side k to a cell of steepness q
+-- what an inflow of steepness p and this length brings to its neighbour k, a cell of steepness q
 unfoldable pub broughtBy : ℕ → Rules → ℕ → ℕ → ℕ → ℕ → ℕ
 unfolding cutoffFor amountOf stepOver
 broughtBy side rules k p q len = amountOf (cutoffFor (rules .low) (rules .high) side q) q p (stepOver k) len

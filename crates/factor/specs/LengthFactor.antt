@@ -8,9 +8,9 @@ use Rattle.laws.specs.Greatest.{greatest}
 abbrev pub millimetres : ℕ → ℕ → ℕ
 millimetres c length = length * c / 1000
 
--- "Above 304,800 (1,000 ft, a house limit): too long."
-abbrev pub longest : ℕ
-longest = 304800
+-- the greatest length in mm that has a factor: "Above 304,800 (1,000 ft, a house limit): too long."
+abbrev pub greatestMm : ℕ
+greatestMm = 304800
 
 -- "t^10·2,212,848^k ≤ (100·mm)^k·100^10 (72.6 ft is 22,128.48 mm)"
 abbrev pub reached : ℕ → ℕ → ℕ → Bool

@@ -1,3 +1,4 @@
+-- What `factor::map` promises is stated in the files from Slope to Answers; only inner functions cite Inner and InnerPass.
 pub mod Slope
 pub mod Channel
 pub mod Inflow
@@ -9,4 +10,4 @@ pub mod Cell
 pub mod Grid
 pub mod Answers
 pub mod Inner
-pub mod Pass
+pub mod InnerPass

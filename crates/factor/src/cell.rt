@@ -10,7 +10,7 @@ use crate::guess::sine_of;
 use crate::thresholds::Lists;
 
 // The greatest length in mm that has a factor.
-const LONGEST: u64 = 304800;
+const GREATEST_MM: u64 = 304800;
 
 // What a longer one has in its place.
 const TOO_LONG: u32 = 4294967294;
@@ -37,7 +37,7 @@ pub(crate) fn factor_of(
     ensures { λ r. ⌜ r ≡ factorOf side q length ⌝ }
 {
     let mm = length * (side as u64) / 1000;
-    if LONGEST < mm {
+    if GREATEST_MM < mm {
         return TOO_LONG;
     }
     let t = length_factor(class_of(side, q), mm as u32, lists, guesses) as u64;

@@ -3,7 +3,7 @@
 ghost use mathlib.Core.Path.{_≡_};
 ghost use mathlib.Core.Bool.{true};
 ghost use Prim.Native.Nat.{_+_, _≤_, _<_};
-ghost use Rattle.factor.specs.LengthFactor.{longest, lengthFactor};
+ghost use Rattle.factor.specs.LengthFactor.{greatestMm, lengthFactor};
 ghost use Rattle.factor.specs.Steepness.{sineOf};
 ghost use Rattle.factor.specs.Inner.{Looked, Sloping};
 use crate::length_factor::length_factor_by_halves;
@@ -24,7 +24,7 @@ fn wide(guess: u16) -> usize {
 
 // The slot of a length: slots are 32 mm wide below 8,192 mm, and 256 mm above, so that few have two thresholds.
 fn length_slot(class: usize, mm: u32) -> usize
-    requires { ⌜ (class < 4) × (mm ≤ longest) ⌝ }
+    requires { ⌜ (class < 4) × (mm ≤ greatestMm) ⌝ }
     ensures { λ r. ⌜ r < 5660 ⌝ }
 {
     if mm < 8192 {

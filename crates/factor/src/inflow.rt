@@ -7,7 +7,7 @@ ghost use Rattle.factor.specs.Inner.{steepest, greatestLength, leftBy};
 // Where a length starts, in ten-thousandths of a cell side.
 pub(crate) const START: u64 = 5000;
 
-// The length of the step over side k.
+// The length of the step to the neighbour k.
 pub(crate) fn step_over(k: usize) -> u64
     ensures { λ r. ⌜ r ≡ stepOver k ⌝ }
 {

@@ -2,7 +2,7 @@
 ghost use mathlib.Core.Path.{_≡_};
 ghost use Rattle.laws.specs.Tests.{failed};
 ghost use Rattle.text.specs.Ranges.{allLong};
-ghost use Rattle.factor.specs.Answers.{lent, placesOf};
+ghost use Rattle.factor.specs.Answers.{lentBefore, placesOf};
 ghost use Rattle.factor.specs.Inner.{found, Judges};
 use settings::Judged;
 use settings::Rules;
@@ -35,7 +35,7 @@ fn are_long(
     factors: &[u32],
     workspace: &[u32],
 ) -> bool
-    ensures { λ r. ⌜ r ≡ allLong cells (placesOf (now (ground .entry)) (lent (now (filled .entry)) (now (direction .entry)) (now (count .entry)) (now (lengths .entry)) (now (factors .entry)) (now (workspace .entry)))) ⌝ }
+    ensures { λ r. ⌜ r ≡ allLong cells (placesOf (now (ground .entry)) (lentBefore filled direction count lengths factors workspace)) ⌝ }
 {
     (ground.len() == cells)
         & (filled.len() == cells)
@@ -60,7 +60,7 @@ pub(crate) fn judge(
     factors: &[u32],
     workspace: &[u32],
 ) -> Judgement
-    ensures { λ r. ⌜ Judges rows columns side settings (now (ground .entry)) (lent (now (filled .entry)) (now (direction .entry)) (now (count .entry)) (now (lengths .entry)) (now (factors .entry)) (now (workspace .entry))) r ⌝ }
+    ensures { λ r. ⌜ Judges rows columns side settings (now (ground .entry)) (lentBefore filled direction count lengths factors workspace) r ⌝ }
 {
     if !text::is_size(rows) {
         return unsound(1, 0);

@@ -25,7 +25,7 @@ ghost use lib.ListN.{length, replicate};
 ghost use Rattle.terrain.specs.Drainage.{Trails, Totals, Surface};
 ghost use Rattle.terrain.specs.Answers.{validOf};
 ghost use Rattle.settings.specs.declared.Settings.{Settings};
-ghost use Rattle.factor.specs.Answers.{lent, answer, after, accepts};
+ghost use Rattle.factor.specs.Answers.{lentAt, lentBefore, lentAfter, answer, after, accepts};
 ghost use Rattle.factor.specs.Inner.{Passing, Promised};
 use judge::Judgement;
 use settings::Rules;
@@ -62,8 +62,11 @@ fn map_sound(
     factors: &mut [u32],
     workspace: &mut [u32],
 ) -> Answer
-    requires { ⌜ ((settings : Settings) × Passing rows columns side settings rules (now ground) (lent (now filled) (now direction) (now count) (now lengths) (now factors) (now workspace))) ⌝ }
-    ensures { λ r. ⌜ ((settings : Settings) → Passing rows columns side settings rules (now (ground .entry)) (lent (now (filled .entry)) (now (direction .entry)) (now (count .entry)) (now (lengths .entry)) (now (factors .entry)) (now (workspace .entry))) → Promised rows columns side settings (now (ground .entry)) (lent (now (filled .entry)) (now (direction .entry)) (now (count .entry)) (now (lengths .entry)) (now (factors .entry)) (now (workspace .entry))) r (lent (now (filled .exit)) (now (direction .exit)) (now (count .exit)) (now (lengths .exit)) (now (factors .exit)) (now (workspace .exit)))) ⌝ }
+    requires { ⌜ ((settings : Settings) × Passing rows columns side settings rules (now ground) (lentAt filled direction count lengths factors workspace)) ⌝ }
+    ensures { λ r. ⌜ ((settings : Settings) →
+        Passing rows columns side settings rules (now (ground .entry)) (lentBefore filled direction count lengths factors workspace) →
+        Promised rows columns side settings (now (ground .entry)) (lentBefore filled direction count lengths factors workspace)
+        r (lentAfter filled direction count lengths factors workspace)) ⌝ }
 {
     let drained = terrain::map(
         rows,
@@ -113,10 +116,13 @@ pub fn map(
     factors: &mut [u32],
     workspace: &mut [u32],
 ) -> Answer
-    ensures answers { λ r. ⌜ r ≡ answer rows columns side settings (now (ground .entry)) (lent (now (filled .entry)) (now (direction .entry)) (now (count .entry)) (now (lengths .entry)) (now (factors .entry)) (now (workspace .entry))) ⌝ }
-    ensures leaves { λ _. ⌜ lent (now (filled .exit)) (now (direction .exit)) (now (count .exit)) (now (lengths .exit)) (now (factors .exit)) (now (workspace .exit)) ≡ after rows columns side settings (now (ground .entry)) (lent (now (filled .entry)) (now (direction .entry)) (now (count .entry)) (now (lengths .entry)) (now (factors .entry)) (now (workspace .entry))) ⌝ }
+    ensures answers { λ r. ⌜ r ≡ answer rows columns side settings (now (ground .entry)) (lentBefore filled direction count lengths factors workspace) ⌝ }
+    ensures leaves { λ _. ⌜
+        lentAfter filled direction count lengths factors workspace
+        ≡ after rows columns side settings (now (ground .entry)) (lentBefore filled direction count lengths factors workspace) ⌝ }
     ensures trails { λ r. ⌜ (accepts r ≡ true → Trails rows columns (now (ground .entry)) (now (filled .exit)) (now (direction .exit))) ⌝ }
-    ensures totals { λ r. ⌜ (accepts r ≡ true → Totals rows columns (now (direction .exit)) (now (count .exit)) (validOf rows columns (now (ground .entry)))) ⌝ }
+    ensures totals { λ r. ⌜ (accepts r ≡ true →
+        Totals rows columns (now (direction .exit)) (now (count .exit)) (validOf rows columns (now (ground .entry)))) ⌝ }
     ensures surface { λ r. ⌜ (accepts r ≡ true → Surface rows columns (now (ground .entry)) (now (filled .exit))) ⌝ }
 {
     let judgement = judge::judge(

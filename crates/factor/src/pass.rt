@@ -7,15 +7,15 @@ ghost use mathlib.Core.Path.{_≡_};
 ghost use mathlib.Core.List.{List};
 ghost use lib.ListN.{length, replicate};
 ghost use lib.Dec.{ltb};
-ghost use Prim.Native.Nat.{ℕ, _*_, _≤_, _<_, max};
+ghost use Prim.Native.Nat.{ℕ, _≤_, max};
 ghost use Rattle.terrain.specs.InnerCells.{Beside, besideOf};
 ghost use Rattle.terrain.specs.Cells.{Shifts};
 ghost use Rattle.settings.specs.declared.Rules.{Rules};
 ghost use Rattle.factor.specs.Inflow.{cutoffFor};
 ghost use Rattle.factor.specs.Length.{lengthsOf};
 ghost use Rattle.factor.specs.Grid.{factorsOf};
-ghost use Rattle.factor.specs.Inner.{steepest, greatestLength, settledOf, leftBy, broughtBy, Listed};
-ghost use Rattle.factor.specs.Pass.{Ruled, Turning, Turned, Measuring};
+ghost use Rattle.factor.specs.Inner.{steepest, greatestLength, finalLength, leftBy, broughtBy, Listed};
+ghost use Rattle.factor.specs.InnerPass.{Ruled, Turning, Turned, Measuring};
 use crate::cell::factor_of;
 use crate::channel::channel_bound;
 use crate::channel::largest;
@@ -47,8 +47,8 @@ fn longer(a: u64, b: u64) -> u64
 }
 
 // The length of a cell of this count, from what is gathered there. Counts above `most` are those of channels.
-fn settled(most: u64, count: u32, gathered: u64) -> u64
-    ensures { λ r. ⌜ r ≡ settledOf (ltb most count) gathered ⌝ }
+fn final_length(most: u64, count: u32, gathered: u64) -> u64
+    ensures { λ r. ⌜ r ≡ finalLength (ltb most count) gathered ⌝ }
 {
     if most < count as u64 {
         return 0;
@@ -59,7 +59,7 @@ fn settled(most: u64, count: u32, gathered: u64) -> u64
     gathered - 1
 }
 
-// The neighbour at side k of a cell x that has one there, by the shifts.
+// The neighbour k of a cell x that has it, by the shifts.
 fn beside(columns: usize, shifts: &[usize; 8], x: usize, k: usize) -> usize
     requires { ⌜ Beside columns x k × Shifts columns (now shifts) ⌝ }
     ensures { λ r. ⌜ r ≡ besideOf columns x k ⌝ }
@@ -78,7 +78,7 @@ fn left_for(terms: Terms, q: u64) -> u64
     terms.high
 }
 
-// What an inflow of steepness p and this length brings over side k to a cell of steepness q.
+// What an inflow of steepness p and this length brings to its neighbour k, a cell of steepness q.
 fn brought(terms: Terms, k: usize, p: u64, q: u64, length: u64) -> u64
     requires { ⌜ (p ≤ steepest) × (q ≤ steepest) × (length ≤ greatestLength) × ((rules : Rules) × Ruled rules terms) ⌝ }
     ensures { λ r. ⌜ ((rules : Rules) → Ruled rules terms → r ≡ broughtBy (terms .side) rules k p q length) ⌝ }
@@ -100,9 +100,10 @@ fn turn(
     guesses: &mut Guesses,
 )
     requires { ⌜ Turning terms (now direction) (now count) (now lengths) (now factors) x × Listed (now lists) × Shifts (terms .columns) (now shifts) ⌝ }
-    ensures { λ _. ⌜ Turned terms (now (direction .entry)) (now (count .entry)) (now (lengths .entry)) (now (factors .entry)) x (now (lengths .exit)) (now (factors .exit)) ⌝ }
+    ensures { λ _. ⌜ Turned terms (now (direction .entry)) (now (count .entry)) (now (lengths .entry)) (now (factors .entry)) x
+        (now (lengths .exit)) (now (factors .exit)) ⌝ }
 {
-    let length = settled(terms.most, count[x], lengths[x]);
+    let length = final_length(terms.most, count[x], lengths[x]);
     lengths[x] = length;
     let fall = factors[x];
     let p = steepness_of(fall);
@@ -140,7 +141,11 @@ pub(crate) fn measure(
     factors: &mut [u32],
 )
     requires { ⌜ ((rows : ℕ) × (lv : List ℕ) × Measuring rows columns side lv (now direction) (now count) (now order) places (now lengths) (now factors)) ⌝ }
-    ensures { λ _. ⌜ ((rows : ℕ) (lv : List ℕ) → Measuring rows columns side lv (now (direction .entry)) (now (count .entry)) (now (order .entry)) places (now (lengths .entry)) (now (factors .entry)) → (now (lengths .exit) ≡ lengthsOf rows columns side rules lv (now (direction .entry)) (now (count .entry))) × (now (factors .exit) ≡ factorsOf rows columns side lv (now (direction .entry)) (now (lengths .exit)))) ⌝ }
+    ensures { λ _. ⌜ ((rows : ℕ) (lv : List ℕ) →
+        Measuring rows columns side lv (now (direction .entry)) (now (count .entry)) (now (order .entry)) places
+        (now (lengths .entry)) (now (factors .entry)) →
+        (now (lengths .exit) ≡ lengthsOf rows columns side rules lv (now (direction .entry)) (now (count .entry)))
+        × (now (factors .exit) ≡ factorsOf rows columns side lv (now (direction .entry)) (now (lengths .exit)))) ⌝ }
 {
     let square = (side as u64) * (side as u64);
     let threshold = rules.threshold;

@@ -1,7 +1,7 @@
 -- `factor::map` meets its contract: a judgement refuses, or the ground is mapped. Assumes nothing.
 use mathlib.Core.Path.{sym, ap, _∙_}
 use borrow.Author.Needs.{needs}
-use Rattle.factor.specs.Answers.{Grids, lent}
+use Rattle.factor.specs.Answers.{Grids, lentAt}
 use Rattle.factor.specs.Inner.{found, Passing}
 use Rattle.factor.proofs.Answers.{first-refuses}
 use Rattle.factor.proofs.map.Statement.{statement}
@@ -18,13 +18,19 @@ abbrev mapped-at : tie.After-slice-known10 → tie.After-map-sound
 mapped-at c = let counted = c .before .before .before .before .before .before in counted .before .before .before .before .before
 
 abbrev grids : tie.Start → Grids
-grids s = lent (s .args .filled .now) (s .args .direction .now) (s .args .count .now) (s .args .lengths .now) (s .args .factors .now) (s .args .workspace .now)
+grids s = lentAt (s .args .filled) (s .args .direction) (s .args .count) (s .args .lengths) (s .args .factors) (s .args .workspace)
 
 -- the tests are passed
-passing : (c : tie.After-judgement2) → let s = start (c .before .before) in Passing (s .args .rows) (s .args .columns) (s .args .side) (s .args .settings) (c .judgement2 .given .0 .0) (s .args .ground .now) (grids s)
+passing :
+    (c : tie.After-judgement2) →
+    let s = start (c .before .before) in
+    Passing (s .args .rows) (s .args .columns) (s .args .side) (s .args .settings) (c .judgement2 .given .0 .0) (s .args .ground .now) (grids s)
 passing c =
     let judges = c .before .before .judge .ensures in
-    record { passes = sym (sym (ap found (c .judgement2 .given .1)) ∙ judges .verdict-is); rules-are = judges .rules-are (c .judgement2 .given .0 .0) (c .judgement2 .given .1) }
+    record {
+      passes = sym (sym (ap found (c .judgement2 .given .1)) ∙ judges .verdict-is);
+      rules-are = judges .rules-are (c .judgement2 .given .0 .0) (c .judgement2 .given .1);
+    }
 
 judge-requires : tie.Need-judge-requires
 judge-requires c κs = search needs
@@ -61,7 +67,9 @@ returns c =
     let k = c .before in
     let j = k .before .before in
     let s = start j in
-    first-refuses (s .args .rows) (s .args .columns) (s .args .side) (s .args .settings) (s .args .ground .now) (grids s) (k .judgement .given .0 .0) (sym (ap found (k .judgement .given .1)) ∙ j .judge .ensures .verdict-is)
+    let a = s .args in
+    first-refuses (a .rows) (a .columns) (a .side) (a .settings) (a .ground .now) (grids s)
+    (k .judgement .given .0 .0) (sym (ap found (k .judgement .given .1)) ∙ j .judge .ensures .verdict-is)
 
 same-length-7 : tie.Need-same-length-7
 same-length-7 c = search needs

@@ -5,7 +5,7 @@ use lib.ListN.{replicate}
 use borrow.Author.Needs.{needs}
 use Rattle.terrain.specs.Filled.{filledLevels}
 use Rattle.terrain.specs.Answers as terrain
-use Rattle.factor.specs.Answers.{Grids, lent}
+use Rattle.factor.specs.Answers.{Grids, lentAt}
 use Rattle.factor.proofs.Judging.{first-workspace}
 use Rattle.factor.proofs.Answers.{terrain-refused, accepted-measuring, accepted-promised}
 use Rattle.factor.proofs.map_sound.Statement.{statement}
@@ -24,7 +24,7 @@ accepted-at c = c .before .before .before .before .before .before .before
 
 -- the lent grids, and the terrain layer's as it leaves them
 abbrev grids : tie.Start → Grids
-grids s = lent (s .args .filled .now) (s .args .direction .now) (s .args .count .now) (s .args .lengths .now) (s .args .factors .now) (s .args .workspace .now)
+grids s = lentAt (s .args .filled) (s .args .direction) (s .args .count) (s .args .lengths) (s .args .factors) (s .args .workspace)
 
 abbrev left : tie.After-map → terrain.Grids
 left c = let l = c .map .last .1 .1 .1 in terrain.lent (l .0) (l .1 .0) (l .1 .1 .0) (l .1 .1 .1 .0) (l .1 .1 .1 .1 .0)
@@ -46,7 +46,12 @@ measure-requires c κs =
     let d = c .before .before .before .before .before .before in
     let m = drained-at (d .before .before) in
     let s = start m in
-    (s .args .rows, filledLevels (s .args .rows) (s .args .columns) (s .args .ground .now), accepted-measuring (s .args .rows) (s .args .columns) (s .args .side) (s .pre .0) (s .args .ground .now) (grids s) (s .pre .1 .passes) (left m) (sym (d .drained2 .given .1) ∙ m .map .ensures .0) (m .map .ensures .1 .0))
+    let a = s .args in (
+      a .rows,
+      filledLevels (a .rows) (a .columns) (a .ground .now),
+      accepted-measuring (a .rows) (a .columns) (a .side) (s .pre .0) (a .ground .now) (grids s) (s .pre .1 .passes) (left m)
+          (sym (d .drained2 .given .1) ∙ m .map .ensures .0) (m .map .ensures .1 .0),
+    )
 
 clear-requires : tie.Need-clear-requires
 clear-requires c κs = search needs
@@ -71,7 +76,9 @@ returns c settings h =
     let d = c .before in
     let m = drained-at (d .before .before) in
     let s = start m in
-    terrain-refused (s .args .rows) (s .args .columns) (s .args .side) settings (s .args .ground .now) (grids s) (h .passes) (d .drained .given .0 .0) (sym (d .drained .given .1) ∙ m .map .ensures .0) (m .map .ensures .1 .0)
+    let a = s .args in
+    terrain-refused (a .rows) (a .columns) (a .side) settings (a .ground .now) (grids s) (h .passes)
+    (d .drained .given .0 .0) (sym (d .drained .given .1) ∙ m .map .ensures .0) (m .map .ensures .1 .0)
 
 same-length-6 : tie.Need-same-length-6
 same-length-6 c = search needs
@@ -98,14 +105,16 @@ returns-2 c settings h =
     let d = accepted-at p in
     let m = drained-at (d .before .before) in
     let s = start m in
-    let lv = filledLevels (s .args .rows) (s .args .columns) (s .args .ground .now) in
+    let a = s .args in
+    let lv = filledLevels (a .rows) (a .columns) (a .ground .now) in
     let q = sym (d .drained2 .given .1) ∙ m .map .ensures .0 in
-    let a = m .map .ensures .1 .0 in
-    let n = accepted-measuring (s .args .rows) (s .args .columns) (s .args .side) settings (s .args .ground .now) (grids s) (h .passes) (left m) q a in
-    accepted-promised (s .args .rows) (s .args .columns) (s .args .side) settings (s .args .ground .now) (grids s) (h .passes) (left m) q a
+    let t = m .map .ensures .1 .0 in
+    let n = accepted-measuring (a .rows) (a .columns) (a .side) settings (a .ground .now) (grids s) (h .passes) (left m) q t in
+    let long = m .map .kept .1 .1 .1 .1 .1 .1 .1 .0 ∙ first-workspace (a .rows) (a .columns) (a .side) settings (a .ground .now) (grids s) (h .passes) in
+    accepted-promised (a .rows) (a .columns) (a .side) settings (a .ground .now) (grids s) (h .passes) (left m) q t
     (h .rules-are)
-    (p .measure .ensures (s .args .rows) lv n)
-    (emptied .clear .ensures ∙ ap (λ (i : ℕ). replicate i 0) (m .map .kept .1 .1 .1 .1 .1 .1 .1 .0 ∙ first-workspace (s .args .rows) (s .args .columns) (s .args .side) settings (s .args .ground .now) (grids s) (h .passes)))
+    (p .measure .ensures (a .rows) lv n)
+    (emptied .clear .ensures ∙ ap (λ (i : ℕ). replicate i 0) long)
     (m .map .ensures .1 .1 (ap terrain.accepts (d .drained2 .given .1)))
 
 pub map-sound-spec : {M : Type 1} → statement M

@@ -21,7 +21,9 @@ returns : tie.Need-returns
 returns c e =
     let s = c .before .before in
     let t = and-both (c .before .sine-reaches .result) (not (c .sine-reaches2 .result)) e in
-    sym (sine-here (s .args .side) (s .args .q) (s .args .u) (s .pre .0 .side-some) (sym (c .before .sine-reaches .ensures) ∙ t .0) (sym (c .sine-reaches2 .ensures) ∙ not-true (c .sine-reaches2 .result) (t .1)))
+    sym
+    (sine-here (s .args .side) (s .args .q) (s .args .u) (s .pre .0 .side-some)
+    (sym (c .before .sine-reaches .ensures) ∙ t .0) (sym (c .sine-reaches2 .ensures) ∙ not-true (c .sine-reaches2 .result) (t .1)))
 
 pub is-sine-spec : {M : Type 1} → statement M
 is-sine-spec =

@@ -32,7 +32,9 @@ moved-if-requires : tie.Need-moved-if-requires
 moved-if-requires c κs = search needs
 
 is-length-factor-requires : tie.Need-is-length-factor-requires
-is-length-factor-requires c κs = (c .before .before .before .before .before .before .pre, omega (arith, moved-one (c .before .length-reaches .result) (c .before .before .before .wide .result) (c .moved-if .ensures)))
+is-length-factor-requires c κs =
+    let moved = moved-one (c .before .length-reaches .result) (c .before .before .before .wide .result) (c .moved-if .ensures) in
+    (c .before .before .before .before .before .before .pre, omega (arith, moved))
 
 returns : tie.Need-returns
 returns c = c .before .is-length-factor .ensures (c .if2 .taken)

@@ -29,7 +29,9 @@ moved-if-requires : tie.Need-moved-if-requires
 moved-if-requires c κs = search needs
 
 is-sine-requires : tie.Need-is-sine-requires
-is-sine-requires c κs = (c .before .before .before .before .before .before .pre, omega (arith, moved-one (c .before .sine-reaches .result) (c .before .before .before .wide .result) (c .moved-if .ensures)))
+is-sine-requires c κs =
+    let moved = moved-one (c .before .sine-reaches .result) (c .before .before .before .wide .result) (c .moved-if .ensures) in
+    (c .before .before .before .before .before .before .pre, omega (arith, moved))
 
 returns : tie.Need-returns
 returns c = c .before .is-sine .ensures (c .if2 .taken)

@@ -7,7 +7,7 @@ use borrow.Author.Tests.{not-true, not-false}
 use borrow.Author.Needs.{needs}
 use Rattle.text.specs.Ranges.{sizeAccepted, sideAccepted, allLong}
 use Rattle.text.proofs.Accepted.{area-few}
-use Rattle.factor.specs.Answers.{Grids, lent, placesOf}
+use Rattle.factor.specs.Answers.{Grids, lentAt, placesOf}
 use Rattle.factor.proofs.Judging.{judges-rows, judges-columns, judges-long, judges-side, judges-settings, judges-sound}
 use Rattle.factor.proofs.judge.judge.Statement.{statement}
 use Rattle.factor.proofs.judge.judge.Tie as tie
@@ -18,7 +18,7 @@ start c = c .before .before .before .before .before .before
 
 -- the lent grids
 abbrev grids : tie.Start → Grids
-grids s = lent (s .args .filled .now) (s .args .direction .now) (s .args .count .now) (s .args .lengths .now) (s .args .factors .now) (s .args .workspace .now)
+grids s = lentAt (s .args .filled) (s .args .direction) (s .args .count) (s .args .lengths) (s .args .factors) (s .args .workspace)
 
 -- what the tests tell
 rows-are : (c : tie.Else1) → sizeAccepted (start (c .before) .args .rows) ≡ true
@@ -45,7 +45,9 @@ unsound-requires c κs = search needs
 returns : tie.Need-returns
 returns c =
     let s = start (c .before .before) in
-    judges-rows (s .args .rows) (s .args .columns) (s .args .side) (s .args .settings) (s .args .ground .now) (grids s) (c .unsound .ensures) (sym (c .before .before .is-size .ensures) ∙ not-true (c .before .before .is-size .result) (c .before .if1 .taken))
+    let a = s .args in
+    judges-rows (a .rows) (a .columns) (a .side) (a .settings) (a .ground .now) (grids s) (c .unsound .ensures)
+    (sym (c .before .before .is-size .ensures) ∙ not-true (c .before .before .is-size .result) (c .before .if1 .taken))
 
 is-size-requires-2 : tie.Need-is-size-requires-2
 is-size-requires-2 c κs = search needs
@@ -56,7 +58,9 @@ unsound-requires-2 c κs = search needs
 returns-2 : tie.Need-returns-2
 returns-2 c =
     let s = start (c .before .before .before .before) in
-    judges-columns (s .args .rows) (s .args .columns) (s .args .side) (s .args .settings) (s .args .ground .now) (grids s) (c .unsound2 .ensures) (sym (c .before .before .is-size2 .ensures) ∙ not-true (c .before .before .is-size2 .result) (c .before .if2 .taken))
+    let a = s .args in
+    judges-columns (a .rows) (a .columns) (a .side) (a .settings) (a .ground .now) (grids s) (c .unsound2 .ensures)
+    (sym (c .before .before .is-size2 .ensures) ∙ not-true (c .before .before .is-size2 .result) (c .before .if2 .taken))
 
 mul-are-long : tie.Need-mul-are-long
 mul-are-long c = let s = start (c .before .before .before) in omega (arith, area-few (s .args .rows) (s .args .columns) (rows-are (c .before .before)) (columns-are c))
@@ -71,7 +75,9 @@ returns-3 : tie.Need-returns-3
 returns-3 c =
     let w = c .before .before .before in
     let s = start (w .before .before .before) in
-    judges-long (s .args .rows) (s .args .columns) (s .args .side) (s .args .settings) (s .args .ground .now) (grids s) (rows-are (w .before .before)) (columns-are w) (c .unsound3 .ensures) (not-long (c .before))
+    let a = s .args in
+    judges-long (a .rows) (a .columns) (a .side) (a .settings) (a .ground .now) (grids s)
+    (rows-are (w .before .before)) (columns-are w) (c .unsound3 .ensures) (not-long (c .before))
 
 is-side-requires : tie.Need-is-side-requires
 is-side-requires c κs = search needs
@@ -84,7 +90,9 @@ returns-4 c =
     let l = c .before .before .before in
     let w = l .before .before in
     let s = start (w .before .before .before) in
-    judges-side (s .args .rows) (s .args .columns) (s .args .side) (s .args .settings) (s .args .ground .now) (grids s) (rows-are (w .before .before)) (columns-are w) (long-are l) (c .unsound4 .ensures) (sym (c .before .before .is-side .ensures) ∙ not-true (c .before .before .is-side .result) (c .before .if4 .taken))
+    let a = s .args in
+    judges-side (a .rows) (a .columns) (a .side) (a .settings) (a .ground .now) (grids s) (rows-are (w .before .before)) (columns-are w) (long-are l) (c .unsound4 .ensures)
+    (sym (c .before .before .is-side .ensures) ∙ not-true (c .before .before .is-side .result) (c .before .if4 .taken))
 
 judge-requires : tie.Need-judge-requires
 judge-requires c κs = search needs
@@ -104,7 +112,9 @@ returns-5 c =
     let l = d .before .before in
     let w = l .before .before in
     let s = start (w .before .before .before) in
-    judges-sound (s .args .rows) (s .args .columns) (s .args .side) (s .args .settings) (s .args .ground .now) (grids s) (rows-are (w .before .before)) (columns-are w) (long-are l) (side-accepted d) (sym (c .before .before .before .judge .ensures) ∙ c .before .judged .given .1)
+    let a = s .args in
+    judges-sound (a .rows) (a .columns) (a .side) (a .settings) (a .ground .now) (grids s) (rows-are (w .before .before)) (columns-are w) (long-are l) (side-accepted d)
+    (sym (c .before .before .before .judge .ensures) ∙ c .before .judged .given .1)
 
 returns-6 : tie.Need-returns-6
 returns-6 c =
@@ -112,7 +122,9 @@ returns-6 c =
     let l = d .before .before in
     let w = l .before .before in
     let s = start (w .before .before .before) in
-    judges-settings (s .args .rows) (s .args .columns) (s .args .side) (s .args .settings) (s .args .ground .now) (grids s) (rows-are (w .before .before)) (columns-are w) (long-are l) (side-accepted d) (c .unsound5 .ensures) (sym (c .before .before .before .before .judge .ensures) ∙ c .before .before .judged2 .given .1)
+    let a = s .args in
+    judges-settings (a .rows) (a .columns) (a .side) (a .settings) (a .ground .now) (grids s) (rows-are (w .before .before)) (columns-are w) (long-are l) (side-accepted d)
+    (c .unsound5 .ensures) (sym (c .before .before .before .before .judge .ensures) ∙ c .before .before .judged2 .given .1)
 
 pub judge-spec : {M : Type 1} → statement M
 judge-spec =

@@ -40,7 +40,11 @@ abbrev bound : tie.At-loop Inv-loop μ-loop → tie.After-channel-bound Inv-loop
 bound c = cleared c .before .before .before .before
 
 -- the bound tells channels
-channels : (c : tie.After-channel-bound Inv-loop μ-loop) (rows : ℕ) → length (start c .args .count .now) ≡ rows * start c .args .columns → (x : ℕ) → x < rows * start c .args .columns → ltb (c .channel-bound .result) (getD (start c .args .count .now) x 0) ≡ channelAt rows (start c .args .columns) (start c .args .rules) (start c .args .count .now) x
+channels :
+    (c : tie.After-channel-bound Inv-loop μ-loop) (rows : ℕ) →
+    let a = start c .args in
+    length (a .count .now) ≡ rows * a .columns →
+    (x : ℕ) → x < rows * a .columns → ltb (c .channel-bound .result) (getD (a .count .now) x 0) ≡ channelAt rows (a .columns) (a .rules) (a .count .now) x
 channels c rows e =
     let s = start c in
     bounded rows (s .args .columns) (s .args .rules) (c .channel-bound .result) (s .args .count .now) e
@@ -80,7 +84,10 @@ shared-slice-read-turn : tie.Need-shared-slice-read-turn Inv-loop μ-loop
 shared-slice-read-turn c = omega (arith, start (bound (c .before .before .before .before)) .pre .2 .order-is .room)
 
 cast-turn : tie.Need-cast-turn Inv-loop μ-loop
-cast-turn c = let l = c .before .before .before .before in let m = start (bound l) .pre .2 in omega (arith, place-cell (m .directed) {p = l .loop .place} (m .order-is) (omega arith) refl, m .directed .sized .small)
+cast-turn c =
+    let l = c .before .before .before .before in
+    let m = start (bound l) .pre .2 in
+    omega (arith, place-cell (m .directed) {p = l .loop .place} (m .order-is) (omega arith) refl, m .directed .sized .small)
 
 turn-requires : tie.Need-turn-requires Inv-loop μ-loop
 turn-requires c κs =

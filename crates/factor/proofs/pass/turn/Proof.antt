@@ -9,49 +9,50 @@ use lib.Dec.{ltb}
 use borrow.Author.Needs.{needs}
 use Rattle.factor.specs.Inner.{greatestFall, greatestLength}
 use Rattle.factor.proofs.Slopes.{steepness-small}
-use Rattle.factor.proofs.Turns.{settled-small, brought-small, turned-off, turned-on}
+use Rattle.factor.proofs.Turns.{final-small, brought-small, turned-off, turned-on}
 use Rattle.factor.proofs.pass.turn.Statement.{statement}
 use Rattle.factor.proofs.pass.turn.Tie as tie
 
 -- the arguments; and the turn's first steps, from the cell that x points at on
-abbrev start : tie.After-settled → tie.Start
+abbrev start : tie.After-final-length → tie.Start
 start c = c .before .before .before .before .before .before .before
 
-abbrev settled-at : tie.Else1 → tie.After-settled
-settled-at c = c .before .before .before .before .before .before
+abbrev measured-at : tie.Else1 → tie.After-final-length
+measured-at c = c .before .before .before .before .before .before
 
 -- the length is small
-length-small : (c : tie.After-settled) → c .settled .result ≤ greatestLength
+length-small : (c : tie.After-final-length) → c .final-length .result ≤ greatestLength
 length-small c =
     let s = start c in
-    omega (arith, c .settled .ensures, settled-small (ltb (s .args .terms .most) (getD (s .args .count .now) (s .args .x) 0)) (getD (s .args .lengths .now) (s .args .x) 0) (s .pre .0 .gathered-small))
+    let a = s .args in
+    omega (arith, c .final-length .ensures, final-small (ltb (a .terms .most) (getD (a .count .now) (a .x) 0)) (getD (a .lengths .now) (a .x) 0) (s .pre .0 .gathered-small))
 
 -- the cell that x points at is another, and has its places
-next-in : (c : tie.After-beside) → let s = start (settled-at (c .before)) in (c .beside .result < length (s .args .lengths .now)) × (c .beside .result < length (s .args .factors .now))
+next-in : (c : tie.After-beside) → let s = start (measured-at (c .before)) in (c .beside .result < length (s .args .lengths .now)) × (c .beside .result < length (s .args .factors .now))
 next-in c =
-    let t = start (settled-at (c .before)) .pre .0 in
+    let t = start (measured-at (c .before)) .pre .0 in
     (omega (arith, c .beside .ensures, t .next-lengths (c .before .if1 .left)), omega (arith, c .beside .ensures, t .next-factors (c .before .if1 .left)))
 
-next-other : (c : tie.After-beside) → c .beside .result ≡ start (settled-at (c .before)) .args .x → ⊥
-next-other c e = start (settled-at (c .before)) .pre .0 .next-other (c .before .if1 .left) (sym (c .beside .ensures) ∙ e)
+next-other : (c : tie.After-beside) → c .beside .result ≡ start (measured-at (c .before)) .args .x → ⊥
+next-other c e = start (measured-at (c .before)) .pre .0 .next-other (c .before .if1 .left) (sym (c .beside .ensures) ∙ e)
 
-next-small : (c : tie.After-beside) → getD (start (settled-at (c .before)) .args .factors .now) (c .beside .result) 0 ≤ greatestFall
-next-small c = let s = start (settled-at (c .before)) in omega (arith, ap (λ (y : ℕ). getD (s .args .factors .now) y 0) (c .beside .ensures), s .pre .0 .next-small (c .before .if1 .left))
+next-small : (c : tie.After-beside) → getD (start (measured-at (c .before)) .args .factors .now) (c .beside .result) 0 ≤ greatestFall
+next-small c = let s = start (measured-at (c .before)) in omega (arith, ap (λ (y : ℕ). getD (s .args .factors .now) y 0) (c .beside .ensures), s .pre .0 .next-small (c .before .if1 .left))
 
-mul-settled : tie.Need-mul-settled
-mul-settled c = search needs
+mul-final-length : tie.Need-mul-final-length
+mul-final-length c = search needs
 
-shared-slice-read-settled : tie.Need-shared-slice-read-settled
-shared-slice-read-settled c = search needs
+shared-slice-read-final-length : tie.Need-shared-slice-read-final-length
+shared-slice-read-final-length c = search needs
 
-mul-settled-2 : tie.Need-mul-settled-2
-mul-settled-2 c = search needs
+mul-final-length-2 : tie.Need-mul-final-length-2
+mul-final-length-2 c = search needs
 
-slice-read-settled : tie.Need-slice-read-settled
-slice-read-settled c = search needs
+slice-read-final-length : tie.Need-slice-read-final-length
+slice-read-final-length c = search needs
 
-settled-requires : tie.Need-settled-requires
-settled-requires c κs = search needs
+final-length-requires : tie.Need-final-length-requires
+final-length-requires c κs = search needs
 
 mul-lengths : tie.Need-mul-lengths
 mul-lengths c = search needs
@@ -72,8 +73,9 @@ factor-of-requires : tie.Need-factor-of-requires
 factor-of-requires c κs =
     let t = c .before .before .before in
     let s = start t in
+    let small = steepness-small {fall = getD (s .args .factors .now) (s .args .x) 0} (s .pre .0 .fall-small) in
     record {
-      sloping = record { side-some = s .pre .0 .side-some; side-small = s .pre .0 .side-small; steepness-small = omega (arith, c .before .steepness-of .ensures, steepness-small {fall = getD (s .args .factors .now) (s .args .x) 0} (s .pre .0 .fall-small)) };
+      sloping = record { side-some = s .pre .0 .side-some; side-small = s .pre .0 .side-small; steepness-small = omega (arith, c .before .steepness-of .ensures, small) };
       length-small = omega (arith, length-small t);
       listed = s .pre .1;
     }
@@ -100,64 +102,77 @@ returns : tie.Need-returns
 returns c =
     let f = c .before .before in
     let t = f .before .before .before .before in
-    let s = start t in
-    turned-off (s .args .terms) (s .args .direction .now) (s .args .count .now) (s .args .lengths .now) (s .args .factors .now) (s .args .x) (t .settled .ensures) (f .before .before .steepness-of .ensures) (f .factor-of .ensures) (c .if1 .taken)
+    let a = start t .args in
+    turned-off (a .terms) (a .direction .now) (a .count .now) (a .lengths .now) (a .factors .now) (a .x)
+    (t .final-length .ensures) (f .before .before .steepness-of .ensures) (f .factor-of .ensures) (c .if1 .taken)
 
 beside-requires : tie.Need-beside-requires
-beside-requires c κs = let s = start (settled-at c) in (s .pre .0 .beside-room (c .if1 .left), s .pre .2)
+beside-requires c κs = let s = start (measured-at c) in (s .pre .0 .beside-room (c .if1 .left), s .pre .2)
 
 mul-steepness-of : tie.Need-mul-steepness-of
-mul-steepness-of c = omega (arith, next-in c .1, start (settled-at (c .before)) .pre .0 .factors-few)
+mul-steepness-of c = omega (arith, next-in c .1, start (measured-at (c .before)) .pre .0 .factors-few)
 
 slice-read-steepness-of : tie.Need-slice-read-steepness-of
-slice-read-steepness-of c = let b = c .before in let s = start (settled-at (b .before)) in omega (arith, next-in b .1, length-set (s .args .factors .now) (s .args .x) (b .before .before .before .factor-of .result))
+slice-read-steepness-of c =
+    let b = c .before in
+    let s = start (measured-at (b .before)) in
+    omega (arith, next-in b .1, length-set (s .args .factors .now) (s .args .x) (b .before .before .before .factor-of .result))
 
 steepness-of-requires-2 : tie.Need-steepness-of-requires-2
 steepness-of-requires-2 c κs =
     let b = c .before in
-    let s = start (settled-at (b .before)) in
+    let s = start (measured-at (b .before)) in
     omega (arith, next-small b, getD-set-other (s .args .factors .now) (s .args .x) (b .beside .result) (b .before .before .before .factor-of .result) 0 (next-other b))
 
 brought-requires : tie.Need-brought-requires
 brought-requires c κs =
     let b = c .before .before in
     let f = b .before .before .before in
-    let t = settled-at (b .before) in
+    let t = measured-at (b .before) in
     let s = start t in
+    let falls = set (s .args .factors .now) (s .args .x) (f .factor-of .result) in
     let other = getD-set-other (s .args .factors .now) (s .args .x) (b .beside .result) (f .factor-of .result) 0 (next-other b) in (
       omega (arith, f .before .before .steepness-of .ensures, steepness-small {fall = getD (s .args .factors .now) (s .args .x) 0} (s .pre .0 .fall-small)),
-      omega (arith, c .steepness-of2 .ensures, steepness-small {fall = getD (set (s .args .factors .now) (s .args .x) (f .factor-of .result)) (b .beside .result) 0} (omega (arith, other, next-small b))),
+      omega (arith, c .steepness-of2 .ensures, steepness-small {fall = getD falls (b .beside .result) 0} (omega (arith, other, next-small b))),
       length-small t,
       (s .pre .0 .rules, s .pre .0 .ruled),
     )
 
 mul-longer : tie.Need-mul-longer
-mul-longer c = let b = c .before .before .before in omega (arith, next-in b .0, start (settled-at (b .before)) .pre .0 .lengths-few)
+mul-longer c = let b = c .before .before .before in omega (arith, next-in b .0, start (measured-at (b .before)) .pre .0 .lengths-few)
 
 slice-read-longer : tie.Need-slice-read-longer
-slice-read-longer c = let b = c .before .before .before .before in let t = settled-at (b .before) in let s = start t in omega (arith, next-in b .0, length-set (s .args .lengths .now) (s .args .x) (t .settled .result))
+slice-read-longer c =
+    let b = c .before .before .before .before in
+    let t = measured-at (b .before) in
+    let s = start t in
+    omega (arith, next-in b .0, length-set (s .args .lengths .now) (s .args .x) (t .final-length .result))
 
 add-longer : tie.Need-add-longer
 add-longer c =
     let w = c .before in
     let b = w .before .before .before in
     let f = b .before .before .before in
-    let t = settled-at (b .before) in
+    let t = measured-at (b .before) in
     let s = start t in
     let rules = s .pre .0 .rules in
     let k = trailingZeros 8 (getD (s .args .direction .now) (s .args .x) 0) in
     let p = f .before .before .steepness-of .result in
-    let small = brought-small (s .args .terms .side) rules k p (w .before .steepness-of2 .result) (t .settled .result) (length-small t) in
+    let small = brought-small (s .args .terms .side) rules k p (w .before .steepness-of2 .result) (t .final-length .result) (length-small t) in
     omega (arith, w .brought .ensures rules (s .pre .0 .ruled), small)
 
 longer-requires : tie.Need-longer-requires
 longer-requires c κs = search needs
 
 mul-lengths-2 : tie.Need-mul-lengths-2
-mul-lengths-2 c = let b = c .before .before .before .before .before in omega (arith, next-in b .0, start (settled-at (b .before)) .pre .0 .lengths-few)
+mul-lengths-2 c = let b = c .before .before .before .before .before in omega (arith, next-in b .0, start (measured-at (b .before)) .pre .0 .lengths-few)
 
 slice-write-lengths-2 : tie.Need-slice-write-lengths-2
-slice-write-lengths-2 c = let b = c .before .before .before .before .before in let t = settled-at (b .before) in let s = start t in omega (arith, next-in b .0, length-set (s .args .lengths .now) (s .args .x) (t .settled .result))
+slice-write-lengths-2 c =
+    let b = c .before .before .before .before .before in
+    let t = measured-at (b .before) in
+    let s = start t in
+    omega (arith, next-in b .0, length-set (s .args .lengths .now) (s .args .x) (t .final-length .result))
 
 same-length-3 : tie.Need-same-length-3
 same-length-3 c = search needs
@@ -170,19 +185,21 @@ returns-2 c =
     let w = c .before .before in
     let b = w .before .before .before in
     let f = b .before .before .before in
-    let t = settled-at (b .before) in
-    let s = start t in
-    turned-on (s .args .terms) (s .args .direction .now) (s .args .count .now) (s .args .lengths .now) (s .args .factors .now) (s .args .x) (t .settled .ensures) (f .before .before .steepness-of .ensures) (f .factor-of .ensures) (b .beside .ensures) (next-other b) (w .before .steepness-of2 .ensures) (w .brought .ensures) (c .longer .ensures) (b .before .if1 .left)
+    let t = measured-at (b .before) in
+    let a = start t .args in
+    turned-on (a .terms) (a .direction .now) (a .count .now) (a .lengths .now) (a .factors .now) (a .x)
+    (t .final-length .ensures) (f .before .before .steepness-of .ensures) (f .factor-of .ensures) (b .beside .ensures) (next-other b)
+    (w .before .steepness-of2 .ensures) (w .brought .ensures) (c .longer .ensures) (b .before .if1 .left)
 
 pub turn-spec : {M : Type 1} → statement M
 turn-spec =
     tie.close
     (tie.spec
-    mul-settled
-    shared-slice-read-settled
-    mul-settled-2
-    slice-read-settled
-    settled-requires
+    mul-final-length
+    shared-slice-read-final-length
+    mul-final-length-2
+    slice-read-final-length
+    final-length-requires
     mul-lengths
     slice-write-lengths
     mul-fall

@@ -3,12 +3,13 @@ use Prim.Native.Nat.{_*_, _/_, _≤_}
 use native.Mathlib.Omega.{arith}
 use borrow.Author.Tests.{eq-eqb, ne-eqb}
 use borrow.Author.Needs.{needs}
+use Rattle.terrain.specs.Filled.{top}
 use Rattle.factor.specs.Inner.{steepnessOf}
 use Rattle.factor.proofs.Slopes.{square-small}
 use Rattle.factor.proofs.slope.steepness_of.Statement.{statement}
 use Rattle.factor.proofs.slope.steepness_of.Tie as tie
 
-small : (s : tie.Start) → (s .args .fall / 2) * (s .args .fall / 2) ≤ 3610000000000
+small : (s : tie.Start) → (s .args .fall / 2) * (s .args .fall / 2) ≤ top * top
 small s = square-small (s .args .fall / 2) (omega arith)
 
 cast-drop : tie.Need-cast-drop

@@ -1,4 +1,4 @@
--- What the functions of `pass` assume of a map, and what they leave: no promise of a public call cites this file. Assumes nothing.
+-- Only inner functions cite this file: what those of `pass` assume of a map, and what they leave. Assumes nothing.
 use mathlib.Core.Path.{_≡_}
 use mathlib.Core.List.{List}
 use Prim.Native.Nat.{ℕ, _+_, _*_, _≤_, _<_, max}
@@ -6,12 +6,13 @@ use lib.Count.{trailingZeros}
 use lib.Dec.{ltb}
 use lib.ListN.{length, getD, set}
 use Rattle.settings.specs.declared.Rules.{Rules}
+use Rattle.terrain.specs.Filled.{top}
 use Rattle.terrain.specs.InnerCells.{Beside, besideOf}
 use Rattle.terrain.specs.Falls.{fallsOf}
 use Rattle.terrain.specs.InnerTrail.{Directed}
 use Rattle.terrain.specs.Downhill.{Downhill}
 use Rattle.factor.specs.Cell.{factorOf}
-use Rattle.factor.specs.Inner.{greatestFall, greatestLength, steepnessOf, settledOf, leftBy, broughtBy}
+use Rattle.factor.specs.Inner.{greatestFall, greatestLength, steepnessOf, finalLength, leftBy, broughtBy}
 use Rattle.factor.specs.declared.pass.Terms.{Terms}
 
 -- the terms are those of these rules: the square of the cell side, and what the cutoffs leave, squared
@@ -22,9 +23,9 @@ pub record Ruled (rules : Rules) (terms : Terms) : Type 0 where
 
 -- ---- the turn of one cell
 
--- the side that a code points at; 8 for 0
-abbrev pub sideAt : List ℕ → ℕ → ℕ
-sideAt dir x = trailingZeros 8 (getD dir x 0)
+-- the compass side, 0 to 7, that the code of x points at; 8 for 0
+abbrev pub compassAt : List ℕ → ℕ → ℕ
+compassAt dir x = trailingZeros 8 (getD dir x 0)
 
 -- the terms are those of some rules; the cell x, and the cell that it points at, have small falls and gathered amounts, and places in every grid
 pub record Turning (terms : Terms) (dir count lengths factors : List ℕ) (x : ℕ) : Type 0 where
@@ -40,19 +41,19 @@ pub record Turning (terms : Terms) (dir count lengths factors : List ℕ) (x : �
   pub factors-few : length factors ≤ 1048576
   pub fall-small : getD factors x 0 ≤ greatestFall
   pub gathered-small : getD lengths x 0 ≤ greatestLength
-  pub beside-room : sideAt dir x < 8 → Beside (terms .columns) x (sideAt dir x)
-  pub next-other : sideAt dir x < 8 → besideOf (terms .columns) x (sideAt dir x) ≡ x → ⊥
-  pub next-lengths : sideAt dir x < 8 → besideOf (terms .columns) x (sideAt dir x) < length lengths
-  pub next-factors : sideAt dir x < 8 → besideOf (terms .columns) x (sideAt dir x) < length factors
-  pub next-small : sideAt dir x < 8 → getD factors (besideOf (terms .columns) x (sideAt dir x)) 0 ≤ greatestFall
+  pub beside-room : compassAt dir x < 8 → Beside (terms .columns) x (compassAt dir x)
+  pub next-other : compassAt dir x < 8 → besideOf (terms .columns) x (compassAt dir x) ≡ x → ⊥
+  pub next-lengths : compassAt dir x < 8 → besideOf (terms .columns) x (compassAt dir x) < length lengths
+  pub next-factors : compassAt dir x < 8 → besideOf (terms .columns) x (compassAt dir x) < length factors
+  pub next-small : compassAt dir x < 8 → getD factors (besideOf (terms .columns) x (compassAt dir x)) 0 ≤ greatestFall
 
 -- the length of the cell x, and its amount for the cell y by these rules, by the lists at its turn
 module _ (terms : Terms) (dir count lengths factors : List ℕ) (x : ℕ) where
   abbrev pub lengthNow : ℕ
-  lengthNow = settledOf (ltb (terms .most) (getD count x 0)) (getD lengths x 0)
+  lengthNow = finalLength (ltb (terms .most) (getD count x 0)) (getD lengths x 0)
 
   abbrev pub amountNow : Rules → ℕ → ℕ
-  amountNow rules y = broughtBy (terms .side) rules (sideAt dir x) (steepnessOf (getD factors x 0)) (steepnessOf (getD factors y 0)) lengthNow
+  amountNow rules y = broughtBy (terms .side) rules (compassAt dir x) (steepnessOf (getD factors x 0)) (steepnessOf (getD factors y 0)) lengthNow
 
   -- the lengths once it has handed on to the cell y
   abbrev pub lengthsNext : Rules → ℕ → List ℕ
@@ -61,15 +62,15 @@ module _ (terms : Terms) (dir count lengths factors : List ℕ) (x : ℕ) where
   -- the lists after its turn
   pub record Turned (lengths′ factors′ : List ℕ) : Type 0 where
     pub factors-are : factors′ ≡ set factors x (factorOf (terms .side) (steepnessOf (getD factors x 0)) lengthNow)
-    pub leaves : 8 ≤ sideAt dir x → lengths′ ≡ set lengths x lengthNow
-    pub hands-on : (rules : Rules) → Ruled rules terms → sideAt dir x < 8 → lengths′ ≡ lengthsNext rules (besideOf (terms .columns) x (sideAt dir x))
+    pub leaves : 8 ≤ compassAt dir x → lengths′ ≡ set lengths x lengthNow
+    pub hands-on : (rules : Rules) → Ruled rules terms → compassAt dir x < 8 → lengths′ ≡ lengthsNext rules (besideOf (terms .columns) x (compassAt dir x))
 
 -- ---- the pass
 
 -- what the pass assumes of a map: its levels lv, directions and counts, an order of its cells at the first places, and the grids that lengths and LS go to
 pub record Measuring (rows cols side : ℕ) (lv dir count order : List ℕ) (places : ℕ) (lengths factors : List ℕ) : Type 0 where
   pub directed : Directed rows cols dir
-  pub capped : (x : ℕ) → getD lv x 0 ≤ 1900000
+  pub capped : (x : ℕ) → getD lv x 0 ≤ top
   pub side-some : 1 ≤ side
   pub side-small : side ≤ 100000
   pub count-long : length count ≡ rows * cols
