@@ -116,7 +116,7 @@ module _ (rows cols side : ℕ) (settings : Settings) (ground : List ℤ) (g : G
           }
 
       -- and the whole promise
-      pub accepted-promised : {rules : Rules} {lengths factors workspace : List ℕ} → rules ≡ rulesOf settings → (lengths ≡ lengthsOf rows cols side rules (filledLevels rows cols ground) (t .direction) (t .count)) × (factors ≡ factorsOf rows cols side (filledLevels rows cols ground) (t .direction) lengths) → workspace ≡ replicate (rows * cols) 0 → Drainage rows cols ground (t .filled) (t .direction) (t .count) (validOf rows cols ground) → Made (Accepted valid longest) (lent (t .filled) (t .direction) (t .count) lengths factors workspace)
+      pub accepted-promised : {rules : Rules} {lengths factors workspace : List ℕ} → rules ≡ rulesOf settings → (lengths ≡ lengthsOf rows cols side rules (filledLevels rows cols ground) (t .direction) (t .count)) × (factors ≡ factorsOf rows cols side (filledLevels rows cols ground) (t .direction) lengths) → workspace ≡ replicate (rows * cols) 0 → Drainage rows cols ground (t .filled) (t .direction) (t .count) valid → Made (Accepted valid longest) (lent (t .filled) (t .direction) (t .count) lengths factors workspace)
       unfolding answer after answerOf gridsOf mapOf
       accepted-promised {rules} {lengths} {factors} {workspace} r d w n =
           let j = first-passes rows cols side settings ground g e ∙ found .passes in

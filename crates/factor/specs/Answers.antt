@@ -5,7 +5,7 @@ use Prim.Native.Nat.{ℕ, _*_}
 use lib.ListN.{length, replicate}
 use lib.IntN.{ℤ}
 use denote.Ref.{RefT, now}
-use denote.Triple.Both.{Both}
+use Rattle.laws.specs.Slices.{Slice}
 use Rattle.laws.specs.Tests.{Test, passed, failed, verdict}
 use Rattle.text.specs.Ranges.{sizeTest, lengthTest, sideTest, heightTest}
 use Rattle.settings.specs.declared.Settings.{Settings}
@@ -31,10 +31,6 @@ pub record Grids : Type 0 where
 -- the lent slices together
 abbrev pub lent : List ℤ → List ℕ → List ℕ → List ℕ → List ℕ → List ℕ → Grids
 lent filled direction count lengths factors workspace = record { filled = filled; direction = direction; count = count; lengths = lengths; factors = factors; workspace = workspace }
-
--- a lent slice as a contract names it: at the call, and at the return
-abbrev pub Slice : Type 0 → Type 0
-Slice A = Both (RefT (List A)) (RefT (List A))
 
 -- the lent slices together: as they stand, as they are at the call, and as they are at the return
 abbrev pub lentAt : RefT (List ℤ) → RefT (List ℕ) → RefT (List ℕ) → RefT (List ℕ) → RefT (List ℕ) → RefT (List ℕ) → Grids

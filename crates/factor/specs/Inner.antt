@@ -16,7 +16,7 @@ use Rattle.factor.specs.LengthFactor.{greatestMm, reached}
 use Rattle.terrain.specs.Filled.{top}
 use Rattle.terrain.specs.Drainage.{Trails, Totals, Surface}
 use Rattle.terrain.specs.Answers.{validOf}
-use Rattle.factor.specs.Answers.{Grids, placesOf, answer, after, accepts}
+use Rattle.factor.specs.Answers.{Grids, placesOf, answer, after, accepts, told}
 use Rattle.factor.specs.declared.Answer.{Answer}
 use Rattle.factor.specs.declared.judge.Judgement.{Judgement}
 use Rattle.factor.specs.declared.judge.Judgement.the-variants.{Sound, Unsound}
@@ -102,5 +102,5 @@ module _ (rows cols side : ℕ) (settings : Settings) where
         (a ≡ answer rows cols side settings ground g)
         × ((h ≡ after rows cols side settings ground g)
         × ((accepts a ≡ true → Trails rows cols ground (h .filled) (h .direction))
-        × ((accepts a ≡ true → Totals rows cols (h .direction) (h .count) (validOf rows cols ground))
+        × ((accepts a ≡ true → Totals rows cols ground (h .direction) (h .count) (told a .valids))
         × (accepts a ≡ true → Surface rows cols ground (h .filled)))))

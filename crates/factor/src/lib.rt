@@ -23,9 +23,8 @@ ghost use mathlib.Core.Path.{_≡_};
 ghost use mathlib.Core.Bool.{true};
 ghost use lib.ListN.{length, replicate};
 ghost use Rattle.terrain.specs.Drainage.{Trails, Totals, Surface};
-ghost use Rattle.terrain.specs.Answers.{validOf};
 ghost use Rattle.settings.specs.declared.Settings.{Settings};
-ghost use Rattle.factor.specs.Answers.{lentAt, lentBefore, lentAfter, answer, after, accepts};
+ghost use Rattle.factor.specs.Answers.{lentAt, lentBefore, lentAfter, answer, after, told, accepts};
 ghost use Rattle.factor.specs.Inner.{Passing, Promised};
 use judge::Judgement;
 use settings::Rules;
@@ -122,7 +121,7 @@ pub fn map(
         ≡ after rows columns side settings (now (ground .entry)) (lentBefore filled direction count lengths factors workspace) ⌝ }
     ensures trails { λ r. ⌜ (accepts r ≡ true → Trails rows columns (now (ground .entry)) (now (filled .exit)) (now (direction .exit))) ⌝ }
     ensures totals { λ r. ⌜ (accepts r ≡ true →
-        Totals rows columns (now (direction .exit)) (now (count .exit)) (validOf rows columns (now (ground .entry)))) ⌝ }
+        Totals rows columns (now (ground .entry)) (now (direction .exit)) (now (count .exit)) (told r .valids)) ⌝ }
     ensures surface { λ r. ⌜ (accepts r ≡ true → Surface rows columns (now (ground .entry)) (now (filled .exit))) ⌝ }
 {
     let judgement = judge::judge(

@@ -1,28 +1,13 @@
--- What a caller lends to a call, told of the references themselves: as it stands when the call is made, and as the call leaves it. Assumes nothing.
+-- What a call hands out into the numbers that it is lent. Assumes nothing.
 use Prim.Native.Nat.{ℕ}
-use mathlib.Core.List.{List}
 use lib.IntN.{ℤ}
 use lib.Ieee.{Float}
-use denote.Ref.{RefT, now}
-use denote.Triple.Both.{Both}
+use denote.Ref.{now}
+use Rattle.laws.specs.Slices.{Lent}
 use Rattle.text.specs.Answers.{Outcome}
 use Rattle.factor.specs.Answers as factor
-use Rattle.factor.specs.Answers.{Grids, lent}
 use Rattle.fullsize.specs.Outcomes.{reading, mapping}
 use Rattle.fullsize.specs.Crossing.{Numbers, numbers}
-
--- a reference to a value of A, at a call's entry and at its exit
-abbrev pub Lent : Type 0 → Type 0
-Lent A = Both (RefT A) (RefT A)
-
--- the six grids of the map call, before and after
-abbrev pub lentBefore : Lent (List ℤ) → Lent (List ℕ) → Lent (List ℕ) → Lent (List ℕ) → Lent (List ℕ) → Lent (List ℕ) → Grids
-lentBefore filled direction count lengths factors workspace =
-    lent (now (filled .entry)) (now (direction .entry)) (now (count .entry)) (now (lengths .entry)) (now (factors .entry)) (now (workspace .entry))
-
-abbrev pub lentAfter : Lent (List ℤ) → Lent (List ℕ) → Lent (List ℕ) → Lent (List ℕ) → Lent (List ℕ) → Lent (List ℕ) → Grids
-lentAfter filled direction count lengths factors workspace =
-    lent (now (filled .exit)) (now (direction .exit)) (now (count .exit)) (now (lengths .exit)) (now (factors .exit)) (now (workspace .exit))
 
 -- what a call answers, its result being the number of the refusal
 abbrev pub readingAfter : ℕ → Lent ℕ → Lent ℕ → Lent ℕ → Lent ℕ → Lent ℤ → Outcome

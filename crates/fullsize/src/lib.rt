@@ -10,10 +10,10 @@ ghost use mathlib.Core.Path.{_≡_};
 ghost use Rattle.text.specs.Answers.{headerAnswer, gridAnswer};
 ghost use Rattle.settings.specs.Settings.{defaultSettings};
 ghost use Rattle.terrain.specs.Drainage.{Trails, Totals, Surface};
-ghost use Rattle.factor.specs.Answers.{answer, after, told};
+ghost use Rattle.factor.specs.Answers.{answer, after, told, lentBefore, lentAfter};
 ghost use Rattle.fullsize.specs.Outcomes.{gridReading};
 ghost use Rattle.fullsize.specs.Crossing.{numbersOf, settingsOf};
-ghost use Rattle.fullsize.specs.Lent.{lentBefore, lentAfter, readingAfter, mappingAfter, numbersAfter};
+ghost use Rattle.fullsize.specs.Lent.{readingAfter, mappingAfter, numbersAfter};
 use settings::Settings;
 
 // Reads the header alone: `text::read_header`.
@@ -94,7 +94,8 @@ pub extern "C" fn lsmap_map(
         ≡ after rows columns side (settingsOf low high kind cells percentage) (now (ground .entry))
         (lentBefore filled direction count lengths factors workspace) ⌝ }
     ensures trails { λ r. ⌜ (r ≡ 0 → Trails rows columns (now (ground .entry)) (now (filled .exit)) (now (direction .exit))) ⌝ }
-    ensures totals { λ r. ⌜ (r ≡ 0 → Totals rows columns (now (direction .exit)) (now (count .exit)) (now (valid .exit))) ⌝ }
+    ensures totals { λ r. ⌜ (r ≡ 0 →
+        Totals rows columns (now (ground .entry)) (now (direction .exit)) (now (count .exit)) (now (valid .exit))) ⌝ }
     ensures surface { λ r. ⌜ (r ≡ 0 → Surface rows columns (now (ground .entry)) (now (filled .exit))) ⌝ }
 {
     let settings = crossing::settings_of(low, high, kind, cells, percentage);

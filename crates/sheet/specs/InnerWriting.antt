@@ -3,8 +3,8 @@ use mathlib.Core.Path.{_≡_}
 use mathlib.Core.List.{List}
 use Prim.Native.Nat.{ℕ, _+_, _≤_}
 use lib.ListN.{length}
-use denote.Ref.{RefT, now}
-use denote.Triple.Both.{Both}
+use denote.Ref.{now}
+use Rattle.laws.specs.Slices.{Slice}
 use Rattle.sheet.specs.Writing.{overlay}
 
 -- the bytes were written from a place on; `next` is the place after them
@@ -13,5 +13,5 @@ pub record Wrote (room : List ℕ) (at : ℕ) (bytes : List ℕ) (next : ℕ) (a
   pub laid : after ≡ overlay room at bytes
 
 -- the bytes are put into the lent room from the place `at` on, and `next`, the place after them, is not past `most`
-abbrev pub Puts : Both (RefT (List ℕ)) (RefT (List ℕ)) → ℕ → List ℕ → ℕ → ℕ → Type 0
+abbrev pub Puts : Slice ℕ → ℕ → List ℕ → ℕ → ℕ → Type 0
 Puts room at bytes next most = Wrote (now (room .entry)) at bytes next (now (room .exit)) × (next ≤ most)

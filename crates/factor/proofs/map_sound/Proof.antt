@@ -1,8 +1,9 @@
 -- `factor::map_sound` meets its contract: the terrain layer refuses, or its grids are measured. Assumes nothing.
-use mathlib.Core.Path.{sym, ap, _∙_}
+use mathlib.Core.Path.{sym, ap, _∙_, subst}
 use Prim.Native.Nat.{ℕ}
 use lib.ListN.{replicate}
 use borrow.Author.Needs.{needs}
+use Rattle.terrain.specs.Drainage.{Drainage}
 use Rattle.terrain.specs.Filled.{filledLevels}
 use Rattle.terrain.specs.Answers as terrain
 use Rattle.factor.specs.Answers.{Grids, lentAt}
@@ -115,7 +116,9 @@ returns-2 c settings h =
     (h .rules-are)
     (p .measure .ensures (a .rows) lv n)
     (emptied .clear .ensures ∙ ap (λ (i : ℕ). replicate i 0) long)
-    (m .map .ensures .1 .1 (ap terrain.accepts (d .drained2 .given .1)))
+    (subst (Drainage (a .rows) (a .columns) (a .ground .now) (left m .filled) (left m .direction) (left m .count))
+    (ap terrain.validIn (d .drained2 .given .1))
+    (m .map .ensures .1 .1 (ap terrain.accepts (d .drained2 .given .1))))
 
 pub map-sound-spec : {M : Type 1} → statement M
 map-sound-spec =
