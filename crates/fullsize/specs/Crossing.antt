@@ -25,7 +25,7 @@ unfoldable pub noRule : Channel
 unfolding quotient
 noRule = Percentage (quotient 10 1010)
 
--- The channel rule of a kind. A kind above 2 is no rule, so the map call refuses it as it does a bad percentage: 4 at 3.
+-- The channel rule of a kind. A kind above 2 is no rule, so the map call refuses it as it does a bad percentage: 4 at 3 (the law `other-refused`).
 unfoldable pub channelOf : ℕ → ℕ → Float → Channel
 unfolding noRule
 channelOf kind cells percentage = cond (eqb kind 0) NoChannel (cond (eqb kind 1) (Cells cells) (cond (eqb kind 2) (Percentage percentage) noRule))
@@ -41,6 +41,7 @@ numbersWith low high NoChannel = numbers low high 0 0 (quotient 100 0)
 numbersWith low high (Cells n) = numbers low high 1 n (quotient 100 0)
 numbersWith low high (Percentage x) = numbers low high 2 0 x
 
+-- settings come back from their numbers as they were (the law `back-numbers`)
 unfoldable pub numbersOf : Settings → Numbers
 unfolding numbersWith
 numbersOf s = numbersWith (s .low) (s .high) (s .channel)

@@ -15,7 +15,9 @@ same-length : tie.Need-same-length
 same-length c = search needs
 
 returns : tie.Need-returns
-returns c = ap (λ o. gridReading o (c .before .before .before .before .before .before .before .read-grid .last .1 .0)) (c .hand-out-reading .ensures) ∙ c .before .before .before .before .before .before .before .read-grid .ensures
+returns c =
+    let read = c .before .before .before .before .before .before .before .read-grid in
+    ap (λ o. gridReading o (read .last .1 .0)) (c .hand-out-reading .ensures) ∙ read .ensures
 
 pub lsmap-read-grid-spec : {M : Type 1} → statement M
 lsmap-read-grid-spec = tie.close (tie.spec read-grid-requires hand-out-reading-requires same-length returns)

@@ -25,9 +25,10 @@ same-length c = search needs
 returns : tie.Need-returns
 unfolding factorWord bytes
 returns c =
-    let n = c .before .before .before .before .before .before .before .args .factor in
+    let long = c .before .before .before .before .before in
+    let n = long .before .before .args .factor in
     let put = c .before .before .put-all .ensures in
-    (wrote-as (ap (λ (b : Bool). cond b (bytes "long") (decimal n) ++ (10 ∷ [])) (sym (eq-eqb n tooLong (c .before .before .before .before .before .if1 .taken)))) put, omega (arith, put .ends))
+    (wrote-as (ap (λ (b : Bool). cond b (bytes "long") (decimal n) ++ (10 ∷ [])) (sym (eq-eqb n tooLong (long .if1 .taken)))) put, omega (arith, put .ends))
 
 put-number-requires : tie.Need-put-number-requires
 put-number-requires c κs = search needs
@@ -38,9 +39,10 @@ same-length-2 c = search needs
 returns-2 : tie.Need-returns-2
 unfolding factorWord bytes
 returns-2 c =
-    let n = c .before .before .before .before .before .before .args .factor in
+    let short = c .before .before .before .before in
+    let n = short .before .before .args .factor in
     let put = c .before .before .put-number .ensures in
-    (wrote-as (ap (λ (b : Bool). cond b (bytes "long") (decimal n) ++ (10 ∷ [])) (sym (ne-eqb n tooLong (c .before .before .before .before .if1 .left)))) (put .0), put .1)
+    (wrote-as (ap (λ (b : Bool). cond b (bytes "long") (decimal n) ++ (10 ∷ [])) (sym (ne-eqb n tooLong (short .if1 .left)))) (put .0), put .1)
 
 pub put-factor-spec : {M : Type 1} → statement M
 put-factor-spec =
