@@ -1,7 +1,7 @@
 -- The promise of the map call: from the judge's finding, the terrain layer's promise, and the pass along the order. Assumes nothing.
 use mathlib.Core.Path.{_≡_, refl, sym, ap, ap₂, subst, _∙_}
 use mathlib.Core.List.{List}
-use mathlib.Core.Bool.{true≢false}
+use mathlib.Core.Bool.{true, false, true≢false}
 use Prim.Native.Nat.{ℕ, _*_}
 use native.Mathlib.Omega.{arith}
 use lib.ListN.{length, replicate}
@@ -11,7 +11,7 @@ use Rattle.text.specs.declared.Refusal.{Refusal}
 use Rattle.settings.specs.declared.Settings.{Settings}
 use Rattle.settings.specs.declared.Rules.{Rules}
 use Rattle.settings.specs.Settings.{rulesOf}
-use Rattle.terrain.specs.InnerCells.{Ready}
+use Rattle.terrain.specs.Cells.{Ready}
 use Rattle.terrain.specs.Filled.{filledLevels}
 use Rattle.terrain.specs.Trail.{countsOf, longestOf}
 use Rattle.terrain.specs.Falls.{fallsOf}
@@ -34,6 +34,10 @@ use Rattle.factor.proofs.Judging.{lentOn, first-fails, first-passes, fi
 lent-same : {f f′ : List ℤ} {d d′ c c′ l l′ x x′ w w′ : List ℕ} → f ≡ f′ → d ≡ d′ → c ≡ c′ → l ≡ l′ → x ≡ x′ → w ≡ w′ → lent f d c l x w ≡ lent f′ d′ c′ l′ x′ w′
 lent-same p q r s t u = cc
 
+-- the grids once the terrain layer has left its own as t, with these lengths, factors and workspace
+abbrev returned : terrain.Grids → List ℕ → List ℕ → List ℕ → Grids
+returned t lengths factors workspace = lent (t .filled) (t .direction) (t .count) lengths factors workspace
+
 -- what the terrain layer tells by accepting
 record Accepting (rows cols : ℕ) (ground : List ℤ) (g t : terrain.Grids) (valid longest : ℕ) : Type 0 where
   passes : terrain.judged rows cols ground g ≡ passed
@@ -52,7 +56,11 @@ module _ (rows cols side : ℕ) (settings : Settings) (ground : List ℤ) (g : G
   -- a refusal
   refuses : (f : Refusal) → judged rows cols side settings ground g ≡ failed (f .number) (f .place) → Made (Refused f) g
   unfolding answer after answerOf gridsOf
-  refuses f j = (sym (ap (answerOf rows cols ground) j), (sym (ap (gridsOf rows cols side settings ground g) j), ((λ e. absurd (true≢false (sym e))), ((λ e. absurd (true≢false (sym e))), (λ e. absurd (true≢false (sym e)))))))
+  refuses f j = (sym (ap (answerOf rows cols ground) j), (sym (ap (gridsOf rows cols side settings ground g) j), (none, (none, none))))
+    where
+      -- it is no acceptance
+      none : {P : Type 0} → false ≡ true → P
+      none e = absurd (true≢false (sym e))
 
   -- by one of the first four tests
   pub first-refuses : (f : Refusal) → failed (f .number) (f .place) ≡ verdict (firstTests rows cols side settings ground g) → Made (Refused f) g
@@ -64,28 +72,35 @@ module _ (rows cols side : ℕ) (settings : Settings) (ground : List ℤ) (g : G
     abbrev heights : Test
     heights = terrain.judged rows cols ground (lentOn g)
 
-    -- it refuses, and leaves its grids
-    pub terrain-refuses : (f : Refusal) {t : terrain.Grids} → drained.Refused f ≡ terrain.answer rows cols ground (lentOn g) → After rows cols ground (lentOn g) t heights → (t ≡ lentOn g) × (judged rows cols side settings ground g ≡ failed (f .number) (f .place))
+    -- it refuses, and leaves its grids t
+    abbrev Left : Refusal → terrain.Grids → Type 0
+    Left f t = (t ≡ lentOn g) × (judged rows cols side settings ground g ≡ failed (f .number) (f .place))
+
+    terrain-refuses : (f : Refusal) {t : terrain.Grids} → drained.Refused f ≡ terrain.answer rows cols ground (lentOn g) →
+        After rows cols ground (lentOn g) t heights → Left f t
     unfolding terrain.answer terrain.answerOf
     terrain-refuses f {t} q a = go heights refl q a
       where
-        go : (v : Test) → heights ≡ v → drained.Refused f ≡ terrain.answerOf rows cols ground v → After rows cols ground (lentOn g) t v → (t ≡ lentOn g) × (judged rows cols side settings ground g ≡ failed (f .number) (f .place))
+        go : (v : Test) → heights ≡ v → drained.Refused f ≡ terrain.answerOf rows cols ground v → After rows cols ground (lentOn g) t v → Left f t
         go passed j q a = absurd (true≢false (sym (ap terrain.accepts q)))
         go (failed number place) j q a =
             let r : f ≡ record { number = number; place = place } = cc in
             (a, first-passes rows cols side settings ground g e ∙ j ∙ sym (ap (λ (r : Refusal). failed (r .number) (r .place)) r))
 
-    pub terrain-refused : (f : Refusal) {t : terrain.Grids} → drained.Refused f ≡ terrain.answer rows cols ground (lentOn g) → After rows cols ground (lentOn g) t (terrain.judged rows cols ground (lentOn g)) → Made (Refused f) (lent (t .filled) (t .direction) (t .count) (g .lengths) (t .falls) (t .workspace))
+    pub terrain-refused : (f : Refusal) {t : terrain.Grids} → drained.Refused f ≡ terrain.answer rows cols ground (lentOn g) →
+        After rows cols ground (lentOn g) t heights → Made (Refused f) (returned t (g .lengths) (t .falls) (t .workspace))
     terrain-refused f {t} q a =
         let w = terrain-refuses f q a in
-        subst (λ (u : terrain.Grids). Made (Refused f) (lent (u .filled) (u .direction) (u .count) (g .lengths) (u .falls) (u .workspace))) (sym (w .0)) (refuses f (w .1))
+        subst (λ (u : terrain.Grids). Made (Refused f) (returned u (g .lengths) (u .falls) (u .workspace))) (sym (w .0)) (refuses f (w .1))
 
     -- it accepts, and gives its grids
-    terrain-accepts : {valid longest : ℕ} {t : terrain.Grids} → drained.Accepted valid longest ≡ terrain.answer rows cols ground (lentOn g) → After rows cols ground (lentOn g) t heights → Accepting rows cols ground (lentOn g) t valid longest
+    terrain-accepts : {valid longest : ℕ} {t : terrain.Grids} → drained.Accepted valid longest ≡ terrain.answer rows cols ground (lentOn g) →
+        After rows cols ground (lentOn g) t heights → Accepting rows cols ground (lentOn g) t valid longest
     unfolding terrain.answer terrain.answerOf
     terrain-accepts {valid} {longest} {t} q a = go heights refl q a
       where
-        go : (v : Test) → heights ≡ v → drained.Accepted valid longest ≡ terrain.answerOf rows cols ground v → After rows cols ground (lentOn g) t v → Accepting rows cols ground (lentOn g) t valid longest
+        go : (v : Test) → heights ≡ v → drained.Accepted valid longest ≡ terrain.answerOf rows cols ground v → After rows cols ground (lentOn g) t v →
+            Accepting rows cols ground (lentOn g) t valid longest
         go passed j q a = record { passes = j; mapped = a; valid-is = cc; longest-is = cc }
         go (failed number place) j q a = absurd (true≢false (ap terrain.accepts q))
 
@@ -95,6 +110,9 @@ module _ (rows cols side : ℕ) (settings : Settings) (ground : List ℤ) (g : G
 
       abbrev lv : List ℕ
       lv = filledLevels rows cols ground
+
+      abbrev dir : List ℕ
+      dir = directionOf rows cols ground
 
       ready : Ready rows cols ground
       ready = passed-ready rows cols ground (lentOn g) (found .passes)
@@ -116,26 +134,31 @@ module _ (rows cols side : ℕ) (settings : Settings) (ground : List ℤ) (g : G
           }
 
       -- and the whole promise
-      pub accepted-promised : {rules : Rules} {lengths factors workspace : List ℕ} → rules ≡ rulesOf settings → (lengths ≡ lengthsOf rows cols side rules (filledLevels rows cols ground) (t .direction) (t .count)) × (factors ≡ factorsOf rows cols side (filledLevels rows cols ground) (t .direction) lengths) → workspace ≡ replicate (rows * cols) 0 → Drainage rows cols ground (t .filled) (t .direction) (t .count) valid → Made (Accepted valid longest) (lent (t .filled) (t .direction) (t .count) lengths factors workspace)
+      pub accepted-promised : {rules : Rules} {lengths factors workspace : List ℕ} → rules ≡ rulesOf settings →
+          (lengths ≡ lengthsOf rows cols side rules lv (t .direction) (t .count)) × (factors ≡ factorsOf rows cols side lv (t .direction) lengths) →
+          workspace ≡ replicate (rows * cols) 0 → Drainage rows cols ground (t .filled) (t .direction) (t .count) valid →
+          Made (Accepted valid longest) (returned t lengths factors workspace)
       unfolding answer after answerOf gridsOf mapOf
       accepted-promised {rules} {lengths} {factors} {workspace} r d w n =
           let j = first-passes rows cols side settings ground g e ∙ found .passes in
-          (answers ∙ sym (ap (answerOf rows cols ground) j), (leaves ∙ sym (ap (gridsOf rows cols side settings ground g) j), ((λ x. n .trails), ((λ x. n .totals), (λ x. n .surface)))))
+          let answers = answer-is ∙ sym (ap (answerOf rows cols ground) j) in
+          let leaves = grids-are ∙ sym (ap (gridsOf rows cols side settings ground g) j) in
+          (answers, (leaves, ((λ x. n .trails), ((λ x. n .totals), (λ x. n .surface)))))
         where
-          answers : Accepted valid longest ≡ Accepted (validOf rows cols ground) (longestOf rows cols (directionOf rows cols ground))
-          answers = ap₂ Accepted (found .valid-is) (found .longest-is)
+          answer-is : Accepted valid longest ≡ Accepted (validOf rows cols ground) (longestOf rows cols dir)
+          answer-is = ap₂ Accepted (found .valid-is) (found .longest-is)
 
-          count-is : t .count ≡ countsOf rows cols (directionOf rows cols ground)
+          count-is : t .count ≡ countsOf rows cols dir
           count-is = found .mapped .count-is
 
-          direction-is : t .direction ≡ directionOf rows cols ground
+          direction-is : t .direction ≡ dir
           direction-is = found .mapped .direction-is
 
-          lengths-are : lengths ≡ lengthsOf rows cols side (rulesOf settings) lv (directionOf rows cols ground) (countsOf rows cols (directionOf rows cols ground))
+          lengths-are : lengths ≡ lengthsOf rows cols side (rulesOf settings) lv dir (countsOf rows cols dir)
           lengths-are = d .0 ∙ rw (r, direction-is, count-is)
 
-          factors-are : factors ≡ factorsOf rows cols side lv (directionOf rows cols ground) (lengthsOf rows cols side (rulesOf settings) lv (directionOf rows cols ground) (countsOf rows cols (directionOf rows cols ground)))
+          factors-are : factors ≡ factorsOf rows cols side lv dir (lengthsOf rows cols side (rulesOf settings) lv dir (countsOf rows cols dir))
           factors-are = d .1 ∙ ap₂ (factorsOf rows cols side lv) direction-is lengths-are
 
-          leaves : lent (t .filled) (t .direction) (t .count) lengths factors workspace ≡ mapOf rows cols side (rulesOf settings) ground (directionOf rows cols ground)
-          leaves = lent-same (found .mapped .filled-is) direction-is count-is lengths-are factors-are w
+          grids-are : returned t lengths factors workspace ≡ mapOf rows cols side (rulesOf settings) ground dir
+          grids-are = lent-same (found .mapped .filled-is) direction-is count-is lengths-are factors-are w

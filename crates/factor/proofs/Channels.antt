@@ -25,7 +25,9 @@ unfolding largestOf
 largest-ge count x h = greatest-ge (length count) (λ y. getD count y 0) x h
 
 -- the counts above `most` are those of channels, if that holds of every number up to the largest count
-pub bounded : (rows cols : ℕ) (rules : Rules) (most : ℕ) (count : List ℕ) → length count ≡ rows * cols → ((c : ℕ) → c ≤ largestOf (length count) count → ltb most c ≡ isChannel (rules .threshold) (largestOf (length count) count) c) → (x : ℕ) → x < rows * cols → ltb most (getD count x 0) ≡ channelAt rows cols rules count x
+pub bounded : (rows cols : ℕ) (rules : Rules) (most : ℕ) (count : List ℕ) → length count ≡ rows * cols →
+    ((c : ℕ) → c ≤ largestOf (length count) count → ltb most c ≡ isChannel (rules .threshold) (largestOf (length count) count) c) →
+    (x : ℕ) → x < rows * cols → ltb most (getD count x 0) ≡ channelAt rows cols rules count x
 unfolding channelAt
 bounded rows cols rules most count e m x h =
     m (getD count x 0) (largest-ge count x (omega arith)) ∙ ap (λ (n : ℕ). isChannel (rules .threshold) (largestOf n count) (getD count x 0)) e

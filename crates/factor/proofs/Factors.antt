@@ -30,7 +30,8 @@ pub class-is : (c q : ℕ) → 1 ≤ c → boolByte (leb (c * c) (5000 * q)) + b
 unfolding exponentOf
 class-is c q h = go (leb (c * c) (5000 * q)) (ltb (9 * (c * c)) (5000 * q)) (leb (c * c) (200 * q)) refl refl refl
   where
-    go : (three four five : Bool) → leb (c * c) (5000 * q) ≡ three → ltb (9 * (c * c)) (5000 * q) ≡ four → leb (c * c) (200 * q) ≡ five → boolByte three + boolByte four + boolByte five + 2 ≡ cond five 5 (cond four 4 (cond three 3 2))
+    go : (three four five : Bool) → leb (c * c) (5000 * q) ≡ three → ltb (9 * (c * c)) (5000 * q) ≡ four → leb (c * c) (200 * q) ≡ five →
+        boolByte three + boolByte four + boolByte five + 2 ≡ cond five 5 (cond four 4 (cond three 3 2))
     go true true true x y z = refl
     go true true false x y z = refl
     go true false false x y z = refl

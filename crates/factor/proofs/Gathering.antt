@@ -84,10 +84,12 @@ module _ {rows cols : ℕ} {dir : List ℕ} (d : Directed rows cols dir) (side :
       ⊎-elim
       (λ e.
       let s = some-is (into z) 8 e in
-      let g : 1 ≤ gathered z = omega (arith, gathered-sides z h, greatest-ge 8 (λ k. when (into z k) (brings z (nb z k) + 1)) (s .0) (s .1), when-yes (brings z (nb z (s .0)) + 1) (s .2)) in
+      let one = greatest-ge 8 (λ k. when (into z k) (brings z (nb z k) + 1)) (s .0) (s .1) in
+      let g : 1 ≤ gathered z = omega (arith, gathered-sides z h, one, when-yes (brings z (nb z (s .0)) + 1) (s .2)) in
       rw (le-ltb (gathered z) 1 g, e) (ap (λ (m : ℕ). m - 1) (gathered-sides z h) ∙ greatest-less 8 (into z) (λ k. brings z (nb z k))))
       (λ e.
-      let g : gathered z ≡ 0 = omega (arith, gathered-sides z h, greatest-le 8 (λ k. when (into z k) (brings z (nb z k) + 1)) 0 (λ k i. omega (arith, when-no (brings z (nb z k) + 1) (none-at (into z) 8 k e i)))) in
+      let none = greatest-le 8 (λ k. when (into z k) (brings z (nb z k) + 1)) 0 (λ k i. omega (arith, when-no (brings z (nb z k) + 1) (none-at (into z) 8 k e i))) in
+      let g : gathered z ≡ 0 = omega (arith, gathered-sides z h, none) in
       rw (lt-ltb (gathered z) 1 (omega arith), e))
       (two (someOf (into z) 8))
 
@@ -106,19 +108,27 @@ module _ {rows cols : ℕ} {dir : List ℕ} (d : Directed rows cols dir) (side :
   -- and no inflow
   pub gathered-none : (z : ℕ) → z < n → valid z ≡ false → gathered z ≡ 0
   unfolding gatheredAt
-  gathered-none z h v =
-      omega (arith, greatest-le n (λ x. when (eqb (recv x) z) (brings z x + 1)) 0 (λ x l. ⊎-elim (λ t. let e = eqb-true (recv x) z t in absurd (true≢false (sym (pointing d .stays x (omega arith)) ∙ ap valid e ∙ v))) (λ t. omega (arith, when-no (brings z x + 1) t)) (two (eqb (recv x) z))))
+  gathered-none z h v = omega (arith, greatest-le n (λ x. when (eqb (recv x) z) (brings z x + 1)) 0 (λ x l. none x))
+    where
+      none : (x : ℕ) → when (eqb (recv x) z) (brings z x + 1) ≤ 0
+      none x =
+          ⊎-elim (λ t. let e = eqb-true (recv x) z t in absurd (true≢false (sym (pointing d .stays x (omega arith)) ∙ ap valid e ∙ v)))
+          (λ t. omega (arith, when-no (brings z x + 1) t)) (two (eqb (recv x) z))
 
   pub gathered-small : (z : ℕ) → gatheredAt rows cols side rules lv dir count z ≤ greatestLength
   unfolding gatheredAt
   gathered-small z =
-      greatest-le n (λ x. when (eqb (recv x) z) (brings z x + 1)) greatestLength (λ x l. omega (arith, when-under (eqb (recv x) z) (brings z x + 1), brought-le rows cols side rules lv dir z x (len x) 14900000000 (omega arith) (length-small d side rules lv count x)))
+      greatest-le n (λ x. when (eqb (recv x) z) (brings z x + 1)) greatestLength (λ x l. omega (arith, when-under (eqb (recv x) z) (brings z x + 1), one x))
+    where
+      one : (x : ℕ) → brings z x ≤ 14900000000 + 14142
+      one x = brought-le rows cols side rules lv dir z x (len x) 14900000000 (omega arith) (length-small d side rules lv count x)
 
   -- what a cell gives is what it brings to the cell that it points at
   given-is : (z x : ℕ) → z < n → recv x ≡ z → brings z x + 1 ≡ given x (gathered x)
   unfolding givenBy
   given-is z x h e =
-      sym (ap (λ (m : ℕ). broughtTo rows cols side rules lv dir (recv x) x m + 1) (final-is x (pointing d .from x (omega arith))) ∙ ap (λ (y : ℕ). broughtTo rows cols side rules lv dir y x (len x) + 1) e)
+      let whole = ap (λ (m : ℕ). broughtTo rows cols side rules lv dir (recv x) x m + 1) (final-is x (pointing d .from x (omega arith))) in
+      sym (whole ∙ ap (λ (y : ℕ). brings y x + 1) e)
 
   local : (z : ℕ) → z < n → gathered z ≡ greatestTo n (λ x. when (eqb (recv x) z) (given x (gathered x)))
   unfolding gatheredAt
@@ -127,5 +137,5 @@ module _ {rows cols : ℕ} {dir : List ℕ} (d : Directed rows cols dir) (side :
       (λ x l. when-ext (eqb (recv x) z) (brings z x + 1) (given x (gathered x)) (λ t. given-is z x h (eqb-true (recv x) z t)))
 
   -- it is handed on along the order
-  pub lengths-handed : Handed max greatestTo (rows * cols) (mappedAt rows cols dir) (receiverOf rows cols dir) (givenBy rows cols side rules lv dir count) (λ z. 0) (gatheredAt rows cols side rules lv dir count)
+  pub lengths-handed : Handed max greatestTo n valid recv given (λ z. 0) gathered
   lengths-handed = record { joins = greatest-joining; points = pointing d; local = (λ z h. omega (arith, local z h)) }

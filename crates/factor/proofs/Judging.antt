@@ -129,15 +129,20 @@ module _ (rows cols side : ℕ) (settings : Settings) (ground : List ℤ) (g : G
     pub first-workspace : length (g .workspace) ≡ rows * cols
     first-workspace = places .1 .1 .1 .1 .1 .1 .0
 
-    lent-places : AllLong (rows * cols) (terrainPlaces ground (lentOn g))
+    abbrev lent-on : List ℕ
+    lent-on = terrainPlaces ground (lentOn g)
+
+    lent-places : AllLong (rows * cols) lent-on
     lent-places = (places .0, (places .1 .0, (places .1 .1 .0, (places .1 .1 .1 .0, places .1 .1 .1 .1 .1))))
 
     -- if they are passed, the terrain layer's tests decide
     pub first-passes : judged rows cols side settings ground g ≡ terrainJudged rows cols ground (lentOn g)
     unfolding judged tests firstTests terrainJudged terrainTests
     first-passes =
-        let t = lengthTest (rows * cols) (terrainPlaces ground (lentOn g)) in
-        verdict-after (size ∷ long ∷ sided ∷ chosen ∷ []) (heights ∷ []) e ∙ sym (verdict-next (t ∷ heights ∷ []) (passed-size .0) ∙ verdict-next (heights ∷ []) (lengths-pass (rows * cols) (terrainPlaces ground (lentOn g)) (all-long (rows * cols) (terrainPlaces ground (lentOn g)) lent-places)))
+        let t = lengthTest (rows * cols) lent-on in
+        let passes = lengths-pass (rows * cols) lent-on (all-long (rows * cols) lent-on lent-places) in
+        verdict-after (size ∷ long ∷ sided ∷ chosen ∷ []) (heights ∷ []) e
+        ∙ sym (verdict-next (t ∷ heights ∷ []) (passed-size .0) ∙ verdict-next (heights ∷ []) passes)
 
   -- ---- the number of a refusal
 

@@ -74,7 +74,8 @@ module _ (rows cols side : ℕ) (rules : Rules) (lv dir : List ℕ) where
   pub brought-le : (z x a b : ℕ) → startLength ≤ b → a ≤ b → broughtTo rows cols side rules lv dir z x a ≤ b + 14142
   unfolding broughtTo
   brought-le z x a b l h =
-      amount-le (cutoffAt rows cols side rules lv dir z) (steepnessAt rows cols lv dir z) (steepnessAt rows cols lv dir x) (stepOver (sideOf (getD dir x 255))) a b (step-le (sideOf (getD dir x 255))) l h
+      let k = sideOf (getD dir x 255) in
+      amount-le (cutoffAt rows cols side rules lv dir z) (steepnessAt rows cols lv dir z) (steepnessAt rows cols lv dir x) (stepOver k) a b (step-le k) l h
 
 module _ {rows cols : ℕ} {dir : List ℕ} (d : Directed rows cols dir) (side : ℕ) (rules : Rules) (lv count : List ℕ) where
   abbrev size : ℕ
@@ -109,7 +110,7 @@ module _ {rows cols : ℕ} {dir : List ℕ} (d : Directed rows cols dir) (side :
   abbrev lengthBy : ℕ → ℕ → ℕ
   lengthBy z g = cond (mappedAt rows cols dir z) (cond (channelAt rows cols rules count z) 0 (cond (someOf (into z) 8) g startLength)) 0
 
-  pub from-is : (f : ℕ → ℕ) (z : ℕ) → lengthFrom rows cols side rules lv dir count f z ≡ cond (mappedAt rows cols dir z) (cond (channelAt rows cols rules count z) 0 (cond (someOf (intoAt rows cols dir z) 8) (most f z) startLength)) 0
+  pub from-is : (f : ℕ → ℕ) (z : ℕ) → lengthFrom rows cols side rules lv dir count f z ≡ lengthBy z (most f z)
   unfolding lengthFrom
   from-is f z = refl
 
@@ -122,9 +123,10 @@ module _ {rows cols : ℕ} {dir : List ℕ} (d : Directed rows cols dir) (side :
   -- it depends on the inflows alone, and is at most one step more than a bound of theirs
   from-ext : (f g : ℕ → ℕ) (z : ℕ) → ((k : ℕ) → into z k ≡ true → f (nb z k) ≡ g (nb z k)) → from f z ≡ from g z
   from-ext f g z h =
-      from-is f z
-      ∙ ap (lengthBy z) (greatest-ext 8 (λ k. when (into z k) (brings f z k)) (λ k. when (into z k) (brings g z k)) (λ k l. when-ext (into z k) (brings f z k) (brings g z k) (λ e. ap (broughtTo rows cols side rules lv dir z (nb z k)) (h k e))))
-      ∙ sym (from-is g z)
+      from-is f z ∙ ap (lengthBy z) (greatest-ext 8 (λ k. when (into z k) (brings f z k)) (λ k. when (into z k) (brings g z k)) (λ k l. same k)) ∙ sym (from-is g z)
+    where
+      same : (k : ℕ) → when (into z k) (brings f z k) ≡ when (into z k) (brings g z k)
+      same k = when-ext (into z k) (brings f z k) (brings g z k) (λ e. ap (broughtTo rows cols side rules lv dir z (nb z k)) (h k e))
 
   from-le : (f : ℕ → ℕ) (z b : ℕ) → startLength ≤ b → ((y : ℕ) → f y ≤ b) → from f z ≤ b + 14142
   from-le f z b l h =
@@ -132,8 +134,11 @@ module _ {rows cols : ℕ} {dir : List ℕ} (d : Directed rows cols dir) (side :
         arith,
         from-is f z,
         by-le (mappedAt rows cols dir z) (channelAt rows cols rules count z) (someOf (into z) 8) (most f z) (b + 14142)
-            (greatest-le 8 (λ k. when (into z k) (brings f z k)) (b + 14142) (λ k i. omega (arith, when-under (into z k) (brings f z k), brought-le rows cols side rules lv dir z (nb z k) (f (nb z k)) b l (h (nb z k))))) (omega arith),
+            (greatest-le 8 (λ k. when (into z k) (brings f z k)) (b + 14142) (λ k i. omega (arith, when-under (into z k) (brings f z k), one k))) (omega arith),
       )
+    where
+      one : (k : ℕ) → brings f z k ≤ b + 14142
+      one k = brought-le rows cols side rules lv dir z (nb z k) (f (nb z k)) b l (h (nb z k))
 
   -- ---- the length of a cell from its inflows' lengths
 

@@ -31,7 +31,8 @@ pub brought-small : (side : ℕ) (rules : Rules) (k p q len : ℕ) → len ≤ g
 unfolding broughtBy
 brought-small side rules k p q len h = amount-le (cutoffFor (rules .low) (rules .high) side q) q p (stepOver k) len greatestLength (step-le k) (omega arith) h
 
-module _ (terms : Terms) (dir count lengths factors : List ℕ) (x : ℕ) {len f p : ℕ} (l : len ≡ lengthNow terms dir count lengths factors x) (s : p ≡ steepnessOf (getD factors x 0)) (e : f ≡ factorOf (terms .side) p len) where
+module _ (terms : Terms) (dir count lengths factors : List ℕ) (x : ℕ) {len f p : ℕ} (l : len ≡ lengthNow terms dir count lengths factors x)
+    (s : p ≡ steepnessOf (getD factors x 0)) (e : f ≡ factorOf (terms .side) p len) where
   factors-now : set factors x f ≡ set factors x (factorOf (terms .side) (steepnessOf (getD factors x 0)) (lengthNow terms dir count lengths factors x))
   factors-now = ap (set factors x) (e ∙ ap₂ (factorOf (terms .side)) s l)
 
