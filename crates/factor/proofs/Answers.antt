@@ -16,7 +16,7 @@ use Rattle.terrain.specs.Filled.{filledLevels}
 use Rattle.terrain.specs.Trail.{countsOf, longestOf}
 use Rattle.terrain.specs.Falls.{fallsOf}
 use Rattle.terrain.specs.Drainage.{Drainage}
-use Rattle.terrain.specs.Answers.{Mapped, After, validOf, directionOf}
+use Rattle.terrain.specs.Answers.{Mapped, After, groundValids, groundDirections}
 use Rattle.terrain.specs.Answers as terrain
 use Rattle.terrain.specs.declared.Answer as Drained
 use Rattle.terrain.specs.declared.Answer.the-variants as drained
@@ -41,9 +41,9 @@ returned t lengths factors workspace = lent (t .filled) (t .direction) (t .count
 -- what the terrain layer tells by accepting
 record Accepting (rows cols : ℕ) (ground : List ℤ) (g t : terrain.Grids) (valid longest : ℕ) : Type 0 where
   passes : terrain.judged rows cols ground g ≡ passed
-  mapped : Mapped rows cols ground (directionOf rows cols ground) t
-  valid-is : valid ≡ validOf rows cols ground
-  longest-is : longest ≡ longestOf rows cols (directionOf rows cols ground)
+  mapped : Mapped rows cols ground (groundDirections rows cols ground) t
+  valid-is : valid ≡ groundValids rows cols ground
+  longest-is : longest ≡ longestOf rows cols (groundDirections rows cols ground)
 
 module _ (rows cols side : ℕ) (settings : Settings) (ground : List ℤ) (g : Grids) where
   abbrev first : Test
@@ -112,7 +112,7 @@ module _ (rows cols side : ℕ) (settings : Settings) (ground : List ℤ) (g : G
       lv = filledLevels rows cols ground
 
       abbrev dir : List ℕ
-      dir = directionOf rows cols ground
+      dir = groundDirections rows cols ground
 
       ready : Ready rows cols ground
       ready = passed-ready rows cols ground (lentOn g) (found .passes)
@@ -127,7 +127,7 @@ module _ (rows cols side : ℕ) (settings : Settings) (ground : List ℤ) (g : G
             capped = (λ x. omega (arith, filled-small rows cols ground ready x));
             side-some = s .0;
             side-small = s .1;
-            count-long = ap length (m .count-is) ∙ counts-long rows cols (directionOf rows cols ground);
+            count-long = ap length (m .count-is) ∙ counts-long rows cols (groundDirections rows cols ground);
             order-is = rw (m .direction-is, found .valid-is) (m .order);
             lengths-long = first-lengths rows cols side settings ground g e;
             falls-are = m .falls-are ∙ ap (fallsOf rows cols lv) (sym (m .direction-is));
@@ -145,7 +145,7 @@ module _ (rows cols side : ℕ) (settings : Settings) (ground : List ℤ) (g : G
           let leaves = grids-are ∙ sym (ap (gridsOf rows cols side settings ground g) j) in
           (answers, (leaves, ((λ x. n .trails), ((λ x. n .totals), (λ x. n .surface)))))
         where
-          answer-is : Accepted valid longest ≡ Accepted (validOf rows cols ground) (longestOf rows cols dir)
+          answer-is : Accepted valid longest ≡ Accepted (groundValids rows cols ground) (longestOf rows cols dir)
           answer-is = ap₂ Accepted (found .valid-is) (found .longest-is)
 
           count-is : t .count ≡ countsOf rows cols dir

@@ -14,7 +14,7 @@ use Rattle.laws.specs.Sums.{greatestTo, when}
 use Rattle.laws.proofs.Lists.{length-tab, getD-tab}
 use Rattle.laws.proofs.Sums.{when-ext, when-under, greatest-ext, greatest-le}
 use Rattle.settings.specs.declared.Rules.{Rules}
-use Rattle.terrain.specs.Cells.{neighbour, sideOf, cardinal}
+use Rattle.terrain.specs.Cells.{neighbour, bearingOf, cardinal}
 use Rattle.terrain.specs.Trail.{mappedAt, stepsIn, intoAt}
 use Rattle.terrain.specs.InnerTrail.{Directed}
 use Rattle.terrain.proofs.Public.{steps-le, into-above}
@@ -74,7 +74,7 @@ module _ (rows cols side : ℕ) (rules : Rules) (lv dir : List ℕ) where
   pub brought-le : (z x a b : ℕ) → startLength ≤ b → a ≤ b → broughtTo rows cols side rules lv dir z x a ≤ b + 14142
   unfolding broughtTo
   brought-le z x a b l h =
-      let k = sideOf (getD dir x 255) in
+      let k = bearingOf (getD dir x 255) in
       amount-le (cutoffAt rows cols side rules lv dir z) (steepnessAt rows cols lv dir z) (steepnessAt rows cols lv dir x) (stepOver k) a b (step-le k) l h
 
 module _ {rows cols : ℕ} {dir : List ℕ} (d : Directed rows cols dir) (side : ℕ) (rules : Rules) (lv count : List ℕ) where

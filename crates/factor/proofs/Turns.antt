@@ -12,7 +12,7 @@ use Rattle.terrain.specs.InnerCells.{besideOf}
 use Rattle.factor.specs.Cell.{factorOf}
 use Rattle.factor.specs.Inflow.{cutoffFor, startLength, stepOver}
 use Rattle.factor.specs.Inner.{greatestLength, steepnessOf, finalLength, broughtBy}
-use Rattle.factor.specs.InnerPass.{Ruled, compassAt, lengthNow, amountNow, lengthsNext, Turned}
+use Rattle.factor.specs.InnerPass.{Ruled, bearingAt, lengthNow, amountNow, lengthsNext, Turned}
 use Rattle.factor.specs.declared.pass.Terms.{Terms}
 use Rattle.factor.proofs.Lengths.{step-le, amount-le}
 
@@ -36,25 +36,25 @@ module _ (terms : Terms) (dir count lengths factors : List ℕ) (x : ℕ) {len f
   factors-now : set factors x f ≡ set factors x (factorOf (terms .side) (steepnessOf (getD factors x 0)) (lengthNow terms dir count lengths factors x))
   factors-now = ap (set factors x) (e ∙ ap₂ (factorOf (terms .side)) s l)
 
-  pub turned-off : 8 ≤ compassAt dir x → Turned terms dir count lengths factors x (set lengths x len) (set factors x f)
+  pub turned-off : 8 ≤ bearingAt dir x → Turned terms dir count lengths factors x (set lengths x len) (set factors x f)
   turned-off h = record { factors-are = factors-now; leaves = (λ k. ap (set lengths x) l); hands-on = (λ rules r k. absurd (omega arith)) }
 
-  module _ {y q b m : ℕ} (i : y ≡ besideOf (terms .columns) x (compassAt dir x)) (d : y ≡ x → ⊥) (g : q ≡ steepnessOf (getD (set factors x f) y 0))
-      (a : (rules : Rules) → Ruled rules terms → b ≡ broughtBy (terms .side) rules (compassAt dir x) p q len)
+  module _ {y q b m : ℕ} (i : y ≡ besideOf (terms .columns) x (bearingAt dir x)) (d : y ≡ x → ⊥) (g : q ≡ steepnessOf (getD (set factors x f) y 0))
+      (a : (rules : Rules) → Ruled rules terms → b ≡ broughtBy (terms .side) rules (bearingAt dir x) p q len)
       (o : m ≡ max (getD (set lengths x len) y 0) (b + 1)) where
     module _ (rules : Rules) (r : Ruled rules terms) where
       amount-is : b ≡ amountNow terms dir count lengths factors x rules y
       amount-is =
-          a rules r ∙ ap (λ (u : ℕ). broughtBy (terms .side) rules (compassAt dir x) u q len) s
-          ∙ ap₂ (broughtBy (terms .side) rules (compassAt dir x) (steepnessOf (getD factors x 0))) (g ∙ ap steepnessOf (getD-set-other factors x y f 0 d)) l
+          a rules r ∙ ap (λ (u : ℕ). broughtBy (terms .side) rules (bearingAt dir x) u q len) s
+          ∙ ap₂ (broughtBy (terms .side) rules (bearingAt dir x) (steepnessOf (getD factors x 0))) (g ∙ ap steepnessOf (getD-set-other factors x y f 0 d)) l
 
       amount-max : m ≡ max (getD lengths y 0) (amountNow terms dir count lengths factors x rules y + 1)
       amount-max = o ∙ ap₂ max (getD-set-other lengths x y len 0 d) (ap (λ (u : ℕ). u + 1) amount-is)
 
-      there : set (set lengths x len) y m ≡ lengthsNext terms dir count lengths factors x rules (besideOf (terms .columns) x (compassAt dir x))
+      there : set (set lengths x len) y m ≡ lengthsNext terms dir count lengths factors x rules (besideOf (terms .columns) x (bearingAt dir x))
       there = ap₂ (λ (u v : ℕ). set (set lengths x u) y v) l amount-max ∙ ap (lengthsNext terms dir count lengths factors x rules) i
 
-    pub turned-on : compassAt dir x < 8 → Turned terms dir count lengths factors x (set (set lengths x len) y m) (set factors x f)
+    pub turned-on : bearingAt dir x < 8 → Turned terms dir count lengths factors x (set (set lengths x len) y m) (set factors x f)
     turned-on h =
         record {
           factors-are = factors-now;

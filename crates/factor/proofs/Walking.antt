@@ -19,21 +19,21 @@ use Rattle.laws.proofs.Sums.{when-yes, when-no}
 use Rattle.laws.proofs.Orders.{stands-none, stands-more, order-cell, order-new}
 use Rattle.laws.proofs.Handing.{hand-start, hand-next, turn-off, turn-on, turn-stored, next-whole, next-turn, hand-all, hand-rest}
 use Rattle.settings.specs.declared.Rules.{Rules}
-use Rattle.terrain.specs.Cells.{sideOf}
+use Rattle.terrain.specs.Cells.{bearingOf}
 use Rattle.terrain.specs.Trail.{mappedAt, flowsAt, nextAt, receiverOf}
 use Rattle.terrain.specs.Filled.{top}
 use Rattle.terrain.specs.InnerCells.{besideOf}
 use Rattle.terrain.specs.Falls.{noFall, fallOf, dropAt, fallAt, fallsOf}
 use Rattle.terrain.specs.InnerTrail.{Directed}
 use Rattle.terrain.specs.Downhill.{Downhill}
-use Rattle.terrain.proofs.Public.{beside-is, beside-room, mapped-is, pointing, code-read, receiver-leaves, receiver-beside, receiver-side, receiver-near}
+use Rattle.terrain.proofs.Public.{beside-is, beside-room, mapped-is, pointing, code-read, receiver-leaves, receiver-beside, receiver-bearing, receiver-near}
 use Rattle.factor.specs.Slope.{steepnessAt}
 use Rattle.factor.specs.Channel.{channelAt}
 use Rattle.factor.specs.Length.{cutoffAt, broughtTo, lengthsOf}
 use Rattle.factor.specs.Cell.{factorOf}
 use Rattle.factor.specs.Grid.{factorAt, factorsOf}
 use Rattle.factor.specs.Inner.{greatestFall, steepnessOf, finalLength, leftBy, broughtBy}
-use Rattle.factor.specs.InnerPass.{Ruled, compassAt, Turning, lengthNow, amountNow, lengthsNext, Turned, Measuring}
+use Rattle.factor.specs.InnerPass.{Ruled, bearingAt, Turning, lengthNow, amountNow, lengthsNext, Turned, Measuring}
 use Rattle.factor.specs.declared.pass.Terms.{Terms}
 use Rattle.factor.proofs.Slopes.{fall-steepness, fall-small}
 use Rattle.factor.proofs.Lengths.{lengths-long, lengths-at}
@@ -69,7 +69,7 @@ module _ (rows cols : ℕ) (lv dir : List ℕ) (capped : (x : ℕ) → getD lv x
       go true = omega (arith, capped x)
       go false = omega arith
 
-  fall-valid : (x : ℕ) → mappedAt rows cols dir x ≡ true → fallAt rows cols lv dir x ≡ fallOf (sideOf (getD dir x 255)) (dropAt rows cols lv dir x)
+  fall-valid : (x : ℕ) → mappedAt rows cols dir x ≡ true → fallAt rows cols lv dir x ≡ fallOf (bearingOf (getD dir x 255)) (dropAt rows cols lv dir x)
   unfolding fallAt
   fall-valid x v = rw v
 
@@ -80,7 +80,7 @@ module _ (rows cols : ℕ) (lv dir : List ℕ) (capped : (x : ℕ) → getD lv x
   pub valid-fall : {f : ℕ} (x : ℕ) → mappedAt rows cols dir x ≡ true → f ≡ fallAt rows cols lv dir x → (f ≤ greatestFall) × (steepnessOf f ≡ steepnessAt rows cols lv dir x)
   unfolding steepnessAt
   valid-fall {f} x v e =
-      let k = sideOf (getD dir x 255) in
+      let k = bearingOf (getD dir x 255) in
       let q = e ∙ fall-valid x v in
       (omega (arith, q, fall-small k (dropAt rows cols lv dir x) (drop-le x)), ap steepnessOf q ∙ fall-steepness k (dropAt rows cols lv dir x))
 
@@ -139,10 +139,10 @@ module _ {rows : ℕ} {lv dir count order : List ℕ} {places : ℕ} {rules : Ru
     here-final : lengthNow terms dir count lengths factors x ≡ final x
     here-final = here-length ∙ final-is (c .directed) (terms .side) rules lv count x here-valid
 
-    module _ (k : compassAt dir x < 8) where
+    module _ (k : bearingAt dir x < 8) where
       -- the cell that it points at
-      next-is : besideOf cols x (compassAt dir x) ≡ to x
-      next-is = beside-is rows cols x (compassAt dir x) (receiver-near (c .directed) x here-in code-some k) ∙ receiver-beside (c .directed) x here-in code-some k
+      next-is : besideOf cols x (bearingAt dir x) ≡ to x
+      next-is = beside-is rows cols x (bearingAt dir x) (receiver-near (c .directed) x here-in code-some k) ∙ receiver-beside (c .directed) x here-in code-some k
 
       next-in : to x < size
       next-in = omega (arith, receiver-near (c .directed) x here-in code-some k, receiver-beside (c .directed) x here-in code-some k)
@@ -153,7 +153,7 @@ module _ {rows : ℕ} {lv dir count order : List ℕ} {places : ℕ} {rules : Ru
       -- what it hands on
       here-given : amountNow terms dir count lengths factors x rules (to x) + 1 ≡ givenBy rows cols (terms .side) rules lv dir count x (whole x)
       unfolding givenBy broughtTo broughtBy cutoffAt
-      here-given = rw (here-fall .1, next-fall .1, receiver-side (c .directed) x here-in code-some k, here-length)
+      here-given = rw (here-fall .1, next-fall .1, receiver-bearing (c .directed) x here-in code-some k, here-length)
 
     pub walk-turning : Turning terms dir count lengths factors x
     walk-turning =
@@ -170,7 +170,7 @@ module _ {rows : ℕ} {lv dir count order : List ℕ} {places : ℕ} {rules : Ru
           factors-few = omega (arith, w .factors-long, c .directed .sized .small);
           fall-small = here-fall .0;
           gathered-small = omega (arith, here-whole, gathered-small (c .directed) (terms .side) rules lv count x);
-          beside-room = (λ k. beside-room rows cols x (compassAt dir x) (c .directed .sized) (omega (arith, here-in, c .directed .sized .small)) k (receiver-near (c .directed) x here-in code-some k));
+          beside-room = (λ k. beside-room rows cols x (bearingAt dir x) (c .directed .sized) (omega (arith, here-in, c .directed .sized .small)) k (receiver-near (c .directed) x here-in code-some k));
           next-other = (λ k q. pointing (c .directed) .apart x (next-in k) (sym (next-is k) ∙ q));
           next-lengths = (λ k. omega (arith, next-is k, next-in k, w .handing .long));
           next-factors = (λ k. omega (arith, next-is k, next-in k, w .factors-long));
@@ -187,14 +187,14 @@ module _ {rows : ℕ} {lv dir count order : List ℕ} {places : ℕ} {rules : Ru
       turn-of : Turns lengths lengths′ x
       turn-of =
           turn-stored handed now
-          (elim (decLt (compassAt dir x) 8) [
+          (elim (decLt (bearingAt dir x) 8) [
             | yes k ↦ subst (λ (l : List ℕ). Turns (set lengths x now) l x) (sym (on k))
                 (turn-on handed (length-set lengths x now ∙ w .handing .long) (next-in k) stored (ap₂ max (sym (getD-set-other lengths x (to x) now 0 (pointing (c .directed) .apart x (next-in k)))) (here-given k)))
             | no f ↦ subst (λ (l : List ℕ). Turns (set lengths x now) l x) (sym (t .leaves (omega arith)))
                 (turn-off handed (omega (arith, receiver-leaves (c .directed) x here-in (omega arith))) stored)
           ])
         where
-          on : (k : compassAt dir x < 8) → lengths′ ≡ lengthsNext terms dir count lengths factors x rules (to x)
+          on : (k : bearingAt dir x < 8) → lengths′ ≡ lengthsNext terms dir count lengths factors x rules (to x)
           on k = t .hands-on rules (c .ruled) k ∙ ap (lengthsNext terms dir count lengths factors x rules) (next-is k)
 
       stands : (z : ℕ) → standsIn order (p + 1) z ≡ standsIn order p z + when (eqb x z) 1

@@ -13,7 +13,7 @@ use Rattle.settings.specs.declared.Rules.{Rules}
 use Rattle.settings.specs.Settings.{rulesOf, settingsTest}
 use Rattle.terrain.specs.Filled.{filledLevels, filledOf}
 use Rattle.terrain.specs.Trail.{countsOf, longestOf}
-use Rattle.terrain.specs.Answers.{validOf, directionOf}
+use Rattle.terrain.specs.Answers.{groundValids, groundDirections}
 use Rattle.factor.specs.Length.{lengthsOf}
 use Rattle.factor.specs.Grid.{factorsOf}
 use Rattle.factor.specs.declared.Answer.{Answer}
@@ -67,14 +67,14 @@ mapOf rows cols side rules ground dir =
 
 -- "The answer also gives the number of valid cells and the longest trail"; a refusal has number and place
 unfoldable pub answerOf : ℕ → ℕ → List ℤ → Test → Answer
-unfolding validOf directionOf longestOf
-answerOf rows cols ground passed = let dir = directionOf rows cols ground in Accepted (validOf rows cols ground) (longestOf rows cols dir)
+unfolding groundValids groundDirections longestOf
+answerOf rows cols ground passed = let dir = groundDirections rows cols ground in Accepted (groundValids rows cols ground) (longestOf rows cols dir)
 answerOf rows cols ground (failed number place) = Refused (record { number = number; place = place })
 
 -- "A refusal changes no lent grid."
 unfoldable pub gridsOf : ℕ → ℕ → ℕ → Settings → List ℤ → Grids → Test → Grids
-unfolding rulesOf directionOf mapOf
-gridsOf rows cols side settings ground g passed = let dir = directionOf rows cols ground in mapOf rows cols side (rulesOf settings) ground dir
+unfolding rulesOf groundDirections mapOf
+gridsOf rows cols side settings ground g passed = let dir = groundDirections rows cols ground in mapOf rows cols side (rulesOf settings) ground dir
 gridsOf rows cols side settings ground g (failed number place) = g
 
 -- the whole of the map call

@@ -15,7 +15,7 @@ use Rattle.factor.specs.Inflow.{cutoffFor, startLength, stepOver, amount
 use Rattle.factor.specs.LengthFactor.{greatestMm, reached}
 use Rattle.terrain.specs.Filled.{top}
 use Rattle.terrain.specs.Drainage.{Trails, Totals, Surface}
-use Rattle.terrain.specs.Answers.{validOf}
+use Rattle.terrain.specs.Answers.{groundValids}
 use Rattle.factor.specs.Answers.{Grids, placesOf, answer, after, accepts, told}
 use Rattle.factor.specs.declared.Answer.{Answer}
 use Rattle.factor.specs.declared.judge.Judgement.{Judgement}

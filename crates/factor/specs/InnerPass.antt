@@ -23,9 +23,9 @@ pub record Ruled (rules : Rules) (terms : Terms) : Type 0 where
 
 -- ---- the turn of one cell
 
--- the compass side, 0 to 7, that the code of x points at; 8 for 0
-abbrev pub compassAt : List ℕ → ℕ → ℕ
-compassAt dir x = trailingZeros 8 (getD dir x 0)
+-- the bearing, 0 to 7, that the code of x points at; 8 for 0
+abbrev pub bearingAt : List ℕ → ℕ → ℕ
+bearingAt dir x = trailingZeros 8 (getD dir x 0)
 
 -- the terms are those of some rules; the cell x, and the cell that it points at, have small falls and gathered amounts, and places in every grid
 pub record Turning (terms : Terms) (dir count lengths factors : List ℕ) (x : ℕ) : Type 0 where
@@ -41,11 +41,11 @@ pub record Turning (terms : Terms) (dir count lengths factors : List ℕ) (x : �
   pub factors-few : length factors ≤ 1048576
   pub fall-small : getD factors x 0 ≤ greatestFall
   pub gathered-small : getD lengths x 0 ≤ greatestLength
-  pub beside-room : compassAt dir x < 8 → Beside (terms .columns) x (compassAt dir x)
-  pub next-other : compassAt dir x < 8 → besideOf (terms .columns) x (compassAt dir x) ≡ x → ⊥
-  pub next-lengths : compassAt dir x < 8 → besideOf (terms .columns) x (compassAt dir x) < length lengths
-  pub next-factors : compassAt dir x < 8 → besideOf (terms .columns) x (compassAt dir x) < length factors
-  pub next-small : compassAt dir x < 8 → getD factors (besideOf (terms .columns) x (compassAt dir x)) 0 ≤ greatestFall
+  pub beside-room : bearingAt dir x < 8 → Beside (terms .columns) x (bearingAt dir x)
+  pub next-other : bearingAt dir x < 8 → besideOf (terms .columns) x (bearingAt dir x) ≡ x → ⊥
+  pub next-lengths : bearingAt dir x < 8 → besideOf (terms .columns) x (bearingAt dir x) < length lengths
+  pub next-factors : bearingAt dir x < 8 → besideOf (terms .columns) x (bearingAt dir x) < length factors
+  pub next-small : bearingAt dir x < 8 → getD factors (besideOf (terms .columns) x (bearingAt dir x)) 0 ≤ greatestFall
 
 -- the length of the cell x, and its amount for the cell y by these rules, by the lists at its turn
 module _ (terms : Terms) (dir count lengths factors : List ℕ) (x : ℕ) where
@@ -53,7 +53,7 @@ module _ (terms : Terms) (dir count lengths factors : List ℕ) (x : ℕ) where
   lengthNow = finalLength (ltb (terms .most) (getD count x 0)) (getD lengths x 0)
 
   abbrev pub amountNow : Rules → ℕ → ℕ
-  amountNow rules y = broughtBy (terms .side) rules (compassAt dir x) (steepnessOf (getD factors x 0)) (steepnessOf (getD factors y 0)) lengthNow
+  amountNow rules y = broughtBy (terms .side) rules (bearingAt dir x) (steepnessOf (getD factors x 0)) (steepnessOf (getD factors y 0)) lengthNow
 
   -- the lengths once it has handed on to the cell y
   abbrev pub lengthsNext : Rules → ℕ → List ℕ
@@ -62,8 +62,8 @@ module _ (terms : Terms) (dir count lengths factors : List ℕ) (x : ℕ) where
   -- the lists after its turn
   pub record Turned (lengths′ factors′ : List ℕ) : Type 0 where
     pub factors-are : factors′ ≡ set factors x (factorOf (terms .side) (steepnessOf (getD factors x 0)) lengthNow)
-    pub leaves : 8 ≤ compassAt dir x → lengths′ ≡ set lengths x lengthNow
-    pub hands-on : (rules : Rules) → Ruled rules terms → compassAt dir x < 8 → lengths′ ≡ lengthsNext rules (besideOf (terms .columns) x (compassAt dir x))
+    pub leaves : 8 ≤ bearingAt dir x → lengths′ ≡ set lengths x lengthNow
+    pub hands-on : (rules : Rules) → Ruled rules terms → bearingAt dir x < 8 → lengths′ ≡ lengthsNext rules (besideOf (terms .columns) x (bearingAt dir x))
 
 -- ---- the pass
 

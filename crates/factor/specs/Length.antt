@@ -7,7 +7,7 @@ use Rattle.laws.specs.Lists.{tab}
 use Rattle.laws.specs.First.{someOf}
 use Rattle.laws.specs.Sums.{greatestTo, when}
 use Rattle.settings.specs.declared.Rules.{Rules}
-use Rattle.terrain.specs.Cells.{neighbour, sideOf}
+use Rattle.terrain.specs.Cells.{neighbour, bearingOf}
 use Rattle.terrain.specs.Trail.{mappedAt, intoAt}
 use Rattle.factor.specs.Slope.{steepnessAt}
 use Rattle.factor.specs.Channel.{channelAt}
@@ -21,8 +21,8 @@ module _ (rows cols side : ℕ) (rules : Rules) (lv dir : List ℕ) where
 
   -- what the cell x brings to the cell z, if it points at z and its length is len
   unfoldable pub broughtTo : ℕ → ℕ → ℕ → ℕ
-  unfolding sideOf steepnessAt cutoffAt amountOf stepOver
-  broughtTo z x len = amountOf (cutoffAt z) (steepnessAt rows cols lv dir z) (steepnessAt rows cols lv dir x) (stepOver (sideOf (getD dir x 255))) len
+  unfolding bearingOf steepnessAt cutoffAt amountOf stepOver
+  broughtTo z x len = amountOf (cutoffAt z) (steepnessAt rows cols lv dir z) (steepnessAt rows cols lv dir x) (stepOver (bearingOf (getD dir x 255))) len
 
 module _ (rows cols side : ℕ) (rules : Rules) (lv dir count : List ℕ) where
   -- the length of z by the lengths f of its inflows: "The greatest amount is the length." A channel and a NoData cell have 0.

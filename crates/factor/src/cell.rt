@@ -13,7 +13,7 @@ use crate::thresholds::Lists;
 const GREATEST_MM: u64 = 304800;
 
 // What a longer one has in its place.
-const TOO_LONG: u32 = 4294967294;
+pub const TOO_LONG: u32 = 4294967294;
 
 // S in thousandths, for a cell of this fall and steepness q.
 fn steepness_factor(side: u32, q: u64, fall: u32, guesses: &mut Guesses) -> u64

@@ -17,6 +17,7 @@ mod sine;
 mod slope;
 mod thresholds;
 
+pub use cell::TOO_LONG;
 pub use settings::Channel;
 pub use settings::Settings;
 ghost use mathlib.Core.Path.{_≡_};

@@ -7,7 +7,7 @@ use Rattle.settings.specs.declared.Threshold.{Threshold}
 use Rattle.settings.specs.declared.Threshold.the-variants.{Share, Over, Never}
 use Rattle.settings.specs.declared.Rules.{Rules}
 use Rattle.terrain.specs.Cells.{noData}
-use Rattle.terrain.specs.Answers.{directionOf}
+use Rattle.terrain.specs.Answers.{groundDirections}
 use Rattle.factor.specs.LengthFactor.{lengthFactor}
 use Rattle.factor.specs.Cell.{tooLong, factorOf}
 use Rattle.factor.specs.Answers.{mapOf}
@@ -96,6 +96,6 @@ edges =
     []
 
 pub edges-hold : All edges
-unfolding edges directionOf mapOf lengthFactor factorOf
+unfolding edges groundDirections mapOf lengthFactor factorOf
 edges-hold =
     (refl, (refl, (refl, (refl, (refl, (refl, (refl, (refl, (refl, (refl, (refl, (refl, (refl, (refl, (refl, (refl, (refl, (refl, (refl, (refl, (refl, (refl, (refl, (refl, (refl, (refl, (refl, (refl, (refl, (refl, (refl, (refl, (refl, tt)))))))))))))))))))))))))))))))))

@@ -8,7 +8,7 @@ use Rattle.settings.specs.declared.Channel.the-variants.{NoChannel}
 use Rattle.settings.specs.declared.Settings.{Settings}
 use Rattle.settings.specs.declared.Rules.{Rules}
 use Rattle.settings.specs.Settings.{quotient}
-use Rattle.terrain.specs.Answers.{directionOf}
+use Rattle.terrain.specs.Answers.{groundDirections}
 use Rattle.factor.specs.Exponent.{exponentOf}
 use Rattle.factor.specs.LengthFactor.{lengthFactor}
 use Rattle.factor.specs.Cell.{factorOf}
@@ -58,7 +58,7 @@ Holds (mapped rows cols side given ground m) =
     × (after rows cols side given ground (lent (rows * cols)) ≡ record { filled = m .filled; direction = m .direction; count = m .count; lengths = m .lengths; factors = m .factors; workspace = replicate (rows * cols) 0 })
 Holds (refusedAt rows cols side given ground number place) =
     (answer rows cols side given ground (lent 2) ≡ Refused (record { number = number; place = place })) × (after rows cols side given ground (lent 2) ≡ lent 2)
-Holds (measured rows cols side rules ground lengths) = (let dir = directionOf rows cols ground in mapOf rows cols side rules ground dir .lengths) ≡ lengths
+Holds (measured rows cols side rules ground lengths) = (let dir = groundDirections rows cols ground in mapOf rows cols side rules ground dir .lengths) ≡ lengths
 Holds (reaches k mm t) = lengthFactor k mm ≡ t
 Holds (east drop k) = exponentOf 1000 (2 * (drop * drop)) ≡ k
 Holds (factored q length ls) = factorOf 1000 q length ≡ ls

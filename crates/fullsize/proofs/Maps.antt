@@ -6,7 +6,7 @@ use Prim.Native.Nat.{ℕ}
 use lib.IntN.{ℤ}
 use Rattle.laws.specs.Tests.{Test, passed, failed}
 use Rattle.settings.specs.declared.Settings.{Settings}
-use Rattle.terrain.specs.Answers.{validOf}
+use Rattle.terrain.specs.Answers.{groundValids}
 use Rattle.factor.specs.Answers.{Grids, judged, answerOf, answer, after, Numbers, told, accepts}
 use Rattle.factor.specs.declared.Answer.{Answer}
 use Rattle.factor.proofs.Judging.{number-some}
@@ -20,11 +20,11 @@ module _ (rows cols side : ℕ) (ground : List ℤ) (g : Grids) {s t : Settings}
 
 module _ (rows cols side : ℕ) (settings : Settings) (ground : List ℤ) (g : Grids) where
   -- the number of valid cells that an accepted call answers
-  accepted-valids : accepts (answer rows cols side settings ground g) ≡ true → told (answer rows cols side settings ground g) .valids ≡ validOf rows cols ground
+  accepted-valids : accepts (answer rows cols side settings ground g) ≡ true → told (answer rows cols side settings ground g) .valids ≡ groundValids rows cols ground
   unfolding answer answerOf
   accepted-valids = go (judged rows cols side settings ground g)
     where
-      go : (t : Test) → accepts (answerOf rows cols ground t) ≡ true → told (answerOf rows cols ground t) .valids ≡ validOf rows cols ground
+      go : (t : Test) → accepts (answerOf rows cols ground t) ≡ true → told (answerOf rows cols ground t) .valids ≡ groundValids rows cols ground
       go passed y = refl
       go (failed number place) y = absurd (true≢false (sym y))
 
@@ -39,5 +39,5 @@ module _ (rows cols side : ℕ) (settings : Settings) (ground : List ℤ) (g : G
     pub accepts-of : accepts a ≡ true
     accepts-of = ap accepts p ∙ accepted
 
-    pub valids-of : {total : ℕ} → total ≡ validOf rows cols ground → total ≡ n .valids
+    pub valids-of : {total : ℕ} → total ≡ groundValids rows cols ground → total ≡ n .valids
     valids-of t = t ∙ sym (ap (λ (x : Numbers). x .valids) told-is ∙ accepted-valids accepted)

@@ -11,7 +11,7 @@ use Rattle.text.specs.Reader.{Step, Reader, got, refused, after, _>>=_, give, c
 use Rattle.text.specs.Quantities.{extentIn}
 use Rattle.text.specs.Bytes.{bytes}
 use Rattle.text.specs.Words.{word}
-use Rattle.text.specs.Numbers.{countAt, read, count}
+use Rattle.text.specs.Numbers.{countFormAt, read, count}
 use Rattle.text.specs.Headers.{Extent, Header, name, side, field, noData, extent, corners, sideAndNoData, header}
 use Rattle.text.specs.Answers.{headerOutcome, headerAnswer}
 
@@ -48,7 +48,7 @@ gives-check false n p = record { passes = λ s i. tt }
 
 count-in : Gives (λ (n : ℕ). extentIn n ≡ true) count
 unfolding count
-count-in = gives-last word (λ w. gives-last (read countAt w) (λ n. gives-then (check (extentIn n) 1 (w .start)) (gives-check (extentIn n) 1 (w .start)) (λ u h. gives-give h)))
+count-in = gives-last word (λ w. gives-last (read countFormAt w) (λ n. gives-then (check (extentIn n) 1 (w .start)) (gives-check (extentIn n) 1 (w .start)) (λ u h. gives-give h)))
 
 -- sizes in range
 record SizesIn (rows columns : ℕ) : Type 0 where

@@ -8,10 +8,8 @@ ghost use Rattle.sheet.specs.InnerGrids.{gridsBefore, Long};
 ghost use Rattle.sheet.specs.InnerLines.{lengthWords, flowWords, summaryWords, placeWords};
 ghost use Rattle.sheet.specs.Lines.{refusalLine, factorWord, valueWords, shownWords, cellLine, shapeLine, cellLines, mapLines, gridsOf};
 use crate::writer;
+use factor::TOO_LONG;
 use text::NO_DATA;
-
-// The LS of a cell whose slope is too long for one.
-const TOO_LONG: u32 = 4294967294;
 
 // What a map has at one cell.
 pub(crate) struct Cell {

@@ -15,7 +15,7 @@ use Rattle.terrain.specs.Cells.{noData, Fine}
 use Rattle.terrain.specs.InnerCells.{Ready}
 use Rattle.terrain.specs.Trail.{countsOf}
 use Rattle.terrain.specs.Drainage.{Drainage}
-use Rattle.terrain.specs.Answers.{Grids, placesOf, tests, judged, validOf, directionOf, Mapped, After, answerOf, answer, accepts, validIn}
+use Rattle.terrain.specs.Answers.{Grids, placesOf, tests, judged, groundValids, groundDirections, Mapped, After, answerOf, answer, accepts, validIn}
 use Rattle.text.specs.declared.Refusal.{Refusal}
 use Rattle.terrain.specs.declared.Answer.{Answer}
 use Rattle.terrain.specs.declared.Answer.the-variants.{Refused}
@@ -108,7 +108,7 @@ module _ (rows cols : ℕ) (ground : List ℤ) (g : Grids) where
         record { filled-long = b .0; direction-long = c .0; count-long = d .0; falls-long = f .0; workspace-long = h .0 }
 
     -- what document 01 demands of its grids
-    pub mapped-drains : {h : Grids} → Mapped rows cols ground (directionOf rows cols ground) h → Drainage rows cols ground (h .filled) (h .direction) (h .count) (validOf rows cols ground)
+    pub mapped-drains : {h : Grids} → Mapped rows cols ground (groundDirections rows cols ground) h → Drainage rows cols ground (h .filled) (h .direction) (h .count) (groundValids rows cols ground)
     mapped-drains m = rw (m .filled-is, m .direction-is, m .count-is) (drainage rows cols ground passed-ready)
 
   -- ---- the whole promise, from the answer and the grids
@@ -127,7 +127,7 @@ module _ (rows cols : ℕ) (ground : List ℤ) (g : Grids) where
   unfolding answer answerOf
   refuses {a} {n} {p} j e = (e ∙ ap (answerOf rows cols ground) j, (subst (After rows cols ground g g) j refl, λ t. absurd (true≢false (sym t ∙ ap accepts e))))
 
-  pub accepts-all : {a : Answer} {h : Grids} → passed ≡ judged rows cols ground g → a ≡ answerOf rows cols ground passed → Mapped rows cols ground (directionOf rows cols ground) h → Promised a h
+  pub accepts-all : {a : Answer} {h : Grids} → passed ≡ judged rows cols ground g → a ≡ answerOf rows cols ground passed → Mapped rows cols ground (groundDirections rows cols ground) h → Promised a h
   unfolding answer answerOf
   accepts-all {a} {h} j e m = (
     e ∙ ap (answerOf rows cols ground) j,

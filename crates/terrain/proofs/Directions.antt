@@ -17,7 +17,7 @@ use Rattle.laws.proofs.First.{first-holds, first-le, some-is, some-yes}
 use Rattle.terrain.specs.Cells.{neighbour, codeOf, cardinal, rimAt}
 use Rattle.terrain.specs.Flat.{farSteps, lowerAt, hasLower, flatAt, flatSteps, Walk, there, on, walked}
 use Rattle.terrain.specs.InnerFlats.{StepsKept, StepsStill}
-use Rattle.terrain.specs.Direction.{steepOf, steepAt, steepestAt, steepSide, nearerAt, nearerSide, directionAt, directionsOf}
+use Rattle.terrain.specs.Direction.{steepOf, steepAt, steepestAt, steepBearing, nearerAt, nearerBearing, directionAt, directionsOf}
 use Rattle.terrain.proofs.Neighbours.{rim-open}
 use Rattle.terrain.proofs.Flats.{lower-is, flat-is, nearest-le, seen-same, walk-least}
 
@@ -58,10 +58,10 @@ module _ (rows cols : ℕ) (lv : List ℕ) where
   unfolding hasLower steepestAt
   some-steepest x h = let i = greatest-is 8 (steepAt rows cols lv x) h in some-yes (lowerAt rows cols lv x) 8 (i .0) (i .1) (steep-lower x (i .0) (omega (arith, i .2)))
 
-  -- the side of the direction is a lower neighbour's
-  pub steep-side : (x : ℕ) → hasLower rows cols lv x ≡ true → (steepSide rows cols lv x < 8) × (lowerAt rows cols lv x (steepSide rows cols lv x) ≡ true)
-  unfolding steepSide steepestAt
-  steep-side x e =
+  -- the bearing of the direction is a lower neighbour's
+  pub steep-bearing : (x : ℕ) → hasLower rows cols lv x ≡ true → (steepBearing rows cols lv x < 8) × (lowerAt rows cols lv x (steepBearing rows cols lv x) ≡ true)
+  unfolding steepBearing steepestAt
+  steep-bearing x e =
       let h = steepest-some x e in
       let i = greatest-is 8 (steepAt rows cols lv x) h in
       let p : ℕ → Bool = λ k. eqb (steepAt rows cols lv x k) (steepestAt rows cols lv x) in
@@ -85,9 +85,9 @@ module _ (rows cols : ℕ) (lv : List ℕ) where
           let t : getD st (nb x k) 0 + 1 ≡ getD st x 0 = omega (arith, walk-least rows cols lv st kept still r, still x f, nearest-le rows cols lv st x k 8 h, seen-same rows cols lv st x k e) in
           (k, h, simp (eq-eqb (getD lv (nb x k) 0) (getD lv x 0) e, eq-eqb (getD st (nb x k) 0 + 1) (getD st x 0) t))
 
-  pub nearer-side : (st : List ℕ) → StepsKept rows cols lv st → StepsStill rows cols lv st → (x : ℕ) → flatAt rows cols lv x ≡ true → getD st x 0 < farSteps → (nearerSide rows cols lv st x < 8) × (nearerAt rows cols lv st x (nearerSide rows cols lv st x) ≡ true)
-  unfolding nearerSide
-  nearer-side st kept still x f n =
+  pub nearer-bearing : (st : List ℕ) → StepsKept rows cols lv st → StepsStill rows cols lv st → (x : ℕ) → flatAt rows cols lv x ≡ true → getD st x 0 < farSteps → (nearerBearing rows cols lv st x < 8) × (nearerAt rows cols lv st x (nearerBearing rows cols lv st x) ≡ true)
+  unfolding nearerBearing
+  nearer-bearing st kept still x f n =
       let i = flat-nearer st kept still x f n in
       let l : firstOf (nearerAt rows cols lv st x) 8 < 8 = omega (arith, i .1, first-le (nearerAt rows cols lv st x) 8 (i .0) (i .1) (i .2)) in
       (l, first-holds (nearerAt rows cols lv st x) 8 l)
@@ -103,13 +103,13 @@ module _ (rows cols : ℕ) (lv : List ℕ) where
   unfolding directionAt
   points st kept still x v n = subst (Points st x) (sym (simp (lt-ltb 0 (getD lv x 0) v))) (go (hasLower rows cols lv x) refl (rimAt rows cols lv x) refl)
     where
-      go : (b : Bool) → hasLower rows cols lv x ≡ b → (c : Bool) → rimAt rows cols lv x ≡ c → Points st x (cond b (codeOf (steepSide rows cols lv x)) (cond c 0 (codeOf (nearerSide rows cols lv st x))))
-      go true e c q = let s = steep-side x e in let l = lower-is rows cols lv x (steepSide rows cols lv x) (s .1) in down (steepSide rows cols lv x) (s .0) refl (l .0) (l .1)
+      go : (b : Bool) → hasLower rows cols lv x ≡ b → (c : Bool) → rimAt rows cols lv x ≡ c → Points st x (cond b (codeOf (steepBearing rows cols lv x)) (cond c 0 (codeOf (nearerBearing rows cols lv st x))))
+      go true e c q = let s = steep-bearing x e in let l = lower-is rows cols lv x (steepBearing rows cols lv x) (s .1) in down (steepBearing rows cols lv x) (s .0) refl (l .0) (l .1)
       go false e true q = let i = rim-open rows cols lv x q in leaves (i .0) (i .1) refl (i .2)
       go false e false q =
-          let s = nearer-side st kept still x (flat-is rows cols lv x v e q) n in
-          let w = nearer-is st x (nearerSide rows cols lv st x) (s .1) in
-          along (nearerSide rows cols lv st x) (s .0) refl (w .0) (w .1)
+          let s = nearer-bearing st kept still x (flat-is rows cols lv x v e q) n in
+          let w = nearer-is st x (nearerBearing rows cols lv st x) (s .1) in
+          along (nearerBearing rows cols lv st x) (s .0) refl (w .0) (w .1)
 
   -- ---- the grid of directions
 

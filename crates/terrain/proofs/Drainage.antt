@@ -15,15 +15,15 @@ use Rattle.laws.specs.Sums.{when}
 use Rattle.laws.proofs.Tests.{two}
 use Rattle.laws.proofs.Lists.{in-list}
 use Rattle.laws.proofs.Sums.{sum-ext, when-yes, when-no, when-zero}
-use Rattle.terrain.specs.Cells.{neighbour, codeOf, sideOf, Valid, Rim, levelsOf, validAt}
+use Rattle.terrain.specs.Cells.{neighbour, codeOf, bearingOf, Valid, Rim, levelsOf, validAt}
 use Rattle.terrain.specs.InnerCells.{Ready}
 use Rattle.terrain.specs.Filled.{filledLevels, filledOf}
 use Rattle.terrain.specs.Flat.{farSteps, flatSteps}
 use Rattle.terrain.specs.Direction.{directionsOf}
 use Rattle.terrain.specs.Trail.{Trail, ends, goes, OnValid, TrailNeverRises, Meets, NeverTwice, lastOf, validsOf, mappedAt, flowsAt, nextAt, stepsIn, countAt, countsOf}
 use Rattle.terrain.specs.Drainage.{surfaceOf, outflowOf, Drainage}
-use Rattle.terrain.specs.Answers.{directionOf, validOf}
-use Rattle.terrain.proofs.Neighbours.{side-code, code-some, code-small, valid-level, level-valid, level-invalid}
+use Rattle.terrain.specs.Answers.{groundDirections, groundValids}
+use Rattle.terrain.proofs.Neighbours.{bearing-code, code-some, code-small, valid-level, level-valid, level-invalid}
 use Rattle.terrain.proofs.Filling.{filled-long, filled-above, filled-some, filled-valid, level-filled}
 use Rattle.terrain.proofs.Surfaces.{filled-le, filled-least, filled-attained, filled-drained, filled-lowest}
 use Rattle.terrain.proofs.Flats.{steps-kept, steps-still, steps-small}
@@ -68,14 +68,14 @@ module _ (rows cols : ℕ) (ground : List ℤ) (ready : Ready rows cols ground) 
     le : getD lv y 0 ≤ getD lv x 0
     less : potential y < potential x
 
-  same-side : (j k : ℕ) → j < 8 → k < 8 → codeOf j ≡ codeOf k → j ≡ k
-  same-side j k g h e = sym (side-code j g) ∙ ap sideOf e ∙ side-code k h
+  same-bearing : (j k : ℕ) → j < 8 → k < 8 → codeOf j ≡ codeOf k → j ≡ k
+  same-bearing j k g h e = sym (bearing-code j g) ∙ ap bearingOf e ∙ bearing-code k h
 
   step-of : (x k : ℕ) → 0 < getD lv x 0 → k < 8 → getD dir x 255 ≡ codeOf k → Step x (nb x k)
   step-of x k v h e = go (kind x v)
     where
       move : (j : ℕ) → j < 8 → getD dir x 255 ≡ codeOf j → Step x (nb x j) → Step x (nb x k)
-      move j g q s = subst (λ (i : ℕ). Step x (nb x i)) (same-side j k g h (sym q ∙ e)) s
+      move j g q s = subst (λ (i : ℕ). Step x (nb x i)) (same-bearing j k g h (sym q ∙ e)) s
 
       go : Points rows cols lv st x (getD dir x 255) → Step x (nb x k)
       go (down j g q p l) = move j g q (record { valid = p; le = omega arith; less = omega (arith, steps-small rows cols ground ready (nb x j)) })
@@ -106,7 +106,7 @@ module _ (rows cols : ℕ) (ground : List ℤ) (ready : Ready rows cols ground) 
       on : (x : ℕ) → flowsAt rows cols dir x ≡ true → Step x (nextAt rows cols dir x)
       on x q =
           let c = flows-code rows cols dir x q in
-          subst (Step x) (sym (code-next rows cols dir x (sideOf (getD dir x 255)) (c .0) (c .1))) (step-of x (sideOf (getD dir x 255)) (mapped-level x (flows-mapped rows cols dir x q)) (c .0) (c .1))
+          subst (Step x) (sym (code-next rows cols dir x (bearingOf (getD dir x 255)) (c .0) (c .1))) (step-of x (bearingOf (getD dir x 255)) (mapped-level x (flows-mapped rows cols dir x q)) (c .0) (c .1))
 
   -- a valid cell that points at no neighbour has direction 0
   pub stops-zero : (x : ℕ) → mappedAt rows cols (directionsOf rows cols (filledLevels rows cols ground)) x ≡ true → flowsAt rows cols (directionsOf rows cols (filledLevels rows cols ground)) x ≡ false → getD (directionsOf rows cols (filledLevels rows cols ground)) x 255 ≡ 0
@@ -152,7 +152,7 @@ module _ (rows cols : ℕ) (ground : List ℤ) (ready : Ready rows cols ground) 
       go (leaves j g q o) =
           record {
             valid = v;
-            side = j;
+            bearing = j;
             small = g;
             none = level-invalid ready (nb x j) (elim (ℕ-discrete (getD (levelsOf ground) (nb x j) 0) 0) [ yes z ↦ z | no f ↦ absurd (omega (arith, filled-above rows cols ground ready (nb x j) (omega arith))) ]);
           }
@@ -177,7 +177,7 @@ module _ (rows cols : ℕ) (ground : List ℤ) (ready : Ready rows cols ground) 
 
       zero-is : mappedAt rows cols dir x ≡ true → eqb (getD dir x 255) 0 ≡ not (flowsAt rows cols dir x)
       zero-is v =
-          ⊎-elim (λ q. let c = flows-code rows cols dir x q in ne-eqb (getD dir x 255) 0 (λ z. omega (arith, c .1, code-some (sideOf (getD dir x 255)) (c .0))) ∙ sym (ap not q))
+          ⊎-elim (λ q. let c = flows-code rows cols dir x q in ne-eqb (getD dir x 255) 0 (λ z. omega (arith, c .1, code-some (bearingOf (getD dir x 255)) (c .0))) ∙ sym (ap not q))
           (λ q. eq-eqb (getD dir x 255) 0 (stops-zero x v q) ∙ sym (ap not q)) (two (flowsAt rows cols dir x))
 
       mapped : mappedAt rows cols dir x ≡ true → when (eqb (getD dir x 255) 0) (getD (countsOf rows cols dir) x 0) ≡ when (leavesAt rows cols dir rank (rank-falls rows cols dir potential falls) x) (countAt rows cols dir x)
@@ -197,8 +197,8 @@ module _ (rows cols : ℕ) (ground : List ℤ) (ready : Ready rows cols ground) 
       ∙ total-leaves rows cols dir rank (rank-falls rows cols dir potential falls) rank-le
       ∙ sum-ext (rows * cols) (λ x. when (mappedAt rows cols dir x) 1) (λ x. when (validAt (levelsOf ground) x) 1) (λ x l. ap (λ (b : Bool). when b 1) (mapped-valid x ∙ filled-valid rows cols ground ready x))
 
-  pub drainage : Drainage rows cols ground (filledOf rows cols ground) (directionOf rows cols ground) (countsOf rows cols (directionOf rows cols ground)) (validOf rows cols ground)
-  unfolding directionOf validOf
+  pub drainage : Drainage rows cols ground (filledOf rows cols ground) (groundDirections rows cols ground) (countsOf rows cols (groundDirections rows cols ground)) (groundValids rows cols ground)
+  unfolding groundDirections groundValids
   drainage =
       record {
         trails = record { trails = trails; stays = stays; falls = never-rises; once = never-twice; leaves = leaves-rim };

@@ -12,14 +12,14 @@ use Rattle.laws.specs.Lists.{tab}
 use Rattle.laws.proofs.Tests.{two}
 use Rattle.laws.proofs.Lists.{tab-ext}
 use Rattle.laws.proofs.First.{first-top, first-holds}
-use Rattle.terrain.specs.Cells.{neighbour, codeOf, sideOf, validAt, rimAt}
+use Rattle.terrain.specs.Cells.{neighbour, codeOf, bearingOf, validAt, rimAt}
 use Rattle.terrain.specs.Flat.{hasLower, flatSteps}
-use Rattle.terrain.specs.Direction.{steepSide, nearerAt, nearerSide, directionAt, directionsOf}
+use Rattle.terrain.specs.Direction.{steepBearing, nearerAt, nearerBearing, directionAt, directionsOf}
 use Rattle.terrain.specs.Falls.{fallOf, dropAt, fallAt, fallsOf}
-use Rattle.terrain.specs.InnerLevels.{dropOf, steepestIn, sideFall, fallDownAt}
-use Rattle.terrain.proofs.Neighbours.{side-code, code-small}
+use Rattle.terrain.specs.InnerLevels.{dropOf, steepestIn, bearingFall, fallDownAt}
+use Rattle.terrain.proofs.Neighbours.{bearing-code, code-small}
 use Rattle.terrain.proofs.Flats.{lower-is}
-use Rattle.terrain.proofs.Directions.{steep-side, nearer-is, direction-at, direction-none}
+use Rattle.terrain.proofs.Directions.{steep-bearing, nearer-is, direction-at, direction-none}
 use Rattle.terrain.proofs.Trails.{is-mapped, mapped-none, code-flows, code-next, zero-stops}
 
 -- no drop, no fall
@@ -69,44 +69,44 @@ module _ (rows cols : ℕ) (lv : List ℕ) where
 
   -- ---- the fall of a valid cell
 
-  fall-valid : (x : ℕ) → (getD dir x 255 ≡ 255 → ⊥) → fallAt rows cols lv dir x ≡ fallOf (sideOf (getD dir x 255)) (dropAt rows cols lv dir x)
+  fall-valid : (x : ℕ) → (getD dir x 255 ≡ 255 → ⊥) → fallAt rows cols lv dir x ≡ fallOf (bearingOf (getD dir x 255)) (dropAt rows cols lv dir x)
   unfolding fallAt
   fall-valid x e = rw (is-mapped rows cols dir x e)
 
   module _ (x : ℕ) (h : x < rows * cols) (v : 0 < getD lv x 0) where
-    direction-by : {b c : Bool} → hasLower rows cols lv x ≡ b → rimAt rows cols lv x ≡ c → getD dir x 255 ≡ cond b (codeOf (steepSide rows cols lv x)) (cond c 0 (codeOf (nearerSide rows cols lv st x)))
+    direction-by : {b c : Bool} → hasLower rows cols lv x ≡ b → rimAt rows cols lv x ≡ c → getD dir x 255 ≡ cond b (codeOf (steepBearing rows cols lv x)) (cond c 0 (codeOf (nearerBearing rows cols lv st x)))
     unfolding directionAt
-    direction-by e q = direction-at rows cols lv x h ∙ code-by (validAt lv x) (hasLower rows cols lv x) (rimAt rows cols lv x) (codeOf (steepSide rows cols lv x)) (codeOf (nearerSide rows cols lv st x)) (lt-ltb 0 (getD lv x 0) v) e q
+    direction-by e q = direction-at rows cols lv x h ∙ code-by (validAt lv x) (hasLower rows cols lv x) (rimAt rows cols lv x) (codeOf (steepBearing rows cols lv x)) (codeOf (nearerBearing rows cols lv st x)) (lt-ltb 0 (getD lv x 0) v) e q
 
-    lower-fall : hasLower rows cols lv x ≡ true → sideFall rows cols lv x (steepSide rows cols lv x) ≡ fallAt rows cols lv dir x
+    lower-fall : hasLower rows cols lv x ≡ true → bearingFall rows cols lv x (steepBearing rows cols lv x) ≡ fallAt rows cols lv dir x
     lower-fall e =
-        let k = steepSide rows cols lv x in
-        let s = steep-side rows cols lv x e in
+        let k = steepBearing rows cols lv x in
+        let s = steep-bearing rows cols lv x e in
         let l = lower-is rows cols lv x k (s .1) in
         let c : getD dir x 255 ≡ codeOf k = direction-by e refl in
         let d = getD lv x 0 - getD lv (nb x k) 0 in
         sym (
         fall-valid x (λ q. omega (arith, c, code-small k))
-        ∙ ap (λ (m : ℕ). fallOf (sideOf (getD dir x 255)) m) (drop-over x k (s .0) c)
-        ∙ ap (λ (j : ℕ). fallOf j d) (ap sideOf c ∙ side-code k (s .0))
+        ∙ ap (λ (m : ℕ). fallOf (bearingOf (getD dir x 255)) m) (drop-over x k (s .0) c)
+        ∙ ap (λ (j : ℕ). fallOf j d) (ap bearingOf c ∙ bearing-code k (s .0))
         ∙ fall-some k d (omega arith)
         ∙ ap (λ (m : ℕ). 2 * m + k % 2) (sym (dropped (l .0) (l .1)))
         )
 
     still-fall : getD dir x 255 ≤ 128 → dropAt rows cols lv dir x ≡ 0 → 0 ≡ fallAt rows cols lv dir x
-    still-fall s d = sym (fall-valid x (λ q. omega arith) ∙ ap (fallOf (sideOf (getD dir x 255))) d ∙ fall-flat (sideOf (getD dir x 255)))
+    still-fall s d = sym (fall-valid x (λ q. omega arith) ∙ ap (fallOf (bearingOf (getD dir x 255))) d ∙ fall-flat (bearingOf (getD dir x 255)))
 
     -- a flat cell points along its level
     along : rimAt rows cols lv x ≡ false → hasLower rows cols lv x ≡ false → dropAt rows cols lv dir x ≡ 0
-    unfolding nearerSide
+    unfolding nearerBearing
     along q e =
         let p = nearerAt rows cols lv st x in
-        drop-level x (nearerSide rows cols lv st x) (direction-by e q) (λ l. nearer-is rows cols lv st x (nearerSide rows cols lv st x) (first-holds p 8 l) .0) (first-top p 8)
+        drop-level x (nearerBearing rows cols lv st x) (direction-by e q) (λ l. nearer-is rows cols lv st x (nearerBearing rows cols lv st x) (first-holds p 8 l) .0) (first-top p 8)
 
     flat-fall : hasLower rows cols lv x ≡ false → 0 ≡ fallAt rows cols lv dir x
     flat-fall e =
         ⊎-elim (λ q. let c = direction-by e q in still-fall (omega (arith, c)) (drop-leaves x c))
-        (λ q. let c = direction-by e q in still-fall (omega (arith, c, code-small (nearerSide rows cols lv st x))) (along q e)) (two (rimAt rows cols lv x))
+        (λ q. let c = direction-by e q in still-fall (omega (arith, c, code-small (nearerBearing rows cols lv st x))) (along q e)) (two (rimAt rows cols lv x))
 
   -- ---- the grid
 

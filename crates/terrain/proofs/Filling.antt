@@ -28,7 +28,7 @@ module _ (rows cols : ℕ) (l : List ℕ) (x : ℕ) where
   unfolding lowestOf
   lowest-none = refl
 
-  -- one side more, as a loop counts
+  -- one bearing more, as a loop counts
   pub lowest-more : (k : ℕ) → lowestOf rows cols l x (k + 1) ≡ min (lowestOf rows cols l x k) (getD l (neighbour rows cols x k) 0)
   unfolding lowestOf
   lowest-more k = rw add-one
@@ -72,7 +72,7 @@ module _ (rows cols : ℕ) (ground : List ℤ) (ready : Ready rows cols ground) 
 
   -- a rim cell can stand at its ground
   pub stands-rim : (x k v : ℕ) → 0 < getD g x 0 → k < 8 → getD g (nb x k) 0 ≡ 0 → getD g x 0 ≤ v → Stands rows cols ground x v
-  stands-rim x k v p h e le = (last x (record { valid = level-valid ready x p; side = k; small = h; none = level-invalid ready (nb x k) e }), omega (arith, level-at ground x))
+  stands-rim x k v p h e le = (last x (record { valid = level-valid ready x p; bearing = k; small = h; none = level-invalid ready (nb x k) e }), omega (arith, level-at ground x))
 
   -- a cell can stand at the higher of its ground and a neighbour's level
   pub stands-beside : (l : List ℕ) → FillKept rows cols ground l → (x k v : ℕ) → 0 < getD g x 0 → k < 8 → getD l (nb x k) 0 < top → max (getD g x 0) (getD l (nb x k) 0) ≤ v → Stands rows cols ground x v
@@ -89,7 +89,7 @@ module _ (rows cols : ℕ) (ground : List ℤ) (ready : Ready rows cols ground) 
   -- no run stays below a list that no offer lowers
   pub still-least : (l : List ℕ) → FillKept rows cols ground l → Still (filling rows cols (levelsOf ground)) l → {x : ℕ} (r : Run rows cols ground x) → getD l x 0 ≤ levelOf (highestOf rows cols ground r)
   still-least l k s (last x r) =
-      omega (arith, s x (active x (valid-level ready x (r .valid))), lowest-le rows cols l x (r .side) 8 (r .small), k .clear (nb x (r .side)) (le-ltb 0 (getD g (nb x (r .side)) 0) (omega (arith, none-level ready (nb x (r .side)) (r .none)))), level-at ground x)
+      omega (arith, s x (active x (valid-level ready x (r .valid))), lowest-le rows cols l x (r .bearing) 8 (r .small), k .clear (nb x (r .bearing)) (le-ltb 0 (getD g (nb x (r .bearing)) 0) (omega (arith, none-level ready (nb x (r .bearing)) (r .none)))), level-at ground x)
   still-least l k s (step x j v h r) =
       omega (arith, s x (active x (valid-level ready x v)), lowest-le rows cols l x j 8 h, still-least l k s r, level-at ground x, level-max (getD ground x noData) (highestOf rows cols ground r))
 
@@ -124,7 +124,7 @@ module _ (rows cols : ℕ) (ground : List ℤ) (ready : Ready rows cols ground) 
   run-below zero x h v = absurd (omega arith)
   run-below (suc n) x h v =
       elim (ℕ-discrete (getD g (nb x 4) 0) 0) [
-        | yes z ↦ last x (record { valid = level-valid ready x v; side = 4; small = omega arith; none = level-invalid ready (nb x 4) z })
+        | yes z ↦ last x (record { valid = level-valid ready x v; bearing = 4; small = omega arith; none = level-invalid ready (nb x 4) z })
         | no f ↦ step x 4 (level-valid ready x v) (omega arith) (run-below n (nb x 4) (omega (arith, ⊎-elim (λ e. absurd (f (List·getD-eq-default g 0 {n = nb x 4} (omega (arith, levels-long ready))))) (λ lt. lt) (west rows cols x (ready .cols-some)))) (omega arith))
       ]
 

@@ -36,7 +36,7 @@ nor false false e = (refl, refl)
 flat-of : (a b c : Bool) → a ≡ true → b ≡ false → c ≡ false → (a && not (b || c)) ≡ true
 flat-of a b c p q r = rw (p, q, r)
 
--- ---- what a flat cell is, by levels: no side is lower, where what is not valid is at 0
+-- ---- what a flat cell is, by levels: no bearing is lower, where what is not valid is at 0
 
 module _ (rows cols : ℕ) (lv : List ℕ) where
   abbrev nb : ℕ → ℕ → ℕ
@@ -195,7 +195,7 @@ module _ (rows cols : ℕ) (ground : List ℤ) (ready : Ready rows cols ground) 
   walk-of : {x : ℕ} (r : Run rows cols ground x) → RunNeverRises rows cols ground (surfaceOf (filledOf rows cols ground)) r → Walk rows cols lv x
   walk-of (last x r) f =
       let v = above x (valid-level ready x (r .valid)) in
-      there x v (low-not-flat rows cols lv x (r .side) (r .small) (omega (arith, filled-clear rows cols ground ready (neighbour rows cols x (r .side)) (none-level ready (neighbour rows cols x (r .side)) (r .none)))))
+      there x v (low-not-flat rows cols lv x (r .bearing) (r .small) (omega (arith, filled-clear rows cols ground ready (neighbour rows cols x (r .bearing)) (none-level ready (neighbour rows cols x (r .bearing)) (r .none)))))
   walk-of (step x k v h r) f =
       let p = above x (valid-level ready x v) in
       let le = level-le (surfaceOf (filledOf rows cols ground) (neighbour rows cols x k)) (surfaceOf (filledOf rows cols ground) x) (f .0) in

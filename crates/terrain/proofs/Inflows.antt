@@ -11,14 +11,14 @@ use borrow.Author.Tests.{eqb-true, eq-eqb}
 use Rattle.laws.specs.Sums.{greatestTo, when}
 use Rattle.laws.proofs.Tests.{two, and-both}
 use Rattle.laws.proofs.Sums.{greatest-ge, greatest-le, when-yes, when-no}
-use Rattle.terrain.specs.Cells.{neighbour, sideOf}
+use Rattle.terrain.specs.Cells.{neighbour, bearingOf}
 use Rattle.terrain.specs.Trail.{flowsAt, nextAt, stepsIn, intoAt, receiverOf}
 use Rattle.terrain.specs.InnerTrail.{Directed}
 use Rattle.terrain.proofs.Neighbours.{across, across-small, neighbour-back}
 use Rattle.terrain.proofs.Trails.{code-next, flows-code, flows-mapped, receiver-flows, receiver-points}
 use Rattle.terrain.proofs.Receivers.{pointing}
 
--- ---- the neighbour at the side k of z
+-- ---- the neighbour at the bearing k of z
 
 module _ (rows cols : ℕ) (dir : List ℕ) (z k : ℕ) where
   abbrev y : ℕ
@@ -58,7 +58,7 @@ module _ {rows cols : ℕ} {dir : List ℕ} (d : Directed rows cols dir) where
   points-into z x h e =
       let q = receiver-points rows cols dir x (omega arith) in
       let c = flows-code rows cols dir x q in
-      let j = sideOf (getD dir x 255) in
+      let j = bearingOf (getD dir x 255) in
       let on : nextAt rows cols dir x ≡ z = sym (receiver-flows rows cols dir x q) ∙ e in
       let there : nb x j ≡ z = sym (code-next rows cols dir x j (c .0) (c .1)) ∙ on in
       let i = pointing d .within x (flows-mapped rows cols dir x q) in
@@ -66,22 +66,22 @@ module _ {rows cols : ℕ} {dir : List ℕ} (d : Directed rows cols dir) where
       (across j, across-small j (c .0), back, flows-into rows cols dir z (across j) (ap (flowsAt rows cols dir) back ∙ q) (ap (nextAt rows cols dir) back ∙ on))
 
   module _ {z : ℕ} (h : z < rows * cols) where
-    -- what inflows bring, by the sides of z and by the cells
-    abbrev across-side : (ℕ → ℕ) → ℕ → ℕ
-    across-side g k = when (intoAt rows cols dir z k) (g (nb z k))
+    -- what inflows bring, by the bearings of z and by the cells
+    abbrev across-bearing : (ℕ → ℕ) → ℕ → ℕ
+    across-bearing g k = when (intoAt rows cols dir z k) (g (nb z k))
 
     abbrev from-cell : (ℕ → ℕ) → ℕ → ℕ
     from-cell g x = when (eqb (recv x) z) (g x)
 
     pub inflow-greatest : (g : ℕ → ℕ) → greatestTo 8 (λ k. when (intoAt rows cols dir z k) (g (neighbour rows cols z k))) ≡ greatestTo (rows * cols) (λ x. when (eqb (receiverOf rows cols dir x) z) (g x))
-    inflow-greatest g = omega (arith, greatest-le 8 (across-side g) (greatestTo n (from-cell g)) (λ k l. side k), greatest-le n (from-cell g) (greatestTo 8 (across-side g)) (λ x l. cell x))
+    inflow-greatest g = omega (arith, greatest-le 8 (across-bearing g) (greatestTo n (from-cell g)) (λ k l. bearing k), greatest-le n (from-cell g) (greatestTo 8 (across-bearing g)) (λ x l. cell x))
       where
-        side : (k : ℕ) → across-side g k ≤ greatestTo n (from-cell g)
-        side k =
+        bearing : (k : ℕ) → across-bearing g k ≤ greatestTo n (from-cell g)
+        bearing k =
             ⊎-elim (λ e. let w = into-points z k e in omega (arith, when-yes (g (nb z k)) e, when-yes (g (nb z k)) (eq-eqb (recv (nb z k)) z (w .1)), greatest-ge n (from-cell g) (nb z k) (w .0)))
             (λ e. omega (arith, when-no (g (nb z k)) e)) (two (intoAt rows cols dir z k))
 
-        cell : (x : ℕ) → from-cell g x ≤ greatestTo 8 (across-side g)
+        cell : (x : ℕ) → from-cell g x ≤ greatestTo 8 (across-bearing g)
         cell x =
-            ⊎-elim (λ e. let w = points-into z x h (eqb-true (recv x) z e) in omega (arith, when-yes (g x) e, ap g (w .2), when-yes (g (nb z (w .0))) (w .3), greatest-ge 8 (across-side g) (w .0) (w .1)))
+            ⊎-elim (λ e. let w = points-into z x h (eqb-true (recv x) z e) in omega (arith, when-yes (g x) e, ap g (w .2), when-yes (g (nb z (w .0))) (w .3), greatest-ge 8 (across-bearing g) (w .0) (w .1)))
             (λ e. omega (arith, when-no (g x) e)) (two (eqb (recv x) z))

@@ -16,26 +16,26 @@ module _ (rows cols : ℕ) where
   -- ---- the four lines of the edge
 
   pub edge-north : (x : ℕ) → x < cols → Edge rows cols x
-  edge-north x h = record { side = 6; small = omega arith; none = ⊎-elim (λ e. omega arith) (λ i. absurd (omega (arith, i .up, row))) (neighbour-cases rows cols x 6) }
+  edge-north x h = record { bearing = 6; small = omega arith; none = ⊎-elim (λ e. omega arith) (λ i. absurd (omega (arith, i .up, row))) (neighbour-cases rows cols x 6) }
     where
       row : x / cols ≡ 0
       row = (let e : x ≡ 0 * cols + x = omega arith in ap (λ (n : ℕ). n / cols) e) ∙ row-of cols 0 x h
 
   pub edge-south : (x : ℕ) → 0 < cols → rows * cols ≤ x + cols → Edge rows cols x
-  edge-south x w h = record { side = 2; small = omega arith; none = ⊎-elim (λ e. omega arith) (λ i. absurd (late (i .down))) (neighbour-cases rows cols x 2) }
+  edge-south x w h = record { bearing = 2; small = omega arith; none = ⊎-elim (λ e. omega arith) (λ i. absurd (late (i .down))) (neighbour-cases rows cols x 2) }
     where
       late : x / cols + 2 ≤ rows → ⊥
       late d = omega (arith, mul-le-mul-right {m = x / cols + 2} {n = rows} cols d, add-mul (x / cols) 2 cols, by-row rows cols x, mod-lt x w)
 
   pub edge-west : (x : ℕ) → x % cols ≡ 0 → Edge rows cols x
-  edge-west x h = record { side = 4; small = omega arith; none = ⊎-elim (λ e. omega arith) (λ i. absurd (omega (arith, i .left))) (neighbour-cases rows cols x 4) }
+  edge-west x h = record { bearing = 4; small = omega arith; none = ⊎-elim (λ e. omega arith) (λ i. absurd (omega (arith, i .left))) (neighbour-cases rows cols x 4) }
 
   pub edge-east : (x : ℕ) → x % cols + 1 ≡ cols → Edge rows cols x
-  edge-east x h = record { side = 0; small = omega arith; none = ⊎-elim (λ e. omega arith) (λ i. absurd (omega (arith, i .right))) (neighbour-cases rows cols x 0) }
+  edge-east x h = record { bearing = 0; small = omega arith; none = ⊎-elim (λ e. omega arith) (λ i. absurd (omega (arith, i .right))) (neighbour-cases rows cols x 0) }
 
   -- ---- what lies around a cell
 
-  -- in another column than the side leads to, it is on the edge
+  -- in another column than the bearing leads to, it is on the edge
   around-west : (x k : ℕ) → Sized rows cols → Beside cols x k → x % cols + getD colSteps k 0 < 1 → Edge rows cols (besideOf cols x k)
   unfolding besideOf
   around-west x k s b h = edge-east (besideOf cols x k) (omega (arith, ap (λ (y : ℕ). y % cols) is ∙ col-of cols (n - 2) (cols - 1) (omega (arith, s .cols-some)), s .cols-some))
@@ -62,9 +62,9 @@ module _ (rows cols : ℕ) where
       n = x / cols + getD rowSteps k 0
 
       is : besideOf cols x k ≡ n * cols + 0
-      is = omega (arith, mod-lt x (s .cols-some), col-step-le k (b .side-small), by-row rows cols x, add-mul (x / cols) (getD rowSteps k 0) cols)
+      is = omega (arith, mod-lt x (s .cols-some), col-step-le k (b .bearing-small), by-row rows cols x, add-mul (x / cols) (getD rowSteps k 0) cols)
 
-  -- in the column that the side leads to, it is the neighbour
+  -- in the column that the bearing leads to, it is the neighbour
   around-straight : (x k : ℕ) → Sized rows cols → Beside cols x k → besideOf cols x k < rows * cols → 1 ≤ x % cols + getD colSteps k 0 → x % cols + getD colSteps k 0 ≤ cols → neighbour rows cols x k < rows * cols
   unfolding besideOf neighbour
   around-straight x k s b y left right =

@@ -13,6 +13,7 @@ use mir.Val.{SFits, toZ, ofZ}
 use mir.Facts.{toZ-ofZ, toZ-pos}
 use borrow.Author.Tests.{ltb-false, lt-ltb, le-ltb}
 use Rattle.laws.proofs.Search.{failing-one}
+use Rattle.text.specs.Quantities.{datum}
 use Rattle.terrain.specs.Cells.{neighbour, Fine, levelOf, heightOf, levelsOf}
 use Rattle.terrain.specs.InnerCells.{Ready}
 use Rattle.terrain.specs.Filled.{top, lowestOf, filledLevels, filledOf}
@@ -22,22 +23,22 @@ use Rattle.terrain.proofs.Neighbours.{sum-level, level-fine, fine-fits,
 
 -- ---- heights and levels in words of 32 bits
 
-sum-word : (z : ℤ) → Fine z → toZ w32 (ofZ w32 z) +ℤ pos 999900 ≡ pos (levelOf z)
-sum-word z f = ap (λ (y : ℤ). y +ℤ pos 999900) (toZ-ofZ (fine-fits z f)) ∙ sum-level z f
+sum-word : (z : ℤ) → Fine z → toZ w32 (ofZ w32 z) +ℤ pos datum ≡ pos (levelOf z)
+sum-word z f = ap (λ (y : ℤ). y +ℤ pos datum) (toZ-ofZ (fine-fits z f)) ∙ sum-level z f
 
-pub sum-fits : (z : ℤ) → Fine z → SFits w32 (toZ w32 (ofZ w32 z) +ℤ pos 999900)
+pub sum-fits : (z : ℤ) → Fine z → SFits w32 (toZ w32 (ofZ w32 z) +ℤ pos datum)
 sum-fits z f = subst (SFits w32) (sym (sum-word z f)) (record { sfits = omega (arith, level-fine z f) })
 
-pub level-word : (z : ℤ) → Fine z → toZ w32 (ofZ w32 (toZ w32 (ofZ w32 z) +ℤ pos 999900)) ≡ pos (levelOf z)
+pub level-word : (z : ℤ) → Fine z → toZ w32 (ofZ w32 (toZ w32 (ofZ w32 z) +ℤ pos datum)) ≡ pos (levelOf z)
 level-word z f = toZ-ofZ (sum-fits z f) ∙ sum-word z f
 
-difference-word : (v : ℕ) → v < top → toZ w32 v -ℤ pos 999900 ≡ heightOf v
-difference-word v h = ap (λ (z : ℤ). z -ℤ pos 999900) (toZ-pos w32 {n = v} (omega arith)) ∙ difference-height v
+difference-word : (v : ℕ) → v < top → toZ w32 v -ℤ pos datum ≡ heightOf v
+difference-word v h = ap (λ (z : ℤ). z -ℤ pos datum) (toZ-pos w32 {n = v} (omega arith)) ∙ difference-height v
 
-pub difference-fits : (v : ℕ) → v < top → SFits w32 (toZ w32 v -ℤ pos 999900)
+pub difference-fits : (v : ℕ) → v < top → SFits w32 (toZ w32 v -ℤ pos datum)
 difference-fits v h = subst (SFits w32) (sym (difference-word v h)) (record { sfits = height-mag v (omega arith) })
 
-pub height-word : (v : ℕ) → v < top → toZ w32 (ofZ w32 (toZ w32 v -ℤ pos 999900)) ≡ heightOf v
+pub height-word : (v : ℕ) → v < top → toZ w32 (ofZ w32 (toZ w32 v -ℤ pos datum)) ≡ heightOf v
 height-word v h = toZ-ofZ (difference-fits v h) ∙ difference-word v h
 
 -- what reading the ground's level at a cell asks

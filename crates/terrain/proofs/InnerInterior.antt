@@ -10,7 +10,7 @@ use lib.ListN.{getD}
 use lib.IntN.{ℤ}
 use Rattle.terrain.specs.Cells.{rowSteps, colSteps, neighbour, Shifts}
 use Rattle.terrain.specs.InnerCells.{Ready, Sized, Inside, RunsTo, besideOf, Beside}
-use Rattle.terrain.proofs.Neighbours.{each-side, row-step-le, col-step-le, cell-in, in-grid-lt, row-of, col-of, neighbour-cases}
+use Rattle.terrain.proofs.Neighbours.{each-bearing, row-step-le, col-step-le, cell-in, in-grid-lt, row-of, col-of, neighbour-cases}
 
 pub ready-sized : {rows cols : ℕ} {ground : List ℤ} → Ready rows cols ground → Sized rows cols
 ready-sized r = record { rows-small = r .rows-small; cols-small = r .cols-small; cols-some = r .cols-some; small = r .small }
@@ -40,19 +40,19 @@ placed-at {cols} {k} small h place e =
     }
 
 pub placed : {cols x k : ℕ} → Beside cols x k → (place : ℕ) → place ≡ getD rowSteps k 0 * 4 + getD colSteps k 0 → Placed cols k place
-placed b place e = placed-at (b .cols-small) (b .side-small) place e
+placed b place e = placed-at (b .cols-small) (b .bearing-small) place e
 
 -- ---- the shifts
 
 -- two rows and two columns at most
 pub shift-few : {cols x k : ℕ} → Beside cols x k → getD rowSteps k 0 * cols + getD colSteps k 0 ≤ 2050
-shift-few {cols} {x} {k} b = omega (arith, mul-le-mul-right cols (row-step-le k (b .side-small)), col-step-le k (b .side-small), b .cols-small)
+shift-few {cols} {x} {k} b = omega (arith, mul-le-mul-right cols (row-step-le k (b .bearing-small)), col-step-le k (b .bearing-small), b .cols-small)
 
 -- as the code works them out
 pub shifts-are : (cols : ℕ) → Shifts cols ((cols + 2) ∷ (cols + cols + 2) ∷ (cols + cols + 1) ∷ (cols + cols) ∷ cols ∷ 0 ∷ 1 ∷ 2 ∷ [])
 shifts-are cols =
     record {
-      steps = each-side (λ k. getD ((cols + 2) ∷ (cols + cols + 2) ∷ (cols + cols + 1) ∷ (cols + cols) ∷ cols ∷ 0 ∷ 1 ∷ 2 ∷ []) k 0 ≡ getD rowSteps k 0 * cols + getD colSteps k 0)
+      steps = each-bearing (λ k. getD ((cols + 2) ∷ (cols + cols + 2) ∷ (cols + cols + 1) ∷ (cols + cols) ∷ cols ∷ 0 ∷ 1 ∷ 2 ∷ []) k 0 ≡ getD rowSteps k 0 * cols + getD colSteps k 0)
           (omega arith) (omega arith) (omega arith) (omega arith) (omega arith) (omega arith) (omega arith) (omega arith);
     }
 
@@ -80,7 +80,7 @@ module _ (rows cols : ℕ) where
 
   -- and there is room for it
   pub beside-room : (x k : ℕ) → Sized rows cols → x < 1048576 → k < 8 → neighbour rows cols x k < rows * cols → Beside cols x k
-  beside-room x k s l h n = record { cols-small = s .cols-small; cell-small = l; side-small = h; room = lies x k n .0 }
+  beside-room x k s l h n = record { cols-small = s .cols-small; cell-small = l; bearing-small = h; room = lies x k n .0 }
 
   -- ---- cells that are inside
 

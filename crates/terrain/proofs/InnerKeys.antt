@@ -1,4 +1,4 @@
--- The steepest side by keys: the greatest cardinal and the greatest diagonal key tell the steepest side, the first on a tie. Assumes nothing.
+-- The steepest bearing by keys: the greatest cardinal and the greatest diagonal key tell the steepest bearing, the first on a tie. Assumes nothing.
 use mathlib.Core.Path.{_≡_, refl, sym, ap, subst, _∙_}
 use mathlib.Core.List.{List}
 use mathlib.Core.Logic.{⊎-elim}
@@ -17,23 +17,24 @@ use Rattle.laws.proofs.Sums.{greatest-more, greatest-ge, greatest-le, greatest-
 use Rattle.laws.proofs.First.{first-is}
 use Rattle.laws.proofs.Squares.{twice-square}
 use Rattle.terrain.specs.Cells.{neighbour, codeOf, cardinal}
+use Rattle.terrain.specs.Filled.{top}
 use Rattle.terrain.specs.Flat.{hasLower}
 use Rattle.terrain.specs.Falls.{noFall}
-use Rattle.terrain.specs.Direction.{steepOf, steepAt, steepestAt, steepSide}
-use Rattle.terrain.specs.InnerLevels.{dropOf, sideKey, straight, Chosen, sideDrop, sideFall, steepestIn, downAt, fallDownAt, FallTo}
+use Rattle.terrain.specs.Direction.{steepOf, steepAt, steepestAt, steepBearing}
+use Rattle.terrain.specs.InnerLevels.{dropOf, bearingKey, straight, Chosen, bearingDrop, bearingFall, steepestIn, downAt, fallDownAt, FallTo}
 use Rattle.terrain.specs.declared.direction.Fall.{Fall}
-use Rattle.terrain.proofs.Neighbours.{each-side, code-small}
+use Rattle.terrain.proofs.Neighbours.{each-bearing, code-small}
 use Rattle.terrain.proofs.Directions.{steepest-some, some-steepest}
 
--- ---- sides and drops
+-- ---- bearings and drops
 
--- the cardinal sides and the diagonal ones are all
+-- the cardinal bearings and the diagonal ones are all
 by-parity : (P : ℕ → Type 0) → ((i : ℕ) → i < 4 → P (2 * i)) → ((i : ℕ) → i < 4 → P (2 * i + 1)) → (k : ℕ) → k < 8 → P k
-by-parity P c d = each-side P (c 0 (omega arith)) (d 0 (omega arith)) (c 1 (omega arith)) (d 1 (omega arith)) (c 2 (omega arith)) (d 2 (omega arith)) (c 3 (omega arith)) (d 3 (omega arith))
+by-parity P c d = each-bearing P (c 0 (omega arith)) (d 0 (omega arith)) (c 1 (omega arith)) (d 1 (omega arith)) (c 2 (omega arith)) (d 2 (omega arith)) (c 3 (omega arith)) (d 3 (omega arith))
 
--- the codes rise with the sides
+-- the codes rise with the bearings
 code-step : (k : ℕ) → k < 8 → k < 7 → codeOf k < codeOf (suc k)
-code-step = each-side (λ k. k < 7 → codeOf k < codeOf (suc k)) (λ h. omega arith) (λ h. omega arith) (λ h. omega arith) (λ h. omega arith) (λ h. omega arith) (λ h. omega arith) (λ h. omega arith) (λ h. absurd (omega arith))
+code-step = each-bearing (λ k. k < 7 → codeOf k < codeOf (suc k)) (λ h. omega arith) (λ h. omega arith) (λ h. omega arith) (λ h. omega arith) (λ h. omega arith) (λ h. omega arith) (λ h. omega arith) (λ h. absurd (omega arith))
 
 code-rises : (j k : ℕ) → k < 8 → j < k → codeOf j < codeOf k
 code-rises j zero h l = absurd (omega arith)
@@ -66,36 +67,36 @@ square-some {n} {a} h = elim (decLt 0 a) [ yes l ↦ l | no f ↦ let e : a ≡ 
 square-less : {a b : ℕ} → a < b → a * a < b * b
 square-less {a} {b} h = omega (arith, mul-le-mul h h)
 
--- ---- the greatest key of some sides
+-- ---- the greatest key of some bearings
 
 module _ (rows cols : ℕ) (lv : List ℕ) (x : ℕ) where
   abbrev drop : ℕ → ℕ
-  drop = sideDrop rows cols lv x
+  drop = bearingDrop rows cols lv x
 
   abbrev key : ℕ → ℕ
-  key = sideKey rows cols lv x
+  key = bearingKey rows cols lv x
 
-  -- m is the greatest key of the sides s 0, s 1, .. s (n - 1), or 255 where none of them drops
+  -- m is the greatest key of the bearings s 0, s 1, .. s (n - 1), or 255 where none of them drops
   abbrev pub GreatestKey : (ℕ → ℕ) → ℕ → ℕ → Type 0
   GreatestKey s n m = m ≡ max 255 (greatestTo n (λ i. key (s i)))
 
   module _ (s : ℕ → ℕ) (n m : ℕ) (p : GreatestKey s n m) where
-    -- no side drops more
+    -- no bearing drops more
     key-over : (i : ℕ) → i < n → drop (s i) ≤ m / 256
     key-over i h = omega (arith, greatest-ge n (λ i. key (s i)) i h)
 
-    -- a drop is that of a side
+    -- a drop is that of a bearing
     key-is : 0 < m / 256 → (i : ℕ) × (i < n) × (m ≡ key (s i))
     key-is h = let g = greatest-is n (λ i. key (s i)) (omega arith) in (g .0, g .1, omega (arith, g .2))
 
-    -- that of the first side of those that drop as much
+    -- that of the first bearing of those that drop as much
     key-first : (i j : ℕ) → m ≡ key (s i) → s i < 8 → j < n → s j < s i → drop (s j) < drop (s i)
     key-first i j e b l q = omega (arith, greatest-ge n (λ i. key (s i)) j l, code-rises (s j) (s i) b q, code-small (s i))
 
     key-small : (v : ℕ) → ((i : ℕ) → drop (s i) ≤ v) → m ≤ v * 256 + 255
     key-small v h = omega (arith, greatest-le n (λ i. key (s i)) (v * 256 + 255) (λ i l. omega (arith, h i)))
 
-  -- what a key tells of its side
+  -- what a key tells of its bearing
   key-drop : (k m : ℕ) → m ≡ key k → m / 256 ≡ drop k
   key-drop k m e = omega arith
 
@@ -122,15 +123,15 @@ module _ (rows cols : ℕ) (lv : List ℕ) (x : ℕ) where
   steep-diagonal : (i : ℕ) → steep (2 * i + 1) ≡ drop (2 * i + 1) * drop (2 * i + 1)
   steep-diagonal i = steep-drop (2 * i + 1) ∙ ap (λ (b : Bool). cond b (2 * (drop (2 * i + 1) * drop (2 * i + 1))) (drop (2 * i + 1) * drop (2 * i + 1))) (ne-eqb ((2 * i + 1) % 2) 0 (omega arith))
 
-  -- a side that none exceeds, nor equals before it, is the steepest
-  steepest-side : (g : ℕ → ℕ) (k : ℕ) → k < 8 → 0 < steep k → ((j : ℕ) → j < 8 → (steep j ≤ steep k) × (j < k → steep j < steep k)) → steepestIn rows cols lv g x ≡ g k
-  unfolding steepestIn steepSide steepestAt
-  steepest-side g k h p q =
+  -- a bearing that none exceeds, nor equals before it, is the steepest
+  steepest-bearing : (g : ℕ → ℕ) (k : ℕ) → k < 8 → 0 < steep k → ((j : ℕ) → j < 8 → (steep j ≤ steep k) × (j < k → steep j < steep k)) → steepestIn rows cols lv g x ≡ g k
+  unfolding steepestIn steepBearing steepestAt
+  steepest-bearing g k h p q =
       let e : greatestTo 8 steep ≡ steep k = omega (arith, greatest-le 8 steep (steep k) (λ j l. q j l .0), greatest-ge 8 steep k h) in
       rw (some-steepest rows cols lv x (omega arith))
       (ap g (ap (λ (m : ℕ). firstOf (λ j. eqb (steep j) m) 8) e ∙ first-is (λ j. eqb (steep j) (steep k)) 8 k (λ j l. ne-eqb (steep j) (steep k) (λ r. omega (arith, q j (omega arith) .1 l))) h (eq-eqb (steep k) (steep k) refl)))
 
-  -- where no side drops there is none
+  -- where no bearing drops there is none
   steepest-none : (g : ℕ → ℕ) → ((j : ℕ) → j < 8 → steep j ≤ 0) → steepestIn rows cols lv g x ≡ 0
   unfolding steepestIn steepestAt
   steepest-none g q = ⊎-elim (λ e. absurd (omega (arith, steepest-some rows cols lv x e, greatest-le 8 steep 0 q))) (λ e. rw e) (two (hasLower rows cols lv x))
@@ -144,11 +145,11 @@ module _ (rows cols : ℕ) (lv : List ℕ) (x : ℕ) where
     abbrev d-over : (i : ℕ) → i < 4 → drop (2 * i + 1) ≤ d / 256
     d-over = key-over (λ i. 2 * i + 1) 4 d q
 
-    -- the cardinal side of the greatest key
+    -- the cardinal bearing of the greatest key
     steepest-cardinal : (g : ℕ → ℕ) (i : ℕ) → i < 4 → c ≡ key (2 * i) → 0 < drop (2 * i) → d / 256 * (d / 256) ≤ 2 * (c / 256 * (c / 256)) → steepestIn rows cols lv g x ≡ g (2 * i)
     steepest-cardinal g i h e s t =
         let t′ : d / 256 * (d / 256) ≤ 2 * (drop (2 * i) * drop (2 * i)) = omega (arith, ap (λ (m : ℕ). m * m) (key-drop (2 * i) c e)) in
-        steepest-side g (2 * i) (omega arith) (omega (arith, steep-cardinal i, mul-le-mul s s))
+        steepest-bearing g (2 * i) (omega arith) (omega (arith, steep-cardinal i, mul-le-mul s s))
         (by-parity (λ j. (steep j ≤ steep (2 * i)) × (j < 2 * i → steep j < steep (2 * i)))
         (λ j l. (
           let a : drop (2 * j) ≤ drop (2 * i) = omega (arith, c-over j l, key-drop (2 * i) c e) in omega (arith, steep-cardinal i, steep-cardinal j, mul-le-mul a a),
@@ -166,7 +167,7 @@ module _ (rows cols : ℕ) (lv : List ℕ) (x : ℕ) where
     steepest-diagonal : (g : ℕ → ℕ) (i : ℕ) → i < 4 → d ≡ key (2 * i + 1) → 2 * (c / 256 * (c / 256)) < d / 256 * (d / 256) → steepestIn rows cols lv g x ≡ g (2 * i + 1)
     steepest-diagonal g i h e t =
         let t′ : 2 * (c / 256 * (c / 256)) < drop (2 * i + 1) * drop (2 * i + 1) = omega (arith, ap (λ (m : ℕ). m * m) (key-drop (2 * i + 1) d e)) in
-        steepest-side g (2 * i + 1) (omega arith) (omega (arith, steep-diagonal i))
+        steepest-bearing g (2 * i + 1) (omega arith) (omega (arith, steep-diagonal i))
         (by-parity (λ j. (steep j ≤ steep (2 * i + 1)) × (j < 2 * i + 1 → steep j < steep (2 * i + 1)))
         (λ j l. let a = c-over j l in (omega (arith, steep-diagonal i, steep-cardinal j, mul-le-mul a a), λ b. omega (arith, steep-diagonal i, steep-cardinal j, mul-le-mul a a)))
         (λ j l. (
@@ -182,7 +183,7 @@ module _ (rows cols : ℕ) (lv : List ℕ) (x : ℕ) where
         (λ j l. let a : drop (2 * j) ≤ 0 = omega (arith, c-over j l) in omega (arith, steep-cardinal j, mul-le-mul a a))
         (λ j l. let a : drop (2 * j + 1) ≤ 0 = omega (arith, d-over j l) in omega (arith, steep-diagonal j, mul-le-mul a a)))
 
-    -- what is read off the steeper of the two, by its key and whether it is diagonal, is what the steepest side has
+    -- what is read off the steeper of the two, by its key and whether it is diagonal, is what the steepest bearing has
     steepest-read : (g : ℕ → ℕ) (h : ℕ → ℕ → ℕ) → ((k m : ℕ) → m ≡ key k → h m (k % 2) ≡ g k) → h 255 0 ≡ 0 → h (cond (straight c d) c d) (cond (straight c d) 0 1) ≡ steepestIn rows cols lv g x
     steepest-read g h tells none =
         elim (decLe (d / 256 * (d / 256)) (2 * (c / 256 * (c / 256)))) [
@@ -213,12 +214,12 @@ module _ (rows cols : ℕ) (lv : List ℕ) (x : ℕ) where
     fall-chosen {a} o e =
         record {
           code = e .0 ∙ ap (λ (m : ℕ). cond (ltb 0 (getD lv x 0)) m 255) (o .code ∙ steepest-read codeOf (λ m n. 255 - m % 256) key-code refl);
-          fall = e .1 ∙ ap (λ (m : ℕ). cond (ltb 0 (getD lv x 0)) m noFall) (o .fall ∙ steepest-read (sideFall rows cols lv x) (λ m n. m / 256 * 2 + n) (λ k m q. omega (arith, key-drop k m q)) refl);
+          fall = e .1 ∙ ap (λ (m : ℕ). cond (ltb 0 (getD lv x 0)) m noFall) (o .fall ∙ steepest-read (bearingFall rows cols lv x) (λ m n. m / 256 * 2 + n) (λ k m q. omega (arith, key-drop k m q)) refl);
         }
 
--- ---- the loops over the sides
+-- ---- the loops over the bearings
 
--- the greatest keys c and d of the first n cardinal and of the first n diagonal sides of x
+-- the greatest keys c and d of the first n cardinal and of the first n diagonal bearings of x
 pub record KeysTo (rows cols : ℕ) (lv : List ℕ) (x n c d : ℕ) : Type 0 where
   pub cardinal : GreatestKey rows cols lv x (λ i. 2 * i) n c
   pub diagonal : GreatestKey rows cols lv x (λ i. 2 * i + 1) n d
@@ -228,14 +229,14 @@ module _ {rows cols : ℕ} {lv : List ℕ} {x : ℕ} where
   unfolding greatestTo
   keys-none e f = record { cardinal = e; diagonal = f }
 
-  pub keys-more : {n c d c′ d′ : ℕ} → KeysTo rows cols lv x n c d → c′ ≡ max c (sideKey rows cols lv x (2 * n)) → d′ ≡ max d (sideKey rows cols lv x (2 * n + 1)) → KeysTo rows cols lv x (n + 1) c′ d′
+  pub keys-more : {n c d c′ d′ : ℕ} → KeysTo rows cols lv x n c d → c′ ≡ max c (bearingKey rows cols lv x (2 * n)) → d′ ≡ max d (bearingKey rows cols lv x (2 * n + 1)) → KeysTo rows cols lv x (n + 1) c′ d′
   keys-more {n} p e f =
       record {
-        cardinal = omega (arith, p .cardinal, greatest-more n (λ i. sideKey rows cols lv x (2 * i)));
-        diagonal = omega (arith, p .diagonal, greatest-more n (λ i. sideKey rows cols lv x (2 * i + 1)));
+        cardinal = omega (arith, p .cardinal, greatest-more n (λ i. bearingKey rows cols lv x (2 * i)));
+        diagonal = omega (arith, p .diagonal, greatest-more n (λ i. bearingKey rows cols lv x (2 * i + 1)));
       }
 
-  pub keys-small : {n c d : ℕ} → getD lv x 0 ≤ 1900000 → KeysTo rows cols lv x n c d → (c < 536870912) × (d < 536870912)
+  pub keys-small : {n c d : ℕ} → getD lv x 0 ≤ top → KeysTo rows cols lv x n c d → (c < 536870912) × (d < 536870912)
   keys-small {n} {c} {d} h p = (
     omega (arith, key-small rows cols lv x (λ i. 2 * i) n c (p .cardinal) (getD lv x 0) (λ i. drop-small (getD lv x 0) (getD lv (neighbour rows cols x (2 * i)) 0))),
     omega (arith, key-small rows cols lv x (λ i. 2 * i + 1) n d (p .diagonal) (getD lv x 0) (λ i. drop-small (getD lv x 0) (getD lv (neighbour rows cols x (2 * i + 1)) 0))),

@@ -18,7 +18,7 @@ use Rattle.laws.proofs.Settle.{kept-active}
 use Rattle.terrain.specs.Cells.{neighbour, codeOf, validAt, rimAt}
 use Rattle.terrain.specs.Flat.{farSteps, hasLower, flatAt, flatSteps, flatStepping, Walk, there, on, walked}
 use Rattle.terrain.specs.InnerFlats.{Within, StepsKept}
-use Rattle.terrain.specs.Direction.{steepSide, nearerAt, nearerSide, directionAt, directionsOf}
+use Rattle.terrain.specs.Direction.{steepBearing, nearerAt, nearerBearing, directionAt, directionsOf}
 use Rattle.terrain.specs.InnerLevels.{Levels, startAt, steepestIn, downAt, fallDownAt, FallTo, Down}
 use Rattle.terrain.specs.declared.direction.Fall.{Fall}
 use Rattle.terrain.proofs.Flats.{flat-valid, flat-inland, flat-is, steps-kept}
@@ -49,7 +49,7 @@ module _ {rows cols : ℕ} {lv : List ℕ} where
   down-starts {dir} {falls} {steps} h p = agrees-tab (λ x. cond (flatAt rows cols lv x) farSteps 0) 0 steps (rows * cols) h (p .starts)
 
 module _ (rows cols : ℕ) (lv : List ℕ) (x : ℕ) where
-  -- ---- the codes of the sides passed
+  -- ---- the codes of the bearings passed
 
   -- as the code tells: the neighbour's steps are one less than the cell's
   one-less : (a b : ℕ) → 0 < b → eqb a (b - 1) ≡ eqb (a + 1) b
@@ -67,17 +67,17 @@ module _ (rows cols : ℕ) (lv : List ℕ) (x : ℕ) where
       ∙ ap (λ (b : Bool). eqb (getD lv y 0) (getD lv x 0) && b) (one-less (getD st y 0) (getD st x 0) h)
       ∙ ap (λ (z : ℕ). eqb (getD lv z 0) (getD lv x 0) && eqb (getD st z 0 + 1) (getD st x 0)) e
 
-  -- no side below k is nearer
+  -- no bearing below k is nearer
   abbrev pub NoneNearer : List ℕ → ℕ → Type 0
   NoneNearer st k = (j : ℕ) → j < k → nearerAt rows cols lv st x j ≡ false
 
-  -- the code that the loop yields: none is nearer, or the side k is the first
-  pub nearer-none : (st : List ℕ) (k : ℕ) → NoneNearer st k → 8 ≤ k → 0 ≡ codeOf (nearerSide rows cols lv st x)
-  unfolding nearerSide
+  -- the code that the loop yields: none is nearer, or the bearing k is the first
+  pub nearer-none : (st : List ℕ) (k : ℕ) → NoneNearer st k → 8 ≤ k → 0 ≡ codeOf (nearerBearing rows cols lv st x)
+  unfolding nearerBearing
   nearer-none st k n h = ap codeOf (sym (first-none (nearerAt rows cols lv st x) 8 (λ j l. n j (omega arith))))
 
-  pub nearer-found : (st : List ℕ) (k : ℕ) → NoneNearer st k → k < 8 → nearerAt rows cols lv st x k ≡ true → codeOf k ≡ codeOf (nearerSide rows cols lv st x)
-  unfolding nearerSide
+  pub nearer-found : (st : List ℕ) (k : ℕ) → NoneNearer st k → k < 8 → nearerAt rows cols lv st x k ≡ true → codeOf k ≡ codeOf (nearerBearing rows cols lv st x)
+  unfolding nearerBearing
   nearer-found st k n h e = ap codeOf (sym (first-is (nearerAt rows cols lv st x) 8 k n h e))
 
 -- ---- the codes of the cells passed
@@ -124,22 +124,22 @@ module _ {rows cols : ℕ} {lv st : List ℕ} where
         some (on y k v h s w) e = omega arith
 
     -- the cells with steps are flat, and those with none point as written before
-    direction-flat : (x : ℕ) → 0 < getD st x 0 → directionAt rows cols lv st x ≡ codeOf (nearerSide rows cols lv st x)
+    direction-flat : (x : ℕ) → 0 < getD st x 0 → directionAt rows cols lv st x ≡ codeOf (nearerBearing rows cols lv st x)
     unfolding directionAt
     direction-flat x h =
         let e = kept-active (flatStepping rows cols lv) (Within rows cols lv) st kept x h in
         let n = flat-inland rows cols lv x e in
-        code-flat (validAt lv x) (hasLower rows cols lv x) (rimAt rows cols lv x) (codeOf (steepSide rows cols lv x)) (codeOf (nearerSide rows cols lv st x)) (lt-ltb 0 (getD lv x 0) (flat-valid rows cols lv x e)) (n .0) (n .1)
+        code-flat (validAt lv x) (hasLower rows cols lv x) (rimAt rows cols lv x) (codeOf (steepBearing rows cols lv x)) (codeOf (nearerBearing rows cols lv st x)) (lt-ltb 0 (getD lv x 0) (flat-valid rows cols lv x e)) (n .0) (n .1)
 
     direction-down : (x : ℕ) → getD st x 0 ≤ 0 → directionAt rows cols lv st x ≡ downAt rows cols lv x
     unfolding directionAt downAt steepestIn
     direction-down x h =
-        code-down (validAt lv x) (hasLower rows cols lv x) (rimAt rows cols lv x) (codeOf (steepSide rows cols lv x)) (codeOf (nearerSide rows cols lv st x))
+        code-down (validAt lv x) (hasLower rows cols lv x) (rimAt rows cols lv x) (codeOf (steepBearing rows cols lv x)) (codeOf (nearerBearing rows cols lv st x))
         (λ v l r. omega (arith, steps-some x (flat-is rows cols lv x (ltb-true 0 (getD lv x 0) v) l r)))
 
   module _ {dir dir′ : List ℕ} {x : ℕ} (p : Pointing rows cols lv st dir x) (kept : StepsKept rows cols lv st) (l : x < rows * cols) where
     -- a flat cell gets its code, and any other keeps it
-    pub point-flat : {code : ℕ} → 0 < getD st x 0 → code ≡ codeOf (nearerSide rows cols lv st x) → dir′ ≡ set dir x code → Pointing rows cols lv st dir′ (x + 1)
+    pub point-flat : {code : ℕ} → 0 < getD st x 0 → code ≡ codeOf (nearerBearing rows cols lv st x) → dir′ ≡ set dir x code → Pointing rows cols lv st dir′ (x + 1)
     point-flat {code} h q e =
         subst (λ (d : List ℕ). Pointing rows cols lv st d (x + 1)) (sym e)
         (record {

@@ -77,21 +77,21 @@ lowest-lower rows cols l m h y (suc k) = omega (arith, lowest-lower rows cols l 
 
 module _ {rows cols : ℕ} where
   edge-low : (l : List ℕ) → length l ≡ rows * cols → (z : ℕ) → Edge rows cols z → lowestOf rows cols l z 8 ≤ 0
-  edge-low l e z o = omega (arith, lowest-le rows cols l z (o .side) 8 (o .small), List·getD-eq-default l 0 {n = neighbour rows cols z (o .side)} (omega (arith, o .none)))
+  edge-low l e z o = omega (arith, lowest-le rows cols l z (o .bearing) 8 (o .small), List·getD-eq-default l 0 {n = neighbour rows cols z (o .bearing)} (omega (arith, o .none)))
 
   -- a cell around one that is not above b has a lowest neighbour that is not
   around-low : (l : List ℕ) → Sized rows cols → length l ≡ rows * cols → (x b : ℕ) → x < rows * cols → getD l x 0 ≤ b → (z : ℕ) → z < rows * cols → Around cols x z → lowestOf rows cols l z 8 ≤ b
   around-low l s e x b h v z i o =
-      ⊎-elim beside (λ g. omega (arith, edge-low l e (besideOf cols x (o .side)) g, same)) (around-cases rows cols x (o .side) s (o .room) (omega (arith, o .is)))
+      ⊎-elim beside (λ g. omega (arith, edge-low l e (besideOf cols x (o .bearing)) g, same)) (around-cases rows cols x (o .bearing) s (o .room) (omega (arith, o .is)))
     where
-      same : lowestOf rows cols l z 8 ≡ lowestOf rows cols l (besideOf cols x (o .side)) 8
+      same : lowestOf rows cols l z 8 ≡ lowestOf rows cols l (besideOf cols x (o .bearing)) 8
       same = ap (λ (y : ℕ). lowestOf rows cols l y 8) (o .is)
 
-      beside : besideOf cols x (o .side) ≡ neighbour rows cols x (o .side) → lowestOf rows cols l z 8 ≤ b
+      beside : besideOf cols x (o .bearing) ≡ neighbour rows cols x (o .bearing) → lowestOf rows cols l z 8 ≤ b
       beside q =
           let n = o .is ∙ q in
-          let back = ap (λ (y : ℕ). neighbour rows cols y (across (o .side))) n ∙ neighbour-back rows cols x (o .side) h (o .room .side-small) (omega (arith, n)) in
-          omega (arith, lowest-le rows cols l z (across (o .side)) 8 (across-small (o .side) (o .room .side-small)), ap (λ (y : ℕ). getD l y 0) back)
+          let back = ap (λ (y : ℕ). neighbour rows cols y (across (o .bearing))) n ∙ neighbour-back rows cols x (o .bearing) h (o .room .bearing-small) (omega (arith, n)) in
+          omega (arith, lowest-le rows cols l z (across (o .bearing)) 8 (across-small (o .bearing) (o .room .bearing-small)), ap (λ (y : ℕ). getD l y 0) back)
 
   -- ---- the level in hand
 

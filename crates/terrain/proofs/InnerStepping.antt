@@ -18,11 +18,11 @@ use Rattle.laws.proofs.Tests.{two}
 use Rattle.laws.proofs.Settle.{relax-lower, relax-pass}
 use Rattle.terrain.specs.Cells.{neighbour, codeOf, validAt, rimAt}
 use Rattle.terrain.specs.Flat.{farSteps, hasLower, flatAt, nearestOf, flatStepping}
-use Rattle.terrain.specs.Direction.{steepSide}
+use Rattle.terrain.specs.Direction.{steepBearing}
 use Rattle.terrain.specs.InnerLevels.{openAt, startAt, steepestIn, downAt, LoweredSteps}
 use Rattle.terrain.proofs.Neighbours.{code-some, rim-open}
 use Rattle.terrain.proofs.Flats.{flat-valid, flat-high}
-use Rattle.terrain.proofs.Directions.{steep-side}
+use Rattle.terrain.proofs.Directions.{steep-bearing}
 
 -- an entry that is not below 0 casts to an index
 pub entry-casts : (n : ℕ) → ltZ (toZ w32 n) (pos 0) ≡ false → T (nonNeg (toZ w32 n)) × Fits w64 (natAbs (toZ w32 n))
@@ -102,8 +102,8 @@ module _ (rows cols : ℕ) (lv : List ℕ) (x : ℕ) where
       no-rim : openAt rows cols lv x 8 ≡ false → rimAt rows cols lv x ≡ false
       no-rim e = ⊎-elim (λ r. let i = rim-open rows cols lv x r in absurd (omega (arith, shut-is 8 e (i .0) (i .1), i .2))) (λ r. r) (two (rimAt rows cols lv x))
 
-      code : (v l : Bool) → validAt lv x ≡ v → hasLower rows cols lv x ≡ l → eqb (cond v (cond l (codeOf (steepSide rows cols lv x)) 0) 255) 0 ≡ (v && not (l || false))
-      code true true p q = ne-eqb (codeOf (steepSide rows cols lv x)) 0 (λ e. omega (arith, code-some (steepSide rows cols lv x) (steep-side rows cols lv x q .0)))
+      code : (v l : Bool) → validAt lv x ≡ v → hasLower rows cols lv x ≡ l → eqb (cond v (cond l (codeOf (steepBearing rows cols lv x)) 0) 255) 0 ≡ (v && not (l || false))
+      code true true p q = ne-eqb (codeOf (steepBearing rows cols lv x)) 0 (λ e. omega (arith, code-some (steepBearing rows cols lv x) (steep-bearing rows cols lv x q .0)))
       code true false p q = refl
       code false l p q = refl
 

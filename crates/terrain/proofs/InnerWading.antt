@@ -233,7 +233,7 @@ module _ {rows cols : ℕ} {lv : List ℕ} (levels : Levels rows cols lv) where
   pub wading-none : {d : List ℕ} {q : List ℤ} {from end x : ℕ} → Wading rows cols lv d q from end x → getD d x 0 ≡ 0 → Wading rows cols lv d q from end (rows * cols)
   wading-none {d} {x = x} w o = record { kept = w .kept; begun = w .begun; fits = w .fits; shore = w .shore; due = (λ room z some not. w .due room z some (λ e. omega (arith, ap (λ (i : ℕ). getD d i 0) e))) }
 
-  -- its neighbours are reached, side by side
+  -- its neighbours are reached, bearing by bearing
   pub spreading-none : {d : List ℕ} {q : List ℤ} {from end n x : ℕ} → Wading rows cols lv d q from end x → 0 < getD d x 0 → n ≡ getD d x 0 + 1 → Spreading rows cols lv d q from end n x 0
   spreading-none {x = x} w some e = record { wading = w; flat = steps-flat (w .kept) x some; own = e; reached = (λ j h. absurd (omega arith)) }
 

@@ -20,82 +20,84 @@ use Rattle.laws.proofs.Lists.{getD-any}
 use Rattle.laws.proofs.Tests.{and-both}
 use Rattle.text.specs.Ranges.{heightAccepted}
 use Rattle.text.proofs.Accepted.{area-small}
-use Rattle.terrain.specs.Cells.{noData, Fine, rowSteps, colSteps, cellAt, neighbour, codeOf, sideOf, Valid, levelOf, heightOf, levelsOf, validAt, rimAt}
+use Rattle.text.specs.Quantities.{datum}
+use Rattle.terrain.specs.Cells.{noData, Fine, rowSteps, colSteps, cellAt, neighbour, codeOf, bearingOf, Valid, levelOf, heightOf, levelsOf, validAt, rimAt}
+use Rattle.terrain.specs.Filled.{top}
 use Rattle.terrain.specs.InnerCells.{Ready}
 use Rattle.terrain.specs.Surfaces.{maxZ}
 
--- ---- the sides
+-- ---- the bearings
 
--- what holds of each side, by the eight
-pub each-side : (P : ℕ → Type 0) → P 0 → P 1 → P 2 → P 3 → P 4 → P 5 → P 6 → P 7 → (k : ℕ) → k < 8 → P k
-each-side P a b c d e f g h zero l = a
-each-side P a b c d e f g h (suc zero) l = b
-each-side P a b c d e f g h (suc (suc zero)) l = c
-each-side P a b c d e f g h (suc (suc (suc zero))) l = d
-each-side P a b c d e f g h (suc (suc (suc (suc zero)))) l = e
-each-side P a b c d e f g h (suc (suc (suc (suc (suc zero))))) l = f
-each-side P a b c d e f g h (suc (suc (suc (suc (suc (suc zero)))))) l = g
-each-side P a b c d e f g h (suc (suc (suc (suc (suc (suc (suc zero))))))) l = h
-each-side P a b c d e f g h (suc (suc (suc (suc (suc (suc (suc (suc k)))))))) l = absurd (omega arith)
+-- what holds of each bearing, by the eight
+pub each-bearing : (P : ℕ → Type 0) → P 0 → P 1 → P 2 → P 3 → P 4 → P 5 → P 6 → P 7 → (k : ℕ) → k < 8 → P k
+each-bearing P a b c d e f g h zero l = a
+each-bearing P a b c d e f g h (suc zero) l = b
+each-bearing P a b c d e f g h (suc (suc zero)) l = c
+each-bearing P a b c d e f g h (suc (suc (suc zero))) l = d
+each-bearing P a b c d e f g h (suc (suc (suc (suc zero)))) l = e
+each-bearing P a b c d e f g h (suc (suc (suc (suc (suc zero))))) l = f
+each-bearing P a b c d e f g h (suc (suc (suc (suc (suc (suc zero)))))) l = g
+each-bearing P a b c d e f g h (suc (suc (suc (suc (suc (suc (suc zero))))))) l = h
+each-bearing P a b c d e f g h (suc (suc (suc (suc (suc (suc (suc (suc k)))))))) l = absurd (omega arith)
 
 -- a step is at most 2, so that sums with it stay small
 pub row-step-le : (k : ℕ) → k < 8 → getD rowSteps k 0 ≤ 2
-row-step-le = each-side (λ k. getD rowSteps k 0 ≤ 2) (omega arith) (omega arith) (omega arith) (omega arith) (omega arith) (omega arith) (omega arith) (omega arith)
+row-step-le = each-bearing (λ k. getD rowSteps k 0 ≤ 2) (omega arith) (omega arith) (omega arith) (omega arith) (omega arith) (omega arith) (omega arith) (omega arith)
 
 pub col-step-le : (k : ℕ) → k < 8 → getD colSteps k 0 ≤ 2
-col-step-le = each-side (λ k. getD colSteps k 0 ≤ 2) (omega arith) (omega arith) (omega arith) (omega arith) (omega arith) (omega arith) (omega arith) (omega arith)
+col-step-le = each-bearing (λ k. getD colSteps k 0 ≤ 2) (omega arith) (omega arith) (omega arith) (omega arith) (omega arith) (omega arith) (omega arith) (omega arith)
 
--- the side across
+-- the bearing across
 abbrev pub across : ℕ → ℕ
 across k = getD (4 ∷ 5 ∷ 6 ∷ 7 ∷ 0 ∷ 1 ∷ 2 ∷ 3 ∷ []) k 0
 
 pub across-small : (k : ℕ) → k < 8 → across k < 8
-across-small = each-side (λ k. across k < 8) (omega arith) (omega arith) (omega arith) (omega arith) (omega arith) (omega arith) (omega arith) (omega arith)
+across-small = each-bearing (λ k. across k < 8) (omega arith) (omega arith) (omega arith) (omega arith) (omega arith) (omega arith) (omega arith) (omega arith)
 
 across-rows : (k : ℕ) → k < 8 → getD rowSteps k 0 + getD rowSteps (across k) 0 ≡ 2
-across-rows = each-side (λ k. getD rowSteps k 0 + getD rowSteps (across k) 0 ≡ 2) refl refl refl refl refl refl refl refl
+across-rows = each-bearing (λ k. getD rowSteps k 0 + getD rowSteps (across k) 0 ≡ 2) refl refl refl refl refl refl refl refl
 
 across-cols : (k : ℕ) → k < 8 → getD colSteps k 0 + getD colSteps (across k) 0 ≡ 2
-across-cols = each-side (λ k. getD colSteps k 0 + getD colSteps (across k) 0 ≡ 2) refl refl refl refl refl refl refl refl
+across-cols = each-bearing (λ k. getD colSteps k 0 + getD colSteps (across k) 0 ≡ 2) refl refl refl refl refl refl refl refl
 
--- the side by one more than its row step and its column step
-abbrev sidesBySteps : List ℕ
-sidesBySteps = 5 ∷ 6 ∷ 7 ∷ 4 ∷ 0 ∷ 0 ∷ 3 ∷ 2 ∷ 1 ∷ []
+-- the bearing by one more than its row step and its column step
+abbrev bearingsBySteps : List ℕ
+bearingsBySteps = 5 ∷ 6 ∷ 7 ∷ 4 ∷ 0 ∷ 0 ∷ 3 ∷ 2 ∷ 1 ∷ []
 
-side-by-steps : (k : ℕ) → k < 8 → getD sidesBySteps (getD rowSteps k 0 * 3 + getD colSteps k 0) 0 ≡ k
-side-by-steps = each-side (λ k. getD sidesBySteps (getD rowSteps k 0 * 3 + getD colSteps k 0) 0 ≡ k) refl refl refl refl refl refl refl refl
+bearing-by-steps : (k : ℕ) → k < 8 → getD bearingsBySteps (getD rowSteps k 0 * 3 + getD colSteps k 0) 0 ≡ k
+bearing-by-steps = each-bearing (λ k. getD bearingsBySteps (getD rowSteps k 0 * 3 + getD colSteps k 0) 0 ≡ k) refl refl refl refl refl refl refl refl
 
 steps-tell : (j k : ℕ) → j < 8 → k < 8 → getD rowSteps j 0 ≡ getD rowSteps k 0 → getD colSteps j 0 ≡ getD colSteps k 0 → j ≡ k
-steps-tell j k g h e f = sym (side-by-steps j g) ∙ ap₂ (λ (r c : ℕ). getD sidesBySteps (r * 3 + c) 0) e f ∙ side-by-steps k h
+steps-tell j k g h e f = sym (bearing-by-steps j g) ∙ ap₂ (λ (r c : ℕ). getD bearingsBySteps (r * 3 + c) 0) e f ∙ bearing-by-steps k h
 
 -- ---- codes
 
-pub side-code : (k : ℕ) → k < 8 → sideOf (codeOf k) ≡ k
-unfolding sideOf firstOf
-side-code = each-side (λ k. sideOf (codeOf k) ≡ k) refl refl refl refl refl refl refl refl
+pub bearing-code : (k : ℕ) → k < 8 → bearingOf (codeOf k) ≡ k
+unfolding bearingOf firstOf
+bearing-code = each-bearing (λ k. bearingOf (codeOf k) ≡ k) refl refl refl refl refl refl refl refl
 
 pub code-some : (k : ℕ) → k < 8 → 0 < codeOf k
-code-some = each-side (λ k. 0 < codeOf k) (omega arith) (omega arith) (omega arith) (omega arith) (omega arith) (omega arith) (omega arith) (omega arith)
+code-some = each-bearing (λ k. 0 < codeOf k) (omega arith) (omega arith) (omega arith) (omega arith) (omega arith) (omega arith) (omega arith) (omega arith)
 
 pub code-small : (k : ℕ) → codeOf k ≤ 128
 code-small k =
     elim (decLt k 8) [
-      | yes h ↦ each-side (λ j. codeOf j ≤ 128) (omega arith) (omega arith) (omega arith) (omega arith) (omega arith) (omega arith) (omega arith) (omega arith) k h
+      | yes h ↦ each-bearing (λ j. codeOf j ≤ 128) (omega arith) (omega arith) (omega arith) (omega arith) (omega arith) (omega arith) (omega arith) (omega arith) k h
       | no f ↦ omega (arith, List·getD-eq-default {A = ℕ} (1 ∷ 2 ∷ 4 ∷ 8 ∷ 16 ∷ 32 ∷ 64 ∷ 128 ∷ []) 0 {n = k} (omega arith))
     ]
 
--- what has a side is that side's code
-pub code-side : (code : ℕ) → sideOf code < 8 → code ≡ codeOf (sideOf code)
-unfolding sideOf
-code-side code h = eqb-true code (codeOf (sideOf code)) (first-holds (λ k. eqb code (codeOf k)) 8 h)
+-- what has a bearing is that bearing's code
+pub code-bearing : (code : ℕ) → bearingOf code < 8 → code ≡ codeOf (bearingOf code)
+unfolding bearingOf
+code-bearing code h = eqb-true code (codeOf (bearingOf code)) (first-holds (λ k. eqb code (codeOf k)) 8 h)
 
-pub side-leaves : sideOf 0 ≡ 8
-unfolding sideOf firstOf
-side-leaves = refl
+pub bearing-leaves : bearingOf 0 ≡ 8
+unfolding bearingOf firstOf
+bearing-leaves = refl
 
-pub side-none : sideOf 255 ≡ 8
-unfolding sideOf firstOf
-side-none = refl
+pub bearing-none : bearingOf 255 ≡ 8
+unfolding bearingOf firstOf
+bearing-none = refl
 
 -- ---- neighbours
 
@@ -158,7 +160,7 @@ module _ (rows cols : ℕ) where
   pub west : (x : ℕ) → 0 < cols → (neighbour rows cols x 4 ≡ rows * cols) ⊎ (neighbour rows cols x 4 < x)
   west x p = ⊎-elim inl (λ h. inr (let e : x / cols + 1 - 1 ≡ x / cols = omega arith in omega (arith, h .is, h .left, div-add-mod' x cols, ap (λ (q : ℕ). q * cols) e))) (neighbour-cases x 4)
 
-  -- a neighbour's neighbour at the side across is the cell itself
+  -- a neighbour's neighbour at the bearing across is the cell itself
   pub neighbour-back : (x k : ℕ) → x < rows * cols → k < 8 → neighbour rows cols x k < rows * cols → neighbour rows cols (neighbour rows cols x k) (across k) ≡ x
   unfolding neighbour
   neighbour-back x k l h y = ⊎-elim (λ e. absurd (omega arith)) go (neighbour-cases x k)
@@ -174,7 +176,7 @@ module _ (rows cols : ℕ) where
           ∙ cell-in rows cols (x / cols + 1) (x % cols + 1) (omega arith) (omega (arith, div-lt-iff-lt-mul wide .1 l)) (omega arith) (omega (arith, mod-lt x wide))
           ∙ (let e : x / cols + 1 - 1 ≡ x / cols = omega arith in omega (arith, ap (λ (m : ℕ). m * cols) e, div-add-mod' x cols))
 
-  -- no two sides of a cell have one neighbour
+  -- no two bearings of a cell have one neighbour
   pub neighbour-only : (x j k : ℕ) → j < 8 → k < 8 → neighbour rows cols x j < rows * cols → neighbour rows cols x j ≡ neighbour rows cols x k → j ≡ k
   neighbour-only x j k g h y e = ⊎-elim (λ q. absurd (omega arith)) (λ i. ⊎-elim (λ q. absurd (omega arith)) (λ i′. go i i′) (neighbour-cases x k)) (neighbour-cases x j)
     where
@@ -189,16 +191,16 @@ module _ (rows cols : ℕ) where
 
 pub height-level : (z : ℤ) → Fine z → heightOf (levelOf z) ≡ z
 unfolding levelOf heightOf
-height-level (pos n) h = simp (le-ltb (999900 + n) 999900 (omega arith)) (ap pos (omega arith))
-height-level (negsuc n) h = simp (lt-ltb (999900 - (n + 1)) 999900 (omega arith)) (ap negsuc (omega arith))
+height-level (pos n) h = simp (le-ltb (datum + n) datum (omega arith)) (ap pos (omega arith))
+height-level (negsuc n) h = simp (lt-ltb (datum - (n + 1)) datum (omega arith)) (ap negsuc (omega arith))
 
 pub level-height : (v : ℕ) → levelOf (heightOf v) ≡ v
 unfolding levelOf heightOf
-level-height v = go (ltb v 999900) refl
+level-height v = go (ltb v datum) refl
   where
-    go : (b : Bool) → ltb v 999900 ≡ b → levelOf (cond b (negsuc (999900 - suc v)) (pos (v - 999900))) ≡ v
-    go true e = omega (arith, ltb-true v 999900 e)
-    go false e = omega (arith, ltb-false v 999900 e)
+    go : (b : Bool) → ltb v datum ≡ b → levelOf (cond b (negsuc (datum - suc v)) (pos (v - datum))) ≡ v
+    go true e = omega (arith, ltb-true v datum e)
+    go false e = omega (arith, ltb-false v datum e)
 
 pub level-none : levelOf noData ≡ 0
 unfolding levelOf
@@ -213,7 +215,7 @@ unfolding levelOf
 level-zero (pos n) h e = absurd (omega arith)
 level-zero (negsuc n) h e = ap negsuc (omega arith)
 
-pub level-fine : (z : ℤ) → Fine z → levelOf z < 1900000
+pub level-fine : (z : ℤ) → Fine z → levelOf z < top
 unfolding levelOf
 level-fine (pos n) h = omega arith
 level-fine (negsuc n) h = omega arith
@@ -243,19 +245,19 @@ level-max a b = go (leZ a b) refl
 -- and heights that of levels: a level above 0 that is at most a height's
 pub height-le : (v : ℕ) (z : ℤ) → 0 < v → v ≤ levelOf z → heightOf v ≤ℤ z
 unfolding levelOf heightOf
-height-le v z p h = go (ltb v 999900) refl z h
+height-le v z p h = go (ltb v datum) refl z h
   where
-    go : (b : Bool) → ltb v 999900 ≡ b → (z : ℤ) → v ≤ levelOf z → cond b (negsuc (999900 - suc v)) (pos (v - 999900)) ≤ℤ z
+    go : (b : Bool) → ltb v datum ≡ b → (z : ℤ) → v ≤ levelOf z → cond b (negsuc (datum - suc v)) (pos (v - datum)) ≤ℤ z
     go true e (pos n) h = record { le = tt }
-    go true e (negsuc n) h = record { le = le→leb n (999900 - suc v) (omega (arith, ltb-true v 999900 e)) }
-    go false e (pos n) h = record { le = le→leb (v - 999900) n (omega (arith, ltb-false v 999900 e)) }
-    go false e (negsuc n) h = absurd (omega (arith, ltb-false v 999900 e))
+    go true e (negsuc n) h = record { le = le→leb n (datum - suc v) (omega (arith, ltb-true v datum e)) }
+    go false e (pos n) h = record { le = le→leb (v - datum) n (omega (arith, ltb-false v datum e)) }
+    go false e (negsuc n) h = absurd (omega (arith, ltb-false v datum e))
 
 -- what the machine makes of z + 999,900 and of v - 999,900
-pub sum-level : (z : ℤ) → Fine z → z +ℤ pos 999900 ≡ pos (levelOf z)
+pub sum-level : (z : ℤ) → Fine z → z +ℤ pos datum ≡ pos (levelOf z)
 unfolding levelOf
 sum-level (pos n) h = ap pos (omega arith)
-sum-level (negsuc n) h = simp (le-ltb 999900 (suc n) (omega arith)) (ap pos (omega arith))
+sum-level (negsuc n) h = simp (le-ltb datum (suc n) (omega arith)) (ap pos (omega arith))
 
 pub difference-height : (v : ℕ) → pos v +ℤ negsuc 999899 ≡ heightOf v
 unfolding heightOf
@@ -263,9 +265,9 @@ difference-height v = refl
 
 pub height-mag : (v : ℕ) → v < 2000000 → mag (heightOf v) < 2 ^ 31
 unfolding heightOf
-height-mag v h = go (ltb v 999900)
+height-mag v h = go (ltb v datum)
   where
-    go : (b : Bool) → mag (cond b (negsuc (999900 - suc v)) (pos (v - 999900))) < 2 ^ 31
+    go : (b : Bool) → mag (cond b (negsuc (datum - suc v)) (pos (v - datum))) < 2 ^ 31
     go true = omega arith
     go false = omega arith
 
@@ -279,7 +281,7 @@ unfolding heightAccepted
 accepted-fine (pos n) e = leb-true n 900000 e
 accepted-fine (negsuc n) e = go (leb 999899 n) (leb n 999899) refl (leb n 49999) refl e
   where
-    go : (a b : Bool) → leb n 999899 ≡ b → (c : Bool) → leb n 49999 ≡ c → ((a && b) || (c && true)) ≡ true → n < 999900
+    go : (a b : Bool) → leb n 999899 ≡ b → (c : Bool) → leb n 49999 ≡ c → ((a && b) || (c && true)) ≡ true → n < datum
     go true true q c r e = omega (arith, leb-true n 999899 q)
     go true false q true r e = omega (arith, leb-true n 49999 r)
     go true false q false r e = absurd (true≢false (sym e))
@@ -308,7 +310,7 @@ module _ {rows cols : ℕ} {ground : List ℤ} (ready : Ready rows cols ground) 
         | no f ↦ subst Fine (sym (List·getD-eq-default ground noData {n = x} (omega arith))) (omega arith)
       ]
 
-  pub level-top : (x : ℕ) → getD (levelsOf ground) x 0 < 1900000
+  pub level-top : (x : ℕ) → getD (levelsOf ground) x 0 < top
   level-top x = rw level-at (level-fine (getD ground x noData) (fine-at x))
 
   pub valid-level : (x : ℕ) → Valid ground x → 0 < getD (levelsOf ground) x 0

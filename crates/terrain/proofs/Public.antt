@@ -8,7 +8,7 @@ pub use Rattle.terrain.proofs.Filling.{filled-small}
 pub use Rattle.terrain.proofs.InnerSurveying.{directions-directed}
 -- any directions along which every trail ends: valid cells, the cells that they point at, and inflows
 pub use Rattle.terrain.proofs.Trails.{mapped-is, steps-le, counts-long}
-pub use Rattle.terrain.proofs.Receivers.{pointing, code-read, receiver-leaves, receiver-beside, receiver-side, receiver-near}
+pub use Rattle.terrain.proofs.Receivers.{pointing, code-read, receiver-leaves, receiver-beside, receiver-bearing, receiver-near}
 pub use Rattle.terrain.proofs.Inflows.{into-above, inflow-greatest}
 -- an order from the ridges down
 pub use Rattle.terrain.proofs.InnerDescending.{place-cell, downhill-few}

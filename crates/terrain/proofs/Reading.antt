@@ -19,7 +19,7 @@ use Rattle.terrain.specs.Filled.{filledLevels}
 use Rattle.terrain.specs.Flat.{flatAt, flatSteps, Walk, there, walked}
 use Rattle.terrain.specs.Trail.{Trail, Meets, steps, mappedAt, stepsIn, passesIn, longestOf}
 use Rattle.terrain.specs.InnerCells.{Ready}
-use Rattle.terrain.specs.Answers.{directionOf}
+use Rattle.terrain.specs.Answers.{groundDirections}
 use Rattle.terrain.proofs.Neighbours.{rim-valid, rim-open, open-rim, valid-level, level-valid, level-invalid, none-level}
 use Rattle.terrain.proofs.Filling.{filled-long, filled-above, filled-some, filled-valid}
 use Rattle.terrain.proofs.Flats.{walk-least, steps-kept, steps-still, steps-small}
@@ -35,7 +35,7 @@ module _ (rows cols : ℕ) (ground : List ℤ) (ready : Ready rows cols ground) 
   lv = filledLevels rows cols ground
 
   abbrev dir : List ℕ
-  dir = directionOf rows cols ground
+  dir = groundDirections rows cols ground
 
   long : length lv ≡ rows * cols
   long = filled-long rows cols ground ready
@@ -53,8 +53,8 @@ module _ (rows cols : ℕ) (ground : List ℤ) (ready : Ready rows cols ground) 
       ((λ h. valid-same x .0 (sym e ∙ h)), (λ v. e ∙ valid-same x .1 v))
 
   -- of the directions
-  pub mapped-same : (x : ℕ) → Same (mappedAt rows cols (directionOf rows cols ground) x ≡ true) (Valid ground x)
-  unfolding directionOf
+  pub mapped-same : (x : ℕ) → Same (mappedAt rows cols (groundDirections rows cols ground) x ≡ true) (Valid ground x)
+  unfolding groundDirections
   mapped-same x =
       let e = mapped-valid rows cols ground ready x in
       ((λ h. filled-same x .0 (sym e ∙ h)), (λ v. e ∙ filled-same x .1 v))
@@ -69,10 +69,10 @@ module _ (rows cols : ℕ) (ground : List ℤ) (ready : Ready rows cols ground) 
       to : rimAt rows cols lv x ≡ true → Rim rows cols ground x
       to e =
           let o = rim-open rows cols lv x e in
-          record { valid = filled-same x .0 (rim-valid rows cols lv x e); side = o .0; small = o .1; none = level-invalid ready (neighbour rows cols x (o .0)) (open-same (neighbour rows cols x (o .0)) (o .2)) }
+          record { valid = filled-same x .0 (rim-valid rows cols lv x e); bearing = o .0; small = o .1; none = level-invalid ready (neighbour rows cols x (o .0)) (open-same (neighbour rows cols x (o .0)) (o .2)) }
 
       from : Rim rows cols ground x → rimAt rows cols lv x ≡ true
-      from r = open-rim rows cols lv x (r .side) (ltb-true 0 (getD lv x 0) (filled-same x .1 (r .valid))) (r .small) (shut (neighbour rows cols x (r .side)) (r .none))
+      from r = open-rim rows cols lv x (r .bearing) (ltb-true 0 (getD lv x 0) (filled-same x .1 (r .valid))) (r .small) (shut (neighbour rows cols x (r .bearing)) (r .none))
         where
           shut : (y : ℕ) → getD ground y noData ≡ noData → getD lv y 0 ≡ 0
           shut y e = elim (decLt 0 (getD lv y 0)) [ yes h ↦ absurd (omega (arith, filled-some rows cols ground ready y h, none-level ready y e)) | no f ↦ omega arith ]
@@ -80,33 +80,33 @@ module _ (rows cols : ℕ) (ground : List ℤ) (ready : Ready rows cols ground) 
   -- ---- trails
 
   trail : (x : ℕ) → Valid ground x → Trail rows cols dir x
-  unfolding directionOf
+  unfolding groundDirections
   trail x v = trail-of rows cols dir (potential rows cols ground ready) (falls rows cols ground ready) (stops-zero rows cols ground ready) x (mapped-same x .1 v)
 
   valid-cell : (x : ℕ) → Valid ground x → x < rows * cols
   valid-cell x v = omega (arith, in-list lv x (ltb-true 0 (getD lv x 0) (filled-same x .1 v)), long)
 
   -- the steps of the computation are those of the trail
-  pub steps-same : {x : ℕ} (t : Trail rows cols (directionOf rows cols ground) x) → stepsIn rows cols (directionOf rows cols ground) (rows * cols) x ≡ steps rows cols (directionOf rows cols ground) t
-  unfolding directionOf
+  pub steps-same : {x : ℕ} (t : Trail rows cols (groundDirections rows cols ground) x) → stepsIn rows cols (groundDirections rows cols ground) (rows * cols) x ≡ steps rows cols (groundDirections rows cols ground) t
+  unfolding groundDirections
   steps-same t = trail-steps rows cols dir (potential rows cols ground ready) (falls rows cols ground ready) t
 
   -- the flow count counts the trail of a cell exactly where the trail meets a cell
-  pub passes-same : {x : ℕ} (t : Trail rows cols (directionOf rows cols ground) x) (z : ℕ) → Same (passesIn rows cols (directionOf rows cols ground) (rows * cols) x z ≡ 1) (Meets rows cols (directionOf rows cols ground) z t)
+  pub passes-same : {x : ℕ} (t : Trail rows cols (groundDirections rows cols ground) x) (z : ℕ) → Same (passesIn rows cols (groundDirections rows cols ground) (rows * cols) x z ≡ 1) (Meets rows cols (groundDirections rows cols ground) z t)
   passes-same {x} t z = (
     passes-meets rows cols dir t (rows * cols) z,
     meets-passes rows cols dir t (rows * cols) z (omega (arith, steps-same t, steps-le rows cols dir (rows * cols) x)),
   )
 
   -- the longest trail is at least as long as each
-  pub longest-most : {x : ℕ} (t : Trail rows cols (directionOf rows cols ground) x) → Valid ground x → steps rows cols (directionOf rows cols ground) t ≤ longestOf rows cols (directionOf rows cols ground)
+  pub longest-most : {x : ℕ} (t : Trail rows cols (groundDirections rows cols ground) x) → Valid ground x → steps rows cols (groundDirections rows cols ground) t ≤ longestOf rows cols (groundDirections rows cols ground)
   unfolding longestOf
   longest-most {x} t v =
       let m = mapped-same x .1 v in
       omega (arith, steps-same t, when-yes (stepsIn rows cols dir (rows * cols) x) m, greatest-ge (rows * cols) (λ y. when (mappedAt rows cols dir y) (stepsIn rows cols dir (rows * cols) y)) x (valid-cell x v))
 
   -- and as long as some, where it has steps at all
-  pub longest-some : 0 < longestOf rows cols (directionOf rows cols ground) → (x : ℕ) × Valid ground x × ((t : Trail rows cols (directionOf rows cols ground) x) × (steps rows cols (directionOf rows cols ground) t ≡ longestOf rows cols (directionOf rows cols ground)))
+  pub longest-some : 0 < longestOf rows cols (groundDirections rows cols ground) → (x : ℕ) × Valid ground x × ((t : Trail rows cols (groundDirections rows cols ground) x) × (steps rows cols (groundDirections rows cols ground) t ≡ longestOf rows cols (groundDirections rows cols ground)))
   unfolding longestOf
   longest-some h =
       let i = greatest-is (rows * cols) (λ y. when (mappedAt rows cols dir y) (stepsIn rows cols dir (rows * cols) y)) h in

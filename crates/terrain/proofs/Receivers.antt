@@ -12,16 +12,16 @@ use borrow.Author.Tests.{le-ltb}
 use Rattle.laws.specs.Orders.{Pointing, Falling}
 use Rattle.laws.proofs.Tests.{two}
 use Rattle.laws.proofs.Lists.{getD-any}
-use Rattle.terrain.specs.Cells.{neighbour, codeOf, sideOf}
+use Rattle.terrain.specs.Cells.{neighbour, codeOf, bearingOf}
 use Rattle.terrain.specs.Trail.{mappedAt, flowsAt, nextAt, stepsIn, receiverOf}
 use Rattle.terrain.specs.InnerTrail.{Directed}
-use Rattle.terrain.proofs.Neighbours.{each-side, side-none}
+use Rattle.terrain.proofs.Neighbours.{each-bearing, bearing-none}
 use Rattle.terrain.proofs.Trails.{Falls, mapped-is, is-mapped, mapped-in, flows-mapped, flows-code, code-next, receiver-flows, receiver-stops, receiver-points}
 
--- the side of a code, as its lowest bit
-bit-side : (k : ℕ) → k < 8 → trailingZeros 8 (codeOf k) ≡ k
+-- the bearing of a code, as its lowest bit
+bit-bearing : (k : ℕ) → k < 8 → trailingZeros 8 (codeOf k) ≡ k
 unfolding trailingZeros
-bit-side = each-side (λ k. trailingZeros 8 (codeOf k) ≡ k) refl refl refl refl refl refl refl refl
+bit-bearing = each-bearing (λ k. trailingZeros 8 (codeOf k) ≡ k) refl refl refl refl refl refl refl refl
 
 module _ {rows cols : ℕ} {dir : List ℕ} (d : Directed rows cols dir) where
   abbrev rank : ℕ → ℕ
@@ -71,10 +71,10 @@ module _ {rows cols : ℕ} {dir : List ℕ} (d : Directed rows cols dir) where
 
   pub receiver-none : (x : ℕ) → x < rows * cols → getD dir x 0 ≡ 255 → rows * cols ≡ receiverOf rows cols dir x
   unfolding flowsAt
-  receiver-none x h e = sym (receiver-stops rows cols dir x (le-ltb (sideOf (getD dir x 255)) 8 (omega (arith, ap sideOf (code-read x h ∙ e) ∙ side-none))))
+  receiver-none x h e = sym (receiver-stops rows cols dir x (le-ltb (bearingOf (getD dir x 255)) 8 (omega (arith, ap bearingOf (code-read x h ∙ e) ∙ bearing-none))))
 
-  bit-of : (x : ℕ) → x < rows * cols → flowsAt rows cols dir x ≡ true → trailingZeros 8 (getD dir x 0) ≡ sideOf (getD dir x 255)
-  bit-of x h q = let c = flows-code rows cols dir x q in ap (trailingZeros 8) (sym (code-read x h) ∙ c .1) ∙ bit-side (sideOf (getD dir x 255)) (c .0)
+  bit-of : (x : ℕ) → x < rows * cols → flowsAt rows cols dir x ≡ true → trailingZeros 8 (getD dir x 0) ≡ bearingOf (getD dir x 255)
+  bit-of x h q = let c = flows-code rows cols dir x q in ap (trailingZeros 8) (sym (code-read x h) ∙ c .1) ∙ bit-bearing (bearingOf (getD dir x 255)) (c .0)
 
   pub receiver-leaves : (x : ℕ) → x < rows * cols → 8 ≤ trailingZeros 8 (getD dir x 0) → rows * cols ≡ receiverOf rows cols dir x
   receiver-leaves x h k = ⊎-elim (λ q. absurd (omega (arith, bit-of x h q, flows-code rows cols dir x q .0))) (λ q. sym (receiver-stops rows cols dir x q)) (two (flowsAt rows cols dir x))
@@ -88,10 +88,10 @@ module _ {rows cols : ℕ} {dir : List ℕ} (d : Directed rows cols dir) where
     pub receiver-beside : neighbour rows cols x (trailingZeros 8 (getD dir x 0)) ≡ receiverOf rows cols dir x
     receiver-beside =
         let c = flows-code rows cols dir x bit-flows in
-        ap (neighbour rows cols x) (bit-of x h bit-flows) ∙ sym (code-next rows cols dir x (sideOf (getD dir x 255)) (c .0) (c .1)) ∙ sym (receiver-flows rows cols dir x bit-flows)
+        ap (neighbour rows cols x) (bit-of x h bit-flows) ∙ sym (code-next rows cols dir x (bearingOf (getD dir x 255)) (c .0) (c .1)) ∙ sym (receiver-flows rows cols dir x bit-flows)
 
-    pub receiver-side : trailingZeros 8 (getD dir x 0) ≡ sideOf (getD dir x 255)
-    receiver-side = bit-of x h bit-flows
+    pub receiver-bearing : trailingZeros 8 (getD dir x 0) ≡ bearingOf (getD dir x 255)
+    receiver-bearing = bit-of x h bit-flows
 
     pub receiver-near : neighbour rows cols x (trailingZeros 8 (getD dir x 0)) < rows * cols
     receiver-near = omega (arith, receiver-beside, receiver-in x bit-flows)

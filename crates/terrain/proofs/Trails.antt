@@ -15,9 +15,9 @@ use Rattle.laws.proofs.Tests.{two}
 use Rattle.laws.proofs.Lists.{length-tab, getD-tab}
 use Rattle.laws.proofs.Pigeon.{pigeon}
 use Rattle.laws.proofs.Sums.{sum-ext, sum-zero, sum-ones, sum-add, sum-swap, sum-one, sum-when, when-yes, when-no, when-zero, when-swap, when-add, when-under}
-use Rattle.terrain.specs.Cells.{neighbour, codeOf, sideOf}
+use Rattle.terrain.specs.Cells.{neighbour, codeOf, bearingOf}
 use Rattle.terrain.specs.Trail.{Trail, ends, goes, Meets, steps, mappedAt, flowsAt, nextAt, stepsIn, passesIn, countAt, countsOf, receiverOf}
-use Rattle.terrain.proofs.Neighbours.{side-code, code-side, code-small, side-leaves}
+use Rattle.terrain.proofs.Neighbours.{bearing-code, code-bearing, code-small, bearing-leaves}
 
 -- ---- one step
 
@@ -34,25 +34,25 @@ module _ (rows cols : ℕ) (dir : List ℕ) where
   unfolding mappedAt
   mapped-none x e = ap not (eq-eqb (getD dir x 255) 255 e)
 
-  -- a cell with the code of a side goes on to the neighbour there
+  -- a cell with the code of a bearing goes on to the neighbour there
   pub code-flows : (x k : ℕ) → k < 8 → getD dir x 255 ≡ codeOf k → flowsAt rows cols dir x ≡ true
   unfolding flowsAt
-  code-flows x k h e = lt-ltb (sideOf (getD dir x 255)) 8 (omega (arith, ap sideOf e ∙ side-code k h))
+  code-flows x k h e = lt-ltb (bearingOf (getD dir x 255)) 8 (omega (arith, ap bearingOf e ∙ bearing-code k h))
 
   pub code-next : (x k : ℕ) → k < 8 → getD dir x 255 ≡ codeOf k → nextAt rows cols dir x ≡ neighbour rows cols x k
   unfolding nextAt
-  code-next x k h e = ap (neighbour rows cols x) (ap sideOf e ∙ side-code k h)
+  code-next x k h e = ap (neighbour rows cols x) (ap bearingOf e ∙ bearing-code k h)
 
-  pub flows-code : (x : ℕ) → flowsAt rows cols dir x ≡ true → (sideOf (getD dir x 255) < 8) × (getD dir x 255 ≡ codeOf (sideOf (getD dir x 255)))
+  pub flows-code : (x : ℕ) → flowsAt rows cols dir x ≡ true → (bearingOf (getD dir x 255) < 8) × (getD dir x 255 ≡ codeOf (bearingOf (getD dir x 255)))
   unfolding flowsAt
-  flows-code x e = let l = ltb-true (sideOf (getD dir x 255)) 8 e in (l, code-side (getD dir x 255) l)
+  flows-code x e = let l = ltb-true (bearingOf (getD dir x 255)) 8 e in (l, code-bearing (getD dir x 255) l)
 
   pub zero-stops : (x : ℕ) → getD dir x 255 ≡ 0 → flowsAt rows cols dir x ≡ false
   unfolding flowsAt
-  zero-stops x e = le-ltb (sideOf (getD dir x 255)) 8 (omega (arith, ap sideOf e ∙ side-leaves))
+  zero-stops x e = le-ltb (bearingOf (getD dir x 255)) 8 (omega (arith, ap bearingOf e ∙ bearing-leaves))
 
   pub flows-mapped : (x : ℕ) → flowsAt rows cols dir x ≡ true → mappedAt rows cols dir x ≡ true
-  flows-mapped x e = is-mapped x (λ q. omega (arith, flows-code x e .1, code-small (sideOf (getD dir x 255))))
+  flows-mapped x e = is-mapped x (λ q. omega (arith, flows-code x e .1, code-small (bearingOf (getD dir x 255))))
 
   -- the cell that a cell points at
   pub receiver-flows : (x : ℕ) → flowsAt rows cols dir x ≡ true → receiverOf rows cols dir x ≡ nextAt rows cols dir x
@@ -236,7 +236,7 @@ module _ (rows cols : ℕ) (dir : List ℕ) where
     trail-below (suc m) x h v z = ⊎-elim (λ q. on q (trail-below m (next x) (omega (arith, falls .less x q)) (falls .stays x q) z)) (λ q. ends x (z x v q)) (two (flows x))
       where
         on : flows x ≡ true → Trail rows cols dir (next x) → Trail rows cols dir x
-        on q t = let c = flows-code rows cols dir x q in goes x (sideOf (getD dir x 255)) (c .0) (c .1) (subst (Trail rows cols dir) (code-next rows cols dir x (sideOf (getD dir x 255)) (c .0) (c .1)) t)
+        on q t = let c = flows-code rows cols dir x q in goes x (bearingOf (getD dir x 255)) (c .0) (c .1) (subst (Trail rows cols dir) (code-next rows cols dir x (bearingOf (getD dir x 255)) (c .0) (c .1)) t)
 
     pub trail-of : ((y : ℕ) → mappedAt rows cols dir y ≡ true → flowsAt rows cols dir y ≡ false → getD dir y 255 ≡ 0) → (x : ℕ) → mappedAt rows cols dir x ≡ true → Trail rows cols dir x
     trail-of z x v = trail-below (suc (pot x)) x (omega arith) v z

@@ -54,14 +54,14 @@ unfolding tests verdict
 judged rows cols ground g = verdict (tests rows cols ground g)
 
 -- "the number of valid cells"
-unfoldable pub validOf : ℕ → ℕ → List ℤ → ℕ
+unfoldable pub groundValids : ℕ → ℕ → List ℤ → ℕ
 unfolding validsOf levelsOf
-validOf rows cols ground = validsOf rows cols (levelsOf ground)
+groundValids rows cols ground = validsOf rows cols (levelsOf ground)
 
 -- the directions of a ground
-unfoldable pub directionOf : ℕ → ℕ → List ℤ → List ℕ
+unfoldable pub groundDirections : ℕ → ℕ → List ℤ → List ℕ
 unfolding filledLevels directionsOf
-directionOf rows cols ground = directionsOf rows cols (filledLevels rows cols ground)
+groundDirections rows cols ground = directionsOf rows cols (filledLevels rows cols ground)
 
 -- the grids of a ground for a list of directions. Which of the many orders from the ridges down the workspace holds is left open.
 pub record Mapped (rows cols : ℕ) (ground : List ℤ) (dir : List ℕ) (g : Grids) : Type 0 where
@@ -69,17 +69,17 @@ pub record Mapped (rows cols : ℕ) (ground : List ℤ) (dir : List ℕ) (g : Gr
   pub direction-is : g .direction ≡ dir
   pub count-is : g .count ≡ countsOf rows cols dir
   pub falls-are : g .falls ≡ fallsOf rows cols (filledLevels rows cols ground) dir
-  pub order : Downhill rows cols dir (g .workspace) (validOf rows cols ground)
+  pub order : Downhill rows cols dir (g .workspace) (groundValids rows cols ground)
 
 -- "A refusal returns number and place with every other number 0"; "an accepted call has number and place 0": the cases of the enum
 unfoldable pub answerOf : ℕ → ℕ → List ℤ → Test → Answer
-unfolding validOf directionOf longestOf
-answerOf rows cols ground passed = let dir = directionOf rows cols ground in Accepted (validOf rows cols ground) (longestOf rows cols dir)
+unfolding groundValids groundDirections longestOf
+answerOf rows cols ground passed = let dir = groundDirections rows cols ground in Accepted (groundValids rows cols ground) (longestOf rows cols dir)
 answerOf rows cols ground (failed number place) = Refused (record { number = number; place = place })
 
 -- "A refusal changes no lent grid": what the lent grids g are afterwards, for a ground and what its tests decide
 abbrev pub After : ℕ → ℕ → List ℤ → Grids → Grids → Test → Type 0
-After rows cols ground g h passed = Mapped rows cols ground (directionOf rows cols ground) h
+After rows cols ground g h passed = Mapped rows cols ground (groundDirections rows cols ground) h
 After rows cols ground g h (failed number place) = h ≡ g
 
 -- the whole of the call

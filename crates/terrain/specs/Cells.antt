@@ -8,7 +8,7 @@ use lib.ListN.{length, getD}
 use lib.IntN.{ℤ, pos, negsuc, subℕ}
 use lib.Dec.{ltb, eqb}
 use Rattle.laws.specs.First.{firstOf, someOf}
-use Rattle.text.specs.Quantities.{noDataHeight}
+use Rattle.text.specs.Quantities.{datum, noDataHeight}
 
 -- ---- heights
 
@@ -19,11 +19,11 @@ noData = noDataHeight
 -- from NoData to 900,000: every accepted height, and every filled one
 abbrev pub Fine : ℤ → Type 0
 Fine (pos n) = n ≤ 900000
-Fine (negsuc n) = n < 999900
+Fine (negsuc n) = n < datum
 
 -- ---- neighbours: "the eight around"
 
--- The sides 0 to 7 in the order of the codes, E SE S SW W NW N NE: one more than the rows that a side goes down, and than the columns that it goes right.
+-- The bearings 0 to 7 in the order of the codes, E SE S SW W NW N NE: one more than the rows that a bearing goes down, and than the columns that it goes right.
 abbrev pub rowSteps : List ℕ
 rowSteps = 1 ∷ 2 ∷ 2 ∷ 2 ∷ 1 ∷ 0 ∷ 0 ∷ 0 ∷ []
 
@@ -36,27 +36,27 @@ cellAt rows cols a b =
     cond (ltb a 1) (rows * cols)
     (cond (ltb rows a) (rows * cols) (cond (ltb b 1) (rows * cols) (cond (ltb cols b) (rows * cols) ((a - 1) * cols + (b - 1)))))
 
--- the neighbour of the cell x at the side k
+-- the neighbour of the cell x at the bearing k
 unfoldable pub neighbour : ℕ → ℕ → ℕ → ℕ → ℕ
 unfolding cellAt
 neighbour rows cols x k = cellAt rows cols (x / cols + getD rowSteps k 0) (x % cols + getD colSteps k 0)
 
--- how far on the neighbour at each side lies from the one at NW
+-- how far on the neighbour at each bearing lies from the one at NW
 pub record Shifts (cols : ℕ) (shifts : List ℕ) : Type 0 where
   pub steps : (k : ℕ) → k < 8 → getD shifts k 0 ≡ getD rowSteps k 0 * cols + getD colSteps k 0
 
 -- ---- codes: "E 1, SE 2, S 4, SW 8, W 16, NW 32, N 64, NE 128; 0 leaves the map; 255 NoData"
 
--- the code of a side; 0 for 8, which is no side
+-- the code of a bearing; 0 for 8, which is no bearing
 abbrev pub codeOf : ℕ → ℕ
 codeOf k = getD (1 ∷ 2 ∷ 4 ∷ 8 ∷ 16 ∷ 32 ∷ 64 ∷ 128 ∷ []) k 0
 
--- the side of a code; 8 for 0 and 255
-unfoldable pub sideOf : ℕ → ℕ
+-- the bearing of a code; 8 for 0 and 255
+unfoldable pub bearingOf : ℕ → ℕ
 unfolding firstOf
-sideOf code = firstOf (λ k. eqb code (codeOf k)) 8
+bearingOf code = firstOf (λ k. eqb code (codeOf k)) 8
 
--- a side that is no diagonal
+-- a bearing that is no diagonal
 abbrev pub cardinal : ℕ → Bool
 cardinal k = eqb (k % 2) 0
 
@@ -65,23 +65,23 @@ cardinal k = eqb (k % 2) 0
 abbrev pub Valid : List ℤ → ℕ → Type 0
 Valid ground x = getD ground x noData ≡ noData → ⊥
 
--- "A rim cell is a valid cell on the grid's edge or beside a NoData cell": at some side it has no cell, or NoData.
+-- "A rim cell is a valid cell on the grid's edge or beside a NoData cell": at some bearing it has no cell, or NoData.
 pub record Rim (rows cols : ℕ) (ground : List ℤ) (x : ℕ) : Type 0 where
   pub valid : Valid ground x
-  pub side : ℕ
-  pub small : side < 8
-  pub none : getD ground (neighbour rows cols x side) noData ≡ noData
+  pub bearing : ℕ
+  pub small : bearing < 8
+  pub none : getD ground (neighbour rows cols x bearing) noData ≡ noData
 
 -- ---- the same over levels
 
 -- z + 999,900; 0 for what is below NoData
 unfoldable pub levelOf : ℤ → ℕ
-levelOf (pos n) = 999900 + n
-levelOf (negsuc n) = 999900 - (n + 1)
+levelOf (pos n) = datum + n
+levelOf (negsuc n) = datum - (n + 1)
 
 -- v - 999,900
 unfoldable pub heightOf : ℕ → ℤ
-heightOf v = subℕ v 999900
+heightOf v = subℕ v datum
 
 unfoldable pub levelsOf : List ℤ → List ℕ
 unfolding levelOf

@@ -15,7 +15,7 @@ abbrev pub steepOf : ℕ → ℕ → ℕ
 steepOf k d = cond (cardinal k) (2 * (d * d)) (d * d)
 
 module _ (rows cols : ℕ) (lv : List ℕ) where
-  -- the steepness towards the neighbour at the side k of x; 0 where that is no lower neighbour
+  -- the steepness towards the neighbour at the bearing k of x; 0 where that is no lower neighbour
   unfoldable pub steepAt : ℕ → ℕ → ℕ
   unfolding neighbour
   steepAt x k = cond (lowerAt rows cols lv x k) (steepOf k (getD lv x 0 - getD lv (neighbour rows cols x k) 0)) 0
@@ -26,23 +26,23 @@ module _ (rows cols : ℕ) (lv : List ℕ) where
   steepestAt x = greatestTo 8 (steepAt x)
 
   -- "The direction is the lower neighbour of greatest steepness; on a tie, the first in the order of the codes."
-  unfoldable pub steepSide : ℕ → ℕ
+  unfoldable pub steepBearing : ℕ → ℕ
   unfolding steepAt steepestAt firstOf
-  steepSide x = firstOf (λ k. eqb (steepAt x k) (steepestAt x)) 8
+  steepBearing x = firstOf (λ k. eqb (steepAt x k) (steepestAt x)) 8
 
-  -- the neighbour at the side k has the level of x, and is one step nearer
+  -- the neighbour at the bearing k has the level of x, and is one step nearer
   abbrev pub nearerAt : List ℕ → ℕ → ℕ → Bool
   nearerAt st x k = eqb (getD lv (neighbour rows cols x k) 0) (getD lv x 0) && eqb (getD st (neighbour rows cols x k) 0 + 1) (getD st x 0)
 
   -- "the first neighbour of equal height, in code order, that is one step nearer"
-  unfoldable pub nearerSide : List ℕ → ℕ → ℕ
+  unfoldable pub nearerBearing : List ℕ → ℕ → ℕ
   unfolding neighbour firstOf
-  nearerSide st x = firstOf (nearerAt st x) 8
+  nearerBearing st x = firstOf (nearerAt st x) 8
 
   -- the direction of x, for the flat steps st. "A rim cell with no lower neighbour has 0."
   unfoldable pub directionAt : List ℕ → ℕ → ℕ
-  unfolding hasLower steepSide rimAt nearerSide
-  directionAt st x = cond (validAt lv x) (cond (hasLower rows cols lv x) (codeOf (steepSide x)) (cond (rimAt rows cols lv x) 0 (codeOf (nearerSide st x)))) 255
+  unfolding hasLower steepBearing rimAt nearerBearing
+  directionAt st x = cond (validAt lv x) (cond (hasLower rows cols lv x) (codeOf (steepBearing x)) (cond (rimAt rows cols lv x) 0 (codeOf (nearerBearing st x)))) 255
 
   unfoldable pub directionsOf : List ℕ
   unfolding tab directionAt flatSteps

@@ -6,14 +6,14 @@ use Prim.Native.Nat.{ℕ, _+_, _-_, _*_, _%_}
 use lib.ListN.{getD}
 use lib.Dec.{ltb}
 use Rattle.laws.specs.Lists.{tab}
-use Rattle.terrain.specs.Cells.{sideOf}
+use Rattle.terrain.specs.Cells.{bearingOf}
 use Rattle.terrain.specs.Trail.{mappedAt, flowsAt, nextAt}
 
 -- the fall of a NoData cell, as an LS grid marks it
 abbrev pub noFall : ℕ
 noFall = 4294967295
 
--- the fall of a drop d over the side k: twice the drop, and one more over a diagonal; 0 where there is no drop
+-- the fall of a drop d over the bearing k: twice the drop, and one more over a diagonal; 0 where there is no drop
 unfoldable pub fallOf : ℕ → ℕ → ℕ
 fallOf k d = cond (ltb 0 d) (2 * d + k % 2) 0
 
@@ -25,8 +25,8 @@ module _ (rows cols : ℕ) (lv dir : List ℕ) where
 
   -- the fall of x
   unfoldable pub fallAt : ℕ → ℕ
-  unfolding mappedAt sideOf dropAt fallOf
-  fallAt x = cond (mappedAt rows cols dir x) (fallOf (sideOf (getD dir x 255)) (dropAt x)) noFall
+  unfolding mappedAt bearingOf dropAt fallOf
+  fallAt x = cond (mappedAt rows cols dir x) (fallOf (bearingOf (getD dir x 255)) (dropAt x)) noFall
 
   -- the falls of a map, by its filled levels and directions
   unfoldable pub fallsOf : List ℕ

@@ -11,7 +11,7 @@ use Rattle.terrain.specs.Cells.{neighbour, levelOf, levelsOf, heightOf, 
 abbrev pub top : ℕ
 top = 1900000
 
--- the lowest of l at the first k sides of x; what is not valid is at 0
+-- the lowest of l at the first k bearings of x; what is not valid is at 0
 unfoldable pub lowestOf : ℕ → ℕ → List ℕ → ℕ → ℕ → ℕ
 unfolding neighbour
 lowestOf rows cols l x zero = top

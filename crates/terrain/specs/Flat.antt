@@ -15,7 +15,7 @@ abbrev pub farSteps : ℕ
 farSteps = 2000000
 
 module _ (rows cols : ℕ) (lv : List ℕ) where
-  -- "A lower neighbour is a valid one of lower filled height": at the side k of x there is one
+  -- "A lower neighbour is a valid one of lower filled height": at the bearing k of x there is one
   abbrev pub lowerAt : ℕ → ℕ → Bool
   lowerAt x k = ltb 0 (getD lv (neighbour rows cols x k) 0) && ltb (getD lv (neighbour rows cols x k) 0) (getD lv x 0)
 
@@ -29,11 +29,11 @@ module _ (rows cols : ℕ) (lv : List ℕ) where
   unfolding hasLower rimAt
   flatAt x = validAt lv x && not (hasLower x || rimAt rows cols lv x)
 
-  -- what x sees at the side k: the steps of a neighbour of its own level
+  -- what x sees at the bearing k: the steps of a neighbour of its own level
   abbrev pub seenAt : List ℕ → ℕ → ℕ → ℕ
   seenAt d x k = cond (eqb (getD lv (neighbour rows cols x k) 0) (getD lv x 0)) (getD d (neighbour rows cols x k) 0) farSteps
 
-  -- the fewest at the first k sides
+  -- the fewest at the first k bearings
   unfoldable pub nearestOf : List ℕ → ℕ → ℕ → ℕ
   unfolding neighbour
   nearestOf d x zero = farSteps

@@ -35,25 +35,25 @@ pub record RunsTo (rows cols x end : ℕ) : Type 0 where
   pub within : end < rows * cols
   pub inside : (y : ℕ) → x ≤ y → y < end → Inside rows cols y
 
--- where the neighbour at the side k of x lies, if there is one
+-- where the neighbour at the bearing k of x lies, if there is one
 unfoldable pub besideOf : ℕ → ℕ → ℕ → ℕ
 besideOf cols x k = x + getD rowSteps k 0 * cols + getD colSteps k 0 - cols - 1
 
--- the cell x has room for a neighbour at the side k, and the sums that lead there are small
+-- the cell x has room for a neighbour at the bearing k, and the sums that lead there are small
 pub record Beside (cols x k : ℕ) : Type 0 where
   pub cols-small : cols ≤ 1024
   pub cell-small : x < 1048576
-  pub side-small : k < 8
+  pub bearing-small : k < 8
   pub room : cols + 1 ≤ x + getD rowSteps k 0 * cols + getD colSteps k 0
 
--- the place z lies around x, at some side: it is the neighbour there or, past a side of the grid, a cell of the edge
+-- the place z lies around x, at some bearing: it is the neighbour there or, past the edge of the grid, a cell of the edge
 pub record Around (cols x z : ℕ) : Type 0 where
-  pub side : ℕ
-  pub room : Beside cols x side
-  pub is : z ≡ besideOf cols x side
+  pub bearing : ℕ
+  pub room : Beside cols x bearing
+  pub is : z ≡ besideOf cols x bearing
 
--- the cell x is on the edge: at some side it has no neighbour
+-- the cell x is on the edge: at some bearing it has no neighbour
 pub record Edge (rows cols x : ℕ) : Type 0 where
-  pub side : ℕ
-  pub small : side < 8
-  pub none : rows * cols ≤ neighbour rows cols x side
+  pub bearing : ℕ
+  pub small : bearing < 8
+  pub none : rows * cols ≤ neighbour rows cols x bearing

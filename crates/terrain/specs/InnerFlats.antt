@@ -61,7 +61,7 @@ module _ (rows cols : ℕ) (lv : List ℕ) where
     pub shore : (z : ℕ) → z < rows * cols → getD d z 0 ≡ 0 → Calm d z
     pub due : end < length q → (z : ℕ) → 0 < getD d z 0 → (z ≡ x → ⊥) → Waits q from end z ⊎ Calm d z
 
-  -- the neighbours of a flat cell x at the first k sides reached at n steps
+  -- the neighbours of a flat cell x at the first k bearings reached at n steps
   pub record Spreading (d : List ℕ) (q : List ℤ) (from end n x k : ℕ) : Type 0 where
     pub wading : Wading d q from end x
     pub flat : flatAt rows cols lv x ≡ true

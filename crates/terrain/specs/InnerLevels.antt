@@ -12,7 +12,7 @@ use Rattle.terrain.specs.Cells.{neighbour, codeOf, validAt}
 use Rattle.terrain.specs.InnerCells.{Sized}
 use Rattle.terrain.specs.Filled.{top}
 use Rattle.terrain.specs.Flat.{farSteps, hasLower, flatAt, nearestOf, flatStepping}
-use Rattle.terrain.specs.Direction.{steepSide}
+use Rattle.terrain.specs.Direction.{steepBearing}
 use Rattle.terrain.specs.Falls.{noFall}
 use Rattle.terrain.specs.declared.direction.Fall.{Fall}
 
@@ -23,7 +23,7 @@ pub record Levels (rows cols : ℕ) (lv : List ℕ) : Type 0 where
 
 -- ---- flat
 
--- one of the first k neighbours of x has no data or is past a side of the grid
+-- one of the first k neighbours of x has no data or is past the edge of the grid
 unfoldable pub openAt : ℕ → ℕ → List ℕ → ℕ → ℕ → Bool
 unfolding neighbour
 openAt rows cols lv x zero = false
@@ -45,7 +45,7 @@ pub record LoweredSteps (rows cols : ℕ) (lv d₀ d : List ℕ) (x : ℕ) (lowe
 unfoldable pub dropOf : ℕ → ℕ → ℕ
 dropOf v w = cond (ltb 0 w && ltb w v) (v - w) 0
 
--- the key of that drop at the side k: greater for a greater drop, and of equal drops for an earlier side
+-- the key of that drop at the bearing k: greater for a greater drop, and of equal drops for an earlier bearing
 abbrev pub keyOf : ℕ → ℕ → ℕ → ℕ
 keyOf v w k = dropOf v w * 256 + (255 - codeOf k)
 
@@ -59,20 +59,20 @@ pub record Chosen (c d : ℕ) (r : Fall) : Type 0 where
   pub fall : r .fall ≡ cond (straight c d) c d / 256 * 2 + cond (straight c d) 0 1
 
 module _ (rows cols : ℕ) (lv : List ℕ) where
-  -- the drop over the side k of x, its key and its fall
-  abbrev pub sideDrop : ℕ → ℕ → ℕ
-  sideDrop x k = dropOf (getD lv x 0) (getD lv (neighbour rows cols x k) 0)
+  -- the drop over the bearing k of x, its key and its fall
+  abbrev pub bearingDrop : ℕ → ℕ → ℕ
+  bearingDrop x k = dropOf (getD lv x 0) (getD lv (neighbour rows cols x k) 0)
 
-  abbrev pub sideKey : ℕ → ℕ → ℕ
-  sideKey x k = keyOf (getD lv x 0) (getD lv (neighbour rows cols x k) 0) k
+  abbrev pub bearingKey : ℕ → ℕ → ℕ
+  bearingKey x k = keyOf (getD lv x 0) (getD lv (neighbour rows cols x k) 0) k
 
-  abbrev pub sideFall : ℕ → ℕ → ℕ
-  sideFall x k = 2 * sideDrop x k + k % 2
+  abbrev pub bearingFall : ℕ → ℕ → ℕ
+  bearingFall x k = 2 * bearingDrop x k + k % 2
 
-  -- what g has for the steepest side of x; 0 where no neighbour is lower
+  -- what g has for the steepest bearing of x; 0 where no neighbour is lower
   unfoldable pub steepestIn : (ℕ → ℕ) → ℕ → ℕ
-  unfolding hasLower steepSide
-  steepestIn g x = cond (hasLower rows cols lv x) (g (steepSide rows cols lv x)) 0
+  unfolding hasLower steepBearing
+  steepestIn g x = cond (hasLower rows cols lv x) (g (steepBearing rows cols lv x)) 0
 
   -- the code of the cell x but for flats
   unfoldable pub downAt : ℕ → ℕ
@@ -82,7 +82,7 @@ module _ (rows cols : ℕ) (lv : List ℕ) where
   -- and its fall
   unfoldable pub fallDownAt : ℕ → ℕ
   unfolding steepestIn
-  fallDownAt x = cond (validAt lv x) (steepestIn (sideFall x) x) noFall
+  fallDownAt x = cond (validAt lv x) (steepestIn (bearingFall x) x) noFall
 
   -- both of the cell x
   pub record FallTo (x : ℕ) (a : Fall) : Type 0 where

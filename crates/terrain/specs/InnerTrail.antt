@@ -11,7 +11,7 @@ use Rattle.terrain.specs.InnerCells.{Sized}
 pub record Directed (rows cols : ℕ) (dir : List ℕ) : Type 0 where
   pub sized : Sized rows cols
   pub long : length dir ≡ rows * cols
-  -- a code is that of a side, 0 or 255
+  -- a code is that of a bearing, 0 or 255
   pub stops : (x : ℕ) → mappedAt rows cols dir x ≡ true → flowsAt rows cols dir x ≡ false → getD dir x 255 ≡ 0
   -- a valid cell points at a valid cell
   pub stays : (x : ℕ) → flowsAt rows cols dir x ≡ true → mappedAt rows cols dir (nextAt rows cols dir x) ≡ true

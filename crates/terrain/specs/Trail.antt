@@ -10,7 +10,7 @@ use lib.Signed.{_≤ℤ_}
 use lib.Dec.{ltb, eqb}
 use Rattle.laws.specs.Lists.{tab}
 use Rattle.laws.specs.Sums.{sumTo, greatestTo, when}
-use Rattle.terrain.specs.Cells.{neighbour, codeOf, sideOf, Valid, validAt}
+use Rattle.terrain.specs.Cells.{neighbour, codeOf, bearingOf, Valid, validAt}
 
 -- "the number of valid cells", of a grid of levels
 unfoldable pub validsOf : ℕ → ℕ → List ℕ → ℕ
@@ -62,12 +62,12 @@ module _ (rows cols : ℕ) (dir : List ℕ) where
 
   -- a cell whose direction points at a neighbour, and that neighbour
   unfoldable pub flowsAt : ℕ → Bool
-  unfolding sideOf
-  flowsAt x = ltb (sideOf (getD dir x 255)) 8
+  unfolding bearingOf
+  flowsAt x = ltb (bearingOf (getD dir x 255)) 8
 
   unfoldable pub nextAt : ℕ → ℕ
-  unfolding sideOf neighbour
-  nextAt x = neighbour rows cols x (sideOf (getD dir x 255))
+  unfolding bearingOf neighbour
+  nextAt x = neighbour rows cols x (bearingOf (getD dir x 255))
 
   -- the cell that x points at; rows * cols, which is no cell, where it points at none
   unfoldable pub receiverOf : ℕ → ℕ
@@ -103,7 +103,7 @@ module _ (rows cols : ℕ) (dir : List ℕ) where
 
   -- ---- inflows
 
-  -- the neighbour at the side k of z points at z
+  -- the neighbour at the bearing k of z points at z
   unfoldable pub intoAt : ℕ → ℕ → Bool
   unfolding neighbour flowsAt nextAt
   intoAt z k = flowsAt (neighbour rows cols z k) && eqb (nextAt (neighbour rows cols z k)) z

@@ -1,4 +1,4 @@
-// Cells and their neighbours: document 01, "Filling and directions". The eight sides stand in the order of the codes:
+// Cells and their neighbours: document 01, "Filling and directions". The eight bearings stand in the order of the codes:
 //
 //     5 NW   6 N   7 NE
 //     4 W      x   0 E
@@ -10,7 +10,7 @@ ghost use lib.ListN.{length, getD, replicate};
 ghost use Rattle.terrain.specs.Cells.{rowSteps, colSteps, cellAt, neighbour, Shifts};
 ghost use Rattle.terrain.specs.InnerCells.{Sized, Inside, RunsTo, besideOf, Beside, Around};
 
-// Where the neighbour at side k lies, counted from the one at NW: four times its row, plus its column.
+// Where the neighbour at bearing k lies, counted from the one at NW: four times its row, plus its column.
 fn place_of(k: usize) -> usize
     ensures { λ r. ⌜ r ≡ getD rowSteps k 0 * 4 + getD colSteps k 0 ⌝ }
 {
@@ -48,7 +48,7 @@ fn cell_at(rows: usize, columns: usize, a: usize, b: usize) -> usize
     (a - 1) * columns + (b - 1)
 }
 
-// The neighbour of the cell x at side k, or rows * columns where there is none.
+// The neighbour of the cell x at bearing k, or rows * columns where there is none.
 pub(crate) fn near(rows: usize, columns: usize, x: usize, k: usize) -> usize
     requires { ⌜ Sized rows columns × (x < 1048576) × (k < 8) ⌝ }
     ensures { λ r. ⌜ r ≡ neighbour rows columns x k ⌝ }
@@ -91,7 +91,7 @@ pub(crate) fn run_end(rows: usize, columns: usize, x: usize) -> usize
     x
 }
 
-// The neighbour at side k of a cell x that has one there.
+// The neighbour at bearing k of a cell x that has one there.
 pub(crate) fn beside(columns: usize, x: usize, k: usize) -> usize
     requires { ⌜ Beside columns x k ⌝ }
     ensures { λ r. ⌜ r ≡ besideOf columns x k ⌝ }
@@ -112,7 +112,7 @@ pub fn shifts_of(columns: usize) -> [usize; 8]
     [columns + 2, below + 2, below + 1, below, columns, 0, 1, 2]
 }
 
-// The neighbour at side k of a cell x that has one there, by the shifts.
+// The neighbour at bearing k of a cell x that has one there, by the shifts.
 pub(crate) fn shifted(columns: usize, shifts: &[usize; 8], x: usize, k: usize) -> usize
     requires { ⌜ Beside columns x k × Shifts columns (now shifts) ⌝ }
     ensures { λ r. ⌜ r ≡ besideOf columns x k ⌝ }
@@ -120,7 +120,7 @@ pub(crate) fn shifted(columns: usize, shifts: &[usize; 8], x: usize, k: usize) -
     x + shifts[k] - columns - 1
 }
 
-// Where the neighbour at side k of a cell x lies, if it has one there; else a cell of the edge, or a place past all cells.
+// Where the neighbour at bearing k of a cell x lies, if it has one there; else a cell of the edge, or a place past all cells.
 pub(crate) fn around(columns: usize, x: usize, k: usize) -> usize
     requires { ⌜ (columns ≤ 1024) × (x < 1048576) × (k < 8) ⌝ }
     ensures { λ r. ⌜ (r < 1048576 → Around columns x r) ⌝ }

@@ -12,7 +12,7 @@ ghost use Rattle.terrain.specs.Flat.{farSteps, flatSteps};
 ghost use Rattle.terrain.specs.Direction.{directionsOf};
 ghost use Rattle.terrain.specs.Falls.{noFall, fallsOf};
 ghost use Rattle.terrain.specs.Filled.{top};
-ghost use Rattle.terrain.specs.InnerLevels.{Levels, openAt, dropOf, keyOf, sideKey, Chosen, downAt, FallTo, Down};
+ghost use Rattle.terrain.specs.InnerLevels.{Levels, openAt, dropOf, keyOf, bearingKey, Chosen, downAt, FallTo, Down};
 use crate::cells::beside;
 use crate::cells::larger;
 use crate::cells::near;
@@ -26,7 +26,7 @@ pub(crate) const NO_CODE: u8 = 255;
 
 const NO_FALL: u32 = 4294967295;
 
-// The code of side k.
+// The code of bearing k.
 pub(crate) fn code_of(k: usize) -> u8
     requires { ⌜ k < 8 ⌝ }
     ensures { λ r. ⌜ r ≡ codeOf k ⌝ }
@@ -56,7 +56,7 @@ fn drop_of(v: u32, w: u32) -> u32
     v - w
 }
 
-// The key of the drop from level v to level w at side k: greater for a greater drop, and of equal drops for an earlier side.
+// The key of the drop from level v to level w at bearing k: greater for a greater drop, and of equal drops for an earlier bearing.
 fn key_of(v: u32, w: u32, k: usize) -> u32
     requires { ⌜ (v ≤ top) × (k < 8) ⌝ }
     ensures { λ r. ⌜ r ≡ keyOf v w k ⌝ }
@@ -78,7 +78,7 @@ struct Fall {
 }
 
 impl Fall {
-    // The steeper of the sides of the greatest cardinal and the greatest diagonal key.
+    // The steeper of the bearings of the greatest cardinal and the greatest diagonal key.
     fn chosen(cardinal: u32, diagonal: u32) -> Fall
         requires { ⌜ (cardinal < 536870912) × (diagonal < 536870912) ⌝ }
         ensures { λ r. ⌜ Chosen cardinal diagonal r ⌝ }
@@ -107,7 +107,7 @@ impl Fall {
     }
 }
 
-// The level of the neighbour at side k of a cell x that is inside, or not; 0 where there is none.
+// The level of the neighbour at bearing k of a cell x that is inside, or not; 0 where there is none.
 fn level_beside(rows: usize, columns: usize, level: &[u32], x: usize, k: usize, inside: bool) -> u32
     requires { ⌜ Levels rows columns (now level) × (x < rows * columns) × (k < 8) × (inside ≡ true → Inside rows columns x) ⌝ }
     ensures { λ r. ⌜ r ≡ getD (now (level .entry)) (neighbour rows columns x k) 0 ⌝ }
@@ -118,7 +118,7 @@ fn level_beside(rows: usize, columns: usize, level: &[u32], x: usize, k: usize, 
     value_at(level, near(rows, columns, x, k))
 }
 
-// Whether a cell x that is inside, or not, has a neighbour with no data or past a side of the grid.
+// Whether a cell x that is inside, or not, has a neighbour with no data or past the edge of the grid.
 fn is_open(rows: usize, columns: usize, level: &[u32], x: usize, inside: bool) -> bool
     requires { ⌜ Levels rows columns (now level) × (x < rows * columns) × (inside ≡ true → Inside rows columns x) ⌝ }
     ensures { λ r. ⌜ r ≡ openAt rows columns (now (level .entry)) x 8 ⌝ }
@@ -139,10 +139,10 @@ fn start_steps(code: u8, rim: bool) -> u32
     if (code == 0) & !rim { FAR } else { 0 }
 }
 
-// The key of side k of a cell x that is inside, or not.
+// The key of bearing k of a cell x that is inside, or not.
 fn key_at(rows: usize, columns: usize, level: &[u32], x: usize, k: usize, inside: bool) -> u32
     requires { ⌜ Levels rows columns (now level) × (x < rows * columns) × (k < 8) × (inside ≡ true → Inside rows columns x) ⌝ }
-    ensures { λ r. ⌜ r ≡ sideKey rows columns (now (level .entry)) x k ⌝ }
+    ensures { λ r. ⌜ r ≡ bearingKey rows columns (now (level .entry)) x k ⌝ }
 {
     key_of(
         level[x],

@@ -2,7 +2,7 @@
 // The flood gives a cell a level that is not below its lowest neighbour's: a cell is queued beside one that is done, and what is done
 // is not above the level in hand. If in the end no cell is below its ground, every level can stand, and a cell that nothing can
 // lower any more has its filled level. Sweeps start anew if that fails, which does not happen.
-// A level is a height plus 999,900, so NoData is 0, and a place off the grid reads as 0 too: a rim cell is one that sees a 0.
+// A place off the grid reads as level 0, as NoData does: a rim cell is one that sees a 0.
 ghost use mathlib.Core.Path.{_≡_};
 ghost use mathlib.Core.List.{map};
 ghost use Prim.Native.Nat.{ℕ, _+_, _*_, _≤_, _<_};
@@ -27,6 +27,9 @@ use crate::queue::reach_rims;
 use crate::queue::spread;
 use crate::queue::start_word;
 
+// A level is a height plus this, so that NoData is 0.
+const DATUM: i32 = 999900;
+
 // Above every level: the flood has not come here yet.
 const UNREACHED: u32 = 1900000;
 
@@ -35,7 +38,7 @@ fn ground_level(ground: &[i32], x: usize) -> u32
     requires { ⌜ (x < length (now ground)) × Fine (getD (now ground) x (pos 0)) ⌝ }
     ensures { λ r. ⌜ r ≡ getD (levelsOf (now (ground .entry))) x 0 ⌝ }
 {
-    (ground[x] + 999900) as u32
+    (ground[x] + DATUM) as u32
 }
 
 // The height of a level.
@@ -43,7 +46,7 @@ fn height_of(level: u32) -> i32
     requires { ⌜ level < top ⌝ }
     ensures { λ r. ⌜ r ≡ heightOf level ⌝ }
 {
-    level as i32 - 999900
+    level as i32 - DATUM
 }
 
 // Whether the lowest level beside a cell x that is inside is below v. Comparing costs half of what the lowest itself would.

@@ -24,7 +24,7 @@ ghost use Rattle.terrain.specs.Falls.{fallsOf};
 ghost use Rattle.terrain.specs.InnerTrail.{Directed};
 ghost use Rattle.terrain.specs.Downhill.{Downhill};
 ghost use Rattle.terrain.specs.Drainage.{Drainage};
-ghost use Rattle.terrain.specs.Answers.{lentAt, lentBefore, lentAfter, placesOf, judged, directionOf, After, answer, accepts, validIn};
+ghost use Rattle.terrain.specs.Answers.{lentAt, lentBefore, lentAfter, placesOf, judged, groundDirections, After, answer, accepts, validIn};
 ghost use Rattle.terrain.specs.InnerAnswers.{found};
 ghost use Rattle.terrain.specs.declared.Answer.the-variants.{Accepted};
 use text::Refusal;
@@ -115,8 +115,8 @@ fn shape(
 )
     requires { ⌜ judged rows columns (now ground) (lentAt filled direction count falls workspace) ≡ passed ⌝ }
     ensures { λ _. ⌜ (now (filled .exit) ≡ filledOf rows columns (now (ground .entry)))
-        × (now (direction .exit) ≡ directionOf rows columns (now (ground .entry)))
-        × (now (falls .exit) ≡ fallsOf rows columns (filledLevels rows columns (now (ground .entry))) (directionOf rows columns (now (ground .entry)))) ⌝ }
+        × (now (direction .exit) ≡ groundDirections rows columns (now (ground .entry)))
+        × (now (falls .exit) ≡ fallsOf rows columns (filledLevels rows columns (now (ground .entry))) (groundDirections rows columns (now (ground .entry)))) ⌝ }
 {
     filled::fill(rows, columns, ground, workspace);
     direction::point(rows, columns, workspace, direction, falls, count, filled);

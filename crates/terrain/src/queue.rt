@@ -135,7 +135,7 @@ fn reach(heads: &mut [u32; 2048], words: &mut [u32], band: usize, h: u32, y: usi
     push(heads, words, list_of(level, band), level, y);
 }
 
-// Reaches the neighbours of the cell x of level h. Past a side of the grid these are cells of the edge, which have been reached
+// Reaches the neighbours of the cell x of level h. Past the edge of the grid these are cells of the edge, which have been reached
 // before.
 pub(crate) fn spread(
     columns: usize,

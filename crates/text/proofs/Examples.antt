@@ -8,7 +8,7 @@ use lib.ListN.{replicate}
 use Rattle.text.specs.Bytes.{bytes}
 use Rattle.text.specs.Reader.{Step, got, refused}
 use Rattle.text.specs.Words.{run, wordStart, wordEnd, word}
-use Rattle.text.specs.Numbers.{Placed, value, countAt, decimals, numberAt, count, number, measure}
+use Rattle.text.specs.Numbers.{Placed, value, countFormAt, decimals, numberAt, count, number, measure}
 use Rattle.text.specs.Headers.{named, name, corner, side, field, anyMeasure, noData, extent, corners, sideAndNoData, header}
 use Rattle.text.specs.Heights.{height, heights, end, body, grid}
 use Rattle.text.specs.Answers.{GridOutcome, headerAnswer, gridAnswer}
@@ -98,17 +98,17 @@ toldOf r = record { number = r .answer .number; place = r .answer .place; height
 
 pub wholes-hold : map (λ (x : Whole). toldOf (gridAnswer (markers (x .lent)) (bytes (x .text)))) wholes
     ≡ map (λ (x : Whole). record { number = x .number; place = x .place; heights = x .heights }) wholes
-unfolding wholes bytes run wordStart wordEnd word value countAt decimals numberAt count number measure named name corner side field anyMeasure noData extent corners sideAndNoData header height heights end body grid
+unfolding wholes bytes run wordStart wordEnd word value countFormAt decimals numberAt count number measure named name corner side field anyMeasure noData extent corners sideAndNoData header height heights end body grid
 wholes-hold = refl
 
 -- ---- the header call: it judges nothing after the header, but the eleventh word belongs to it
 
 pub header-alone : headerAnswer (bytes "ncols 2 nrows 1 xllcorner 0 yllcorner 0 cellsize 12.5 1,0")
     ≡ record { number = 0; place = 0; rows = 1; columns = 2; side = pos 1250; noData = negℤ (pos 999900) }
-unfolding bytes run wordStart wordEnd word value countAt decimals numberAt count number measure named name corner side field anyMeasure noData extent corners sideAndNoData header
+unfolding bytes run wordStart wordEnd word value countFormAt decimals numberAt count number measure named name corner side field anyMeasure noData extent corners sideAndNoData header
 header-alone = refl
 
 pub eleventh-word : headerAnswer (bytes "ncols 2 nrows 1 xllcorner 0 yllcorner 0 cellsize 12.5 nan")
     ≡ record { number = 6; place = 54; rows = 0; columns = 0; side = pos 0; noData = pos 0 }
-unfolding bytes run wordStart wordEnd word value countAt decimals numberAt count number measure named name corner side field anyMeasure noData extent corners sideAndNoData header
+unfolding bytes run wordStart wordEnd word value countFormAt decimals numberAt count number measure named name corner side field anyMeasure noData extent corners sideAndNoData header
 eleventh-word = refl

@@ -9,7 +9,7 @@ use lib.ListN.{length}
 use lib.Dec.{eqb}
 use Rattle.text.specs.Reader.{got, refused, _>>=_, _>>_}
 use Rattle.text.specs.Words.{wordStart, wordEnd, word}
-use Rattle.text.specs.Numbers.{numberAt, countAt, number, measure, count, centimetres}
+use Rattle.text.specs.Numbers.{numberAt, countFormAt, number, measure, count, centimetres}
 use Rattle.text.specs.declared.words.Next.the-variants.{Word}
 use Rattle.text.specs.declared.numbers.Form.{Form}
 use Rattle.text.specs.declared.numbers.Form.the-variants as F
@@ -72,7 +72,7 @@ module _ (s : List ℕ) (at a : ℕ) (p : a ≡ wordStart s at) where
 
   module _ (h : a < length s) (v d : ℕ) (w : DigitsFrom s a 9 v d) where
     pub count-empty : d ≡ a → refused 7 a ≡ count s at
-    unfolding count countAt
+    unfolding count countFormAt
     count-empty z = rw (word-found s at a p h, ← w .ends, eq-eqb d a z)
 
     module _ (some : d ≡ a → ⊥) where
@@ -80,18 +80,18 @@ module _ (s : List ℕ) (at a : ℕ) (p : a ≡ wordStart s at) where
       e-is = end-digits s a 9 d (omega arith) (w .ends)
 
       pub count-off : eqb d (wordEnd s d) ≡ false → refused 7 a ≡ count s at
-      unfolding count countAt
+      unfolding count countFormAt
       count-off t = rw (word-found s at a p h, ← w .ends, ne-eqb d a some, e-is, t)
 
       module _ (t : eqb d (wordEnd s d) ≡ true) where
         pub count-low : v < 1 → refused 1 a ≡ count s at
-        unfolding count countAt
+        unfolding count countFormAt
         count-low l = rw (word-found s at a p h, ← w .ends, ne-eqb d a some, e-is, t, ← w .is, lt-leb 1 v l)
 
         pub count-high : 1 ≤ v → 1024 < v → refused 1 a ≡ count s at
-        unfolding count countAt
+        unfolding count countFormAt
         count-high k l = rw (word-found s at a p h, ← w .ends, ne-eqb d a some, e-is, t, ← w .is, le-leb 1 v k, lt-leb v 1024 l)
 
         pub count-on : 1 ≤ v → v ≤ 1024 → got v d ≡ count s at
-        unfolding count countAt
+        unfolding count countFormAt
         count-on k l = rw (word-found s at a p h, ← w .ends, ne-eqb d a some, e-is, t, ← w .is, le-leb 1 v k, le-leb v 1024 l) (ap (got v) (eqb-true d (wordEnd s d) t))

@@ -34,8 +34,8 @@ pub data Form (A : Type 0) : Type 0 where
   malformed : ℕ → Form A
 
 -- The two counts have 1 to 9 digits only: d is the place after them.
-unfoldable pub countAt : List ℕ → ℕ → ℕ → Form ℕ
-countAt s a e =
+unfoldable pub countFormAt : List ℕ → ℕ → ℕ → Form ℕ
+countFormAt s a e =
     let d = run digit s a 9 in
     cond (eqb d a) (malformed d) (cond (eqb d e) (formed (value s d a (d - a))) (malformed d))
 
@@ -84,7 +84,7 @@ read form w s i = formedOr w (form s (w .start) (w .end)) s i
 unfoldable pub count : Reader ℕ
 count = do
   w ← word
-  n ← read countAt w
+  n ← read countFormAt w
   check (extentIn n) 1 (w .start)
   give n
 

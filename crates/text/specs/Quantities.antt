@@ -17,6 +17,10 @@ sideIn c = leZ (pos 1) c && leZ c (pos 100000)
 abbrev pub heightIn : ℤ → Bool
 heightIn h = leZ (negℤ (pos 50000)) h && leZ h (pos 900000)
 
+-- how far below height 0 NoData stands, in cm
+abbrev pub datum : ℕ
+datum = 999900
+
 -- -999,900 means NoData
 abbrev pub noDataHeight : ℤ
-noDataHeight = negℤ (pos 999900)
+noDataHeight = negℤ (pos datum)

@@ -43,8 +43,8 @@ returns c =
     let p = placed-at (s .pre .0) (s .pre .2) (c .before .place-of .result) (c .before .place-of .ensures) in
     let sum = mod-eq-of-lt {n = c .wrapping-sub-usize .result + (s .args .columns + 1)} {m = 2 ^ 64} (omega (arith, s .pre .0)) in
     record {
-      side = s .args .k;
-      room = record { cols-small = s .pre .0; cell-small = s .pre .1; side-small = s .pre .2; room = omega (arith, sum, c .wrapping-sub-usize .ensures, p .down, p .right) };
+      bearing = s .args .k;
+      room = record { cols-small = s .pre .0; cell-small = s .pre .1; bearing-small = s .pre .2; room = omega (arith, sum, c .wrapping-sub-usize .ensures, p .down, p .right) };
       is = omega (arith, sum, c .wrapping-sub-usize .ensures, p .down, p .right);
     }
 

@@ -3,7 +3,7 @@ use mathlib.Core.Path.{_≡_, refl}
 use lib.ListN.{List·getD-eq-default}
 use native.Mathlib.Decide.{decLt}
 use Rattle.terrain.specs.Cells.{rowSteps, colSteps}
-use Rattle.terrain.proofs.Neighbours.{each-side}
+use Rattle.terrain.proofs.Neighbours.{each-bearing}
 use native.Mathlib.Omega.{arith}
 use Rattle.terrain.proofs.cells.place_of.Statement.{statement}
 use Rattle.terrain.proofs.cells.place_of.Tie as tie
@@ -37,7 +37,7 @@ returns-9 c =
     let k = c .before .args .k in
     let r = c .match .rest in
     elim (decLt k 8) [
-      | yes h ↦ absurd (each-side (λ j. k ≡ j → ⊥) (r .0 .0 .0 .0 .0 .0 .0 .1) (r .0 .0 .0 .0 .0 .0 .1) (r .0 .0 .0 .0 .0 .1) (r .0 .0 .0 .0 .1) (r .0 .0 .0 .1) (r .0 .0 .1) (r .0 .1) (r .1) k h refl)
+      | yes h ↦ absurd (each-bearing (λ j. k ≡ j → ⊥) (r .0 .0 .0 .0 .0 .0 .0 .1) (r .0 .0 .0 .0 .0 .0 .1) (r .0 .0 .0 .0 .0 .1) (r .0 .0 .0 .0 .1) (r .0 .0 .0 .1) (r .0 .0 .1) (r .0 .1) (r .1) k h refl)
       | no f ↦ omega (arith, List·getD-eq-default rowSteps 0 {n = k} (omega arith), List·getD-eq-default colSteps 0 {n = k} (omega arith))
     ]
 

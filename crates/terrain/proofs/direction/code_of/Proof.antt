@@ -1,7 +1,7 @@
 -- `terrain::direction::code_of` meets its contract. Assumes nothing.
 use mathlib.Core.Path.{_≡_, refl}
 use Rattle.terrain.specs.Cells.{codeOf}
-use Rattle.terrain.proofs.Neighbours.{each-side}
+use Rattle.terrain.proofs.Neighbours.{each-bearing}
 use borrow.Author.Needs.{needs}
 use Rattle.terrain.proofs.direction.code_of.Statement.{statement}
 use Rattle.terrain.proofs.direction.code_of.Tie as tie
@@ -30,7 +30,7 @@ returns-7 c = search needs
 returns-8 : tie.Need-returns-8
 returns-8 c =
     let r = c .match .rest in
-    each-side (λ j. c .before .args .k ≡ j → 128 ≡ codeOf j) (λ e. absurd (r .0 .0 .0 .0 .0 .0 .1 e)) (λ e. absurd (r .0 .0 .0 .0 .0 .1 e)) (λ e. absurd (r .0 .0 .0 .0 .1 e)) (λ e. absurd (r .0 .0 .0 .1 e)) (λ e. absurd (r .0 .0 .1 e)) (λ e. absurd (r .0 .1 e)) (λ e. absurd (r .1 e)) (λ e. refl) (c .before .args .k) (c .before .pre) refl
+    each-bearing (λ j. c .before .args .k ≡ j → 128 ≡ codeOf j) (λ e. absurd (r .0 .0 .0 .0 .0 .0 .1 e)) (λ e. absurd (r .0 .0 .0 .0 .0 .1 e)) (λ e. absurd (r .0 .0 .0 .0 .1 e)) (λ e. absurd (r .0 .0 .0 .1 e)) (λ e. absurd (r .0 .0 .1 e)) (λ e. absurd (r .0 .1 e)) (λ e. absurd (r .1 e)) (λ e. refl) (c .before .args .k) (c .before .pre) refl
 
 pub code-of-spec : {M : Type 1} → statement M
 code-of-spec =

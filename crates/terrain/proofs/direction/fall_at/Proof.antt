@@ -1,4 +1,4 @@
--- `terrain::direction::fall_at` meets its contract: the greatest keys of the sides passed. Assumes nothing.
+-- `terrain::direction::fall_at` meets its contract: the greatest keys of the bearings passed. Assumes nothing.
 use mathlib.Core.Path.{_≡_, refl, ap, _∙_}
 use Prim.Native.Nat.{_≤_, _-_, max}
 use native.Mathlib.Omega.{arith}

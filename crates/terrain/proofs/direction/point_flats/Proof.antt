@@ -1,4 +1,4 @@
--- `terrain::direction::point_flats` meets its contract: the cells passed have their directions, and no side passed is nearer. Assumes nothing.
+-- `terrain::direction::point_flats` meets its contract: the cells passed have their directions, and no bearing passed is nearer. Assumes nothing.
 use mathlib.Core.Path.{_≡_, refl, sym, _∙_}
 use mathlib.Core.Logic.{⊎-elim}
 use mathlib.Core.Bool.{true, false}

@@ -1,4 +1,4 @@
--- `terrain::flat::is_shore` meets its contract: some cell at the sides passed has 0 steps. Assumes nothing.
+-- `terrain::flat::is_shore` meets its contract: some cell at the bearings passed has 0 steps. Assumes nothing.
 use mathlib.Core.Path.{_≡_, ap, _∙_}
 use mathlib.Core.Bool.{true}
 use Prim.Native.Nat.{ℕ, _≤_, _<_, _-_}

@@ -1,4 +1,4 @@
--- `terrain::flat::nearest_near` meets its contract: the fewest steps at the sides passed. Assumes nothing.
+-- `terrain::flat::nearest_near` meets its contract: the fewest steps at the bearings passed. Assumes nothing.
 use mathlib.Core.Path.{_≡_, sym, ap, _∙_}
 use Prim.Native.Nat.{_≤_, _-_}
 use native.Mathlib.Omega.{arith}

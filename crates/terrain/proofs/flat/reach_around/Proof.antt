@@ -1,4 +1,4 @@
--- `terrain::flat::reach_around` meets its contract: the sides passed are reached. Assumes nothing.
+-- `terrain::flat::reach_around` meets its contract: the bearings passed are reached. Assumes nothing.
 use mathlib.Core.Path.{_≡_, refl, _∙_}
 use mathlib.Core.List.{List}
 use Prim.Native.Nat.{ℕ, _≤_, _-_}
