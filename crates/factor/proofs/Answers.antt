@@ -11,7 +11,7 @@ use Rattle.text.specs.declared.Refusal.{Refusal}
 use Rattle.settings.specs.declared.Settings.{Settings}
 use Rattle.settings.specs.declared.Rules.{Rules}
 use Rattle.settings.specs.Settings.{rulesOf}
-use Rattle.terrain.specs.Cells.{Ready}
+use Rattle.terrain.specs.InnerCells.{Ready}
 use Rattle.terrain.specs.Filled.{filledLevels}
 use Rattle.terrain.specs.Trail.{countsOf, longestOf}
 use Rattle.terrain.specs.Falls.{fallsOf}

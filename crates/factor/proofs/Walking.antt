@@ -42,7 +42,9 @@ use Rattle.factor.proofs.Gathering.{lengthAt, gatheredAt, finalAt, give
 module _ (rows cols side : ℕ) (rules : Rules) (lv dir count : List ℕ) where
   -- the cells at the first p places have their length and LS, and have handed on
   pub record Walking (order lengths factors : List ℕ) (p : ℕ) : Type 0 where
-    pub handing : Handing max greatestTo (rows * cols) (receiverOf rows cols dir) (givenBy rows cols side rules lv dir count) (λ z. 0) (gatheredAt rows cols side rules lv dir count) (finalAt rows cols side rules lv dir count) order lengths p
+    pub handing :
+        Handing max greatestTo (rows * cols) (receiverOf rows cols dir) (givenBy rows cols side rules lv dir count) (λ z. 0)
+        (gatheredAt rows cols side rules lv dir count) (finalAt rows cols side rules lv dir count) order lengths p
     pub factors-long : length factors ≡ rows * cols
     pub falls : (z : ℕ) → z < rows * cols → standsIn order p z ≡ 0 → getD factors z 0 ≡ fallAt rows cols lv dir z
     pub done : (z : ℕ) → 0 < standsIn order p z → getD factors z 0 ≡ factorOf side (steepnessAt rows cols lv dir z) (lengthAt rows cols side rules lv dir count z)
@@ -188,8 +190,9 @@ module _ {rows : ℕ} {lv dir count order : List ℕ} {places : ℕ} {rules : Ru
       turn-of =
           turn-stored handed now
           (elim (decLt (bearingAt dir x) 8) [
-            | yes k ↦ subst (λ (l : List ℕ). Turns (set lengths x now) l x) (sym (on k))
-                (turn-on handed (length-set lengths x now ∙ w .handing .long) (next-in k) stored (ap₂ max (sym (getD-set-other lengths x (to x) now 0 (pointing (c .directed) .apart x (next-in k)))) (here-given k)))
+            | yes k ↦ let kept = getD-set-other lengths x (to x) now 0 (pointing (c .directed) .apart x (next-in k)) in
+                subst (λ (l : List ℕ). Turns (set lengths x now) l x) (sym (on k))
+                (turn-on handed (length-set lengths x now ∙ w .handing .long) (next-in k) stored (ap₂ max (sym kept) (here-given k)))
             | no f ↦ subst (λ (l : List ℕ). Turns (set lengths x now) l x) (sym (t .leaves (omega arith)))
                 (turn-off handed (omega (arith, receiver-leaves (c .directed) x here-in (omega arith))) stored)
           ])
@@ -207,7 +210,16 @@ module _ {rows : ℕ} {lv dir count order : List ℕ} {places : ℕ} {rules : Ru
       other z q = ap (λ (l : List ℕ). getD l z 0) (t .factors-are) ∙ getD-set-other factors x z made 0 q
 
       same : getD factors′ x 0 ≡ factorOf (terms .side) (steepnessAt rows cols lv dir x) (final x)
-      same = ap (λ (l : List ℕ). getD l x 0) (t .factors-are) ∙ getD-set-same factors x made 0 (omega (arith, here-in, w .factors-long)) ∙ ap₂ (factorOf (terms .side)) (here-fall .1) here-final
+      same =
+          ap (λ (l : List ℕ). getD l x 0) (t .factors-are) ∙ getD-set-same factors x made 0 (omega (arith, here-in, w .factors-long))
+          ∙ ap₂ (factorOf (terms .side)) (here-fall .1) here-final
+
+      done-next : (z : ℕ) → 0 < standsIn order (p + 1) z → getD factors′ z 0 ≡ factorOf (terms .side) (steepnessAt rows cols lv dir z) (final z)
+      done-next z q =
+          elim (ℕ-discrete z x) [
+            | yes g ↦ ap (λ (y : ℕ). getD factors′ y 0) g ∙ same ∙ ap (λ (y : ℕ). factorOf (terms .side) (steepnessAt rows cols lv dir y) (final y)) (sym g)
+            | no f ↦ other z f ∙ w .done z (omega (arith, stands z, when-no 1 (ne-eqb x z (λ g. f (sym g)))))
+          ]
 
       pub walk-turn : Walking rows (terms .columns) (terms .side) rules lv dir count order lengths′ factors′ (p + 1)
       walk-turn =
@@ -215,7 +227,7 @@ module _ {rows : ℕ} {lv dir count order : List ℕ} {places : ℕ} {rules : Ru
             handing = next-turn handed (c .order-is .cells) (w .handing) h (subst (Turns lengths lengths′) e turn-of);
             factors-long = ap length (t .factors-are) ∙ length-set factors x made ∙ w .factors-long;
             falls = (λ z l q. let f : z ≡ x → ⊥ = λ g. omega (arith, stands z, when-yes 1 (eq-eqb x z (sym g))) in other z f ∙ w .falls z l (omega (arith, stands z)));
-            done = (λ z q. elim (ℕ-discrete z x) [ yes g ↦ ap (λ (y : ℕ). getD factors′ y 0) g ∙ same ∙ ap (λ (y : ℕ). factorOf (terms .side) (steepnessAt rows cols lv dir y) (final y)) (sym g) | no f ↦ other z f ∙ w .done z (omega (arith, stands z, when-no 1 (ne-eqb x z (λ g. f (sym g))))) ]);
+            done = done-next;
           }
 
 -- ---- the start and the end
@@ -247,14 +259,22 @@ module _ {rows cols side : ℕ} {lv dir count order lengths factors : List ℕ} 
   unfolding fallsOf
   falls-at z h = getD-tab cells (fallAt rows cols lv dir) 0 z h
 
+  abbrev hands :
+      Handed max greatestTo cells (mappedAt rows cols dir) (receiverOf rows cols dir) (givenBy rows cols side rules lv dir count) (λ z. 0)
+      (gatheredAt rows cols side rules lv dir count)
+  hands = lengths-handed (m .directed) side rules lv count
+
   pub walk-start : {zeros : List ℕ} → zeros ≡ replicate (length lengths) 0 → Walking rows cols side rules lv dir count order zeros factors 0
   walk-start {zeros} e =
       record {
-        handing = hand-start (lengths-handed (m .directed) side rules lv count) order (ap length e ∙ length-replicate (length lengths) 0 ∙ m .lengths-long) (λ z h. ap (λ (l : List ℕ). getD l z 0) e ∙ getD-replicate (length lengths) z 0 0 (omega (arith, m .lengths-long)));
+        handing = hand-start hands order (ap length e ∙ length-replicate (length lengths) 0 ∙ m .lengths-long) zero-at;
         factors-long = ap length (m .falls-are) ∙ falls-long;
         falls = (λ z h q. ap (λ (l : List ℕ). getD l z 0) (m .falls-are) ∙ falls-at z h);
         done = (λ z q. absurd (omega (arith, stands-none order z)));
       }
+    where
+      zero-at : (z : ℕ) → z < cells → getD zeros z 0 ≡ 0
+      zero-at z h = ap (λ (l : List ℕ). getD l z 0) e ∙ getD-replicate (length lengths) z 0 0 (omega (arith, m .lengths-long))
 
   module _ {lengths′ factors′ : List ℕ} (w : Walking rows cols side rules lv dir count order lengths′ factors′ places) where
     abbrev valid-at : ℕ → Bool
@@ -265,8 +285,10 @@ module _ {rows cols side : ℕ} {lv dir count order lengths factors : List ℕ} 
 
     length-there : (z : ℕ) → z < cells → getD lengths′ z 0 ≡ length-of z
     length-there z h =
-        ⊎-elim (λ v. hand-all (lengths-handed (m .directed) side rules lv count) (m .order-is .cells) (w .handing) z v ∙ final-is (m .directed) side rules lv count z v)
-        (λ v. hand-rest (lengths-handed (m .directed) side rules lv count) (m .order-is .cells) (w .handing) z h v ∙ gathered-none (m .directed) side rules lv count z h v ∙ sym (length-none (m .directed) side rules lv count z v)) (two (valid-at z))
+        ⊎-elim (λ v. hand-all hands (m .order-is .cells) (w .handing) z v ∙ final-is (m .directed) side rules lv count z v)
+        (λ v. hand-rest hands (m .order-is .cells) (w .handing) z h v ∙ gathered-none (m .directed) side rules lv count z h v
+        ∙ sym (length-none (m .directed) side rules lv count z v))
+        (two (valid-at z))
 
     factor-there : (z : ℕ) → z < cells → getD factors′ z 0 ≡ factorAt rows cols side lv dir lengths′ z
     unfolding factorAt
@@ -274,9 +296,21 @@ module _ {rows cols side : ℕ} {lv dir count order lengths factors : List ℕ} 
         ⊎-elim (λ v. w .done z (omega (arith, m .order-is .cells .once z, when-yes 1 v)) ∙ ap (factorOf side (steepnessAt rows cols lv dir z)) (sym (length-there z h)) ∙ sym (rw v))
         (λ v. w .falls z h (omega (arith, m .order-is .cells .once z, when-no 1 v)) ∙ fall-none rows cols lv dir (m .capped) z v ∙ sym (rw v)) (two (valid-at z))
 
-    pub walk-all : (lengths′ ≡ lengthsOf rows cols side rules lv dir count) × (factors′ ≡ factorsOf rows cols side lv dir lengths′)
+    lengths-all : lengths′ ≡ lengthsOf rows cols side rules lv dir count
+    lengths-all = ext-getD 0 lengths′ (lengthsOf rows cols side rules lv dir count) (w .handing .long ∙ sym (lengths-long (m .directed) side rules lv count)) at
+      where
+        at : (z : ℕ) → z < length lengths′ → getD lengths′ z 0 ≡ getD (lengthsOf rows cols side rules lv dir count) z 0
+        at z h = let l : z < cells = omega (arith, w .handing .long) in length-there z l ∙ sym (lengths-at (m .directed) side rules lv count z l)
+
+    abbrev factor-of : ℕ → ℕ
+    factor-of = factorAt rows cols side lv dir lengths′
+
+    factors-all : factors′ ≡ factorsOf rows cols side lv dir lengths′
     unfolding factorsOf
-    walk-all = (
-      ext-getD 0 lengths′ (lengthsOf rows cols side rules lv dir count) (w .handing .long ∙ sym (lengths-long (m .directed) side rules lv count)) (λ z h. let l : z < cells = omega (arith, w .handing .long) in length-there z l ∙ sym (lengths-at (m .directed) side rules lv count z l)),
-      ext-getD 0 factors′ (factorsOf rows cols side lv dir lengths′) (w .factors-long ∙ sym (length-tab cells (factorAt rows cols side lv dir lengths′))) (λ z h. let l : z < cells = omega (arith, w .factors-long) in factor-there z l ∙ sym (getD-tab cells (factorAt rows cols side lv dir lengths′) 0 z l)),
-    )
+    factors-all = ext-getD 0 factors′ (factorsOf rows cols side lv dir lengths′) (w .factors-long ∙ sym (length-tab cells factor-of)) at
+      where
+        at : (z : ℕ) → z < length factors′ → getD factors′ z 0 ≡ getD (factorsOf rows cols side lv dir lengths′) z 0
+        at z h = let l : z < cells = omega (arith, w .factors-long) in factor-there z l ∙ sym (getD-tab cells factor-of 0 z l)
+
+    pub walk-all : (lengths′ ≡ lengthsOf rows cols side rules lv dir count) × (factors′ ≡ factorsOf rows cols side lv dir lengths′)
+    walk-all = (lengths-all, factors-all)

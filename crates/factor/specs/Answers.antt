@@ -28,23 +28,28 @@ pub record Grids : Type 0 where
   pub factors : List ℕ
   pub workspace : List ℕ
 
--- the lent slices together
+-- the grids that these lists are
 abbrev pub lent : List ℤ → List ℕ → List ℕ → List ℕ → List ℕ → List ℕ → Grids
-lent filled direction count lengths factors workspace = record { filled = filled; direction = direction; count = count; lengths = lengths; factors = factors; workspace = workspace }
+lent filled direction count lengths factors workspace =
+    record { filled = filled; direction = direction; count = count; lengths = lengths; factors = factors; workspace = workspace }
 
 -- the lent slices together: as they stand, as they are at the call, and as they are at the return
 abbrev pub lentAt : RefT (List ℤ) → RefT (List ℕ) → RefT (List ℕ) → RefT (List ℕ) → RefT (List ℕ) → RefT (List ℕ) → Grids
-lentAt filled direction count lengths factors workspace = lent (now filled) (now direction) (now count) (now lengths) (now factors) (now workspace)
+lentAt filled direction count lengths factors workspace =
+    lent (now filled) (now direction) (now count) (now lengths) (now factors) (now workspace)
 
 abbrev pub lentBefore : Slice ℤ → Slice ℕ → Slice ℕ → Slice ℕ → Slice ℕ → Slice ℕ → Grids
-lentBefore filled direction count lengths factors workspace = lentAt (filled .entry) (direction .entry) (count .entry) (lengths .entry) (factors .entry) (workspace .entry)
+lentBefore filled direction count lengths factors workspace =
+    lentAt (filled .entry) (direction .entry) (count .entry) (lengths .entry) (factors .entry) (workspace .entry)
 
 abbrev pub lentAfter : Slice ℤ → Slice ℕ → Slice ℕ → Slice ℕ → Slice ℕ → Slice ℕ → Grids
-lentAfter filled direction count lengths factors workspace = lentAt (filled .exit) (direction .exit) (count .exit) (lengths .exit) (factors .exit) (workspace .exit)
+lentAfter filled direction count lengths factors workspace =
+    lentAt (filled .exit) (direction .exit) (count .exit) (lengths .exit) (factors .exit) (workspace .exit)
 
 -- how many places the ground and each lent grid have
 abbrev pub placesOf : List ℤ → Grids → List ℕ
-placesOf ground g = length ground ∷ length (g .filled) ∷ length (g .direction) ∷ length (g .count) ∷ length (g .lengths) ∷ length (g .factors) ∷ length (g .workspace) ∷ []
+placesOf ground g =
+    length ground ∷ length (g .filled) ∷ length (g .direction) ∷ length (g .count) ∷ length (g .lengths) ∷ length (g .factors) ∷ length (g .workspace) ∷ []
 
 -- "The map call tests 1, 2, 3, 4, 5 in that order, 5 at the first bad cell in row order."
 unfoldable pub tests : ℕ → ℕ → ℕ → Settings → List ℤ → Grids → List Test

@@ -12,7 +12,7 @@ use Rattle.factor.proofs.pass.beside.Tie as tie
 
 -- the shift that the code reads
 read : (c : tie.Start) → getD (c .args .shifts .now) (c .args .k) 0 ≡ getD rowSteps (c .args .k) 0 * c .args .columns + getD colSteps (c .args .k) 0
-read c = c .pre .1 .steps (c .args .k) (c .pre .0 .side-small)
+read c = c .pre .1 .steps (c .args .k) (c .pre .0 .bearing-small)
 
 mul-result : tie.Need-mul-result
 mul-result c = search needs
