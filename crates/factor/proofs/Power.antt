@@ -15,7 +15,7 @@ use Rattle.laws.specs.Greatest.{greatest}
 use Rattle.factor.specs.LengthFactor.{greatestMm, reached, lengthFactor}
 use Rattle.factor.specs.Inner.{Listed}
 use Rattle.laws.proofs.Greatest.{Falling, greatest-is, greatest-passes, greatest-above}
-use Rattle.factor.proofs.Guesses.{greatest-here}
+use Rattle.factor.proofs.InnerGuesses.{greatest-here}
 use Rattle.factor.proofs.Tables.{every, every-at}
 
 -- ---- what is reached at a length

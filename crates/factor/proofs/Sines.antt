@@ -9,7 +9,7 @@ use borrow.Author.Tests.{leb-true, le-leb, lt-leb}
 use Rattle.laws.specs.Greatest.{greatest}
 use Rattle.factor.specs.Steepness.{sineReaches, sineOf}
 use Rattle.laws.proofs.Greatest.{Falling, greatest-is, greatest-within, greatest-passes, greatest-above}
-use Rattle.factor.proofs.Guesses.{greatest-here}
+use Rattle.factor.proofs.InnerGuesses.{greatest-here}
 
 -- the two sides of the test
 abbrev asked : ℕ → ℕ → ℕ → ℕ

@@ -1,8 +1,8 @@
-pub mod Writing
 pub mod Decimal
-pub mod Signs
-pub mod Shown
 pub mod Sizes
-pub mod Sheets
 pub mod Rooms
 pub mod Examples
+pub mod InnerWriting
+pub mod InnerSigns
+pub mod InnerShown
+pub mod InnerSheets

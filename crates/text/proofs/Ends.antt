@@ -12,7 +12,7 @@ use Rattle.text.specs.Reader.{got, refused}
 use Rattle.text.specs.Words.{blank, solid, run, wordStart, wordEnd, word}
 use Rattle.text.specs.Numbers.{digit}
 use Rattle.text.proofs.Bytes.{digit-solid}
-use Rattle.text.proofs.Runs.{run-stop, run-end, run-step, run-lower, run-upper, run-fails, run-passes, run-within, run-after}
+use Rattle.text.proofs.InnerRuns.{run-stop, run-end, run-step, run-lower, run-upper, run-fails, run-passes, run-within, run-after}
 
 module _ (s : List ℕ) where
   -- a byte that is not 0 stands within the text

@@ -11,9 +11,9 @@ use Rattle.sheet.specs.Writing.{overlay}
 use Rattle.sheet.specs.InnerWriting.{Wrote}
 use Rattle.sheet.specs.InnerAnswers.{headNumbers}
 use Rattle.sheet.specs.declared.answers.Head.{Head}
-use Rattle.sheet.proofs.Writing.{wrote-as}
+use Rattle.sheet.proofs.InnerWriting.{wrote-as}
 use Rattle.sheet.proofs.Sizes.{header-few}
-use Rattle.sheet.proofs.Sheets.{text-long, head-refused, head-large, head-printed}
+use Rattle.sheet.proofs.InnerSheets.{text-long, head-refused, head-large, head-printed}
 use borrow.Author.Needs.{needs}
 use Rattle.sheet.proofs.print.Statement.{statement}
 use Rattle.sheet.proofs.print.Tie as tie

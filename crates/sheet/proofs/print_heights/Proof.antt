@@ -5,8 +5,8 @@ use denote.Ref.{now}
 use Rattle.text.specs.Answers.{GridOutcome, gridAnswer}
 use Rattle.factor.specs.Answers.{Grids, lent}
 use Rattle.sheet.specs.InnerAnswers.{headNumbers}
-use Rattle.sheet.proofs.Writing.{wrote-as}
-use Rattle.sheet.proofs.Sheets.{grid-refused, grid-printed}
+use Rattle.sheet.proofs.InnerWriting.{wrote-as}
+use Rattle.sheet.proofs.InnerSheets.{grid-refused, grid-printed}
 use borrow.Author.Needs.{needs}
 use Rattle.sheet.proofs.print_heights.Statement.{statement}
 use Rattle.sheet.proofs.print_heights.Tie as tie

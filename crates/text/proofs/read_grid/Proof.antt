@@ -2,7 +2,7 @@
 use mathlib.Core.Path.{_∙_, subst}
 use denote.Ref.{now}
 use Rattle.text.specs.InnerHeaders.{HeadFits}
-use Rattle.text.proofs.Grids.{grid-off, grid-on}
+use Rattle.text.proofs.InnerGrids.{grid-off, grid-on}
 use borrow.Author.Needs.{needs}
 use Rattle.text.proofs.read_grid.Statement.{statement}
 use Rattle.text.proofs.read_grid.Tie as tie

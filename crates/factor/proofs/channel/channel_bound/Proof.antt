@@ -5,7 +5,7 @@ use native.Mathlib.Omega.{arith}
 use borrow.Author.Tests.{le-ltb}
 use borrow.Author.Needs.{needs}
 use Rattle.factor.specs.Channel.{isChannel}
-use Rattle.factor.proofs.Channels.{share-test}
+use Rattle.factor.proofs.InnerChannels.{share-test}
 use Rattle.factor.proofs.channel.channel_bound.Statement.{statement}
 use Rattle.factor.proofs.channel.channel_bound.Tie as tie
 

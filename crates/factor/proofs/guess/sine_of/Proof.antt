@@ -3,7 +3,7 @@ use borrow.Author.Needs.{needs}
 use Prim.Native.Nat.{_≤_}
 use native.Mathlib.Omega.{arith}
 use Rattle.factor.proofs.Sines.{sine-within}
-use Rattle.factor.proofs.Guesses.{moved-one}
+use Rattle.factor.proofs.InnerGuesses.{moved-one}
 use Rattle.factor.proofs.guess.sine_of.Statement.{statement}
 use Rattle.factor.proofs.guess.sine_of.Tie as tie
 

@@ -10,8 +10,8 @@ use borrow.Author.Needs.{needs}
 use Rattle.settings.specs.declared.Rules.{Rules}
 use Rattle.terrain.proofs.Public.{place-cell, downhill-few}
 use Rattle.factor.specs.Channel.{isChannel, channelAt}
-use Rattle.factor.proofs.Channels.{bounded}
-use Rattle.factor.proofs.Walking.{Walking, Charted, measure-charted, walk-start, walk-turning, walk-turn, walk-all}
+use Rattle.factor.proofs.InnerChannels.{bounded}
+use Rattle.factor.proofs.InnerWalking.{Walking, Charted, measure-charted, walk-start, walk-turning, walk-turn, walk-all}
 use Rattle.factor.proofs.pass.measure.Statement.{statement}
 use Rattle.factor.proofs.pass.measure.Tie as tie
 

@@ -9,7 +9,7 @@ use lib.Dec.{ltb}
 use borrow.Author.Needs.{needs}
 use Rattle.factor.specs.Inner.{greatestFall, greatestLength}
 use Rattle.factor.proofs.Slopes.{steepness-small}
-use Rattle.factor.proofs.Turns.{final-small, brought-small, turned-off, turned-on}
+use Rattle.factor.proofs.InnerTurns.{final-small, brought-small, turned-off, turned-on}
 use Rattle.factor.proofs.pass.turn.Statement.{statement}
 use Rattle.factor.proofs.pass.turn.Tie as tie
 

@@ -8,8 +8,8 @@ use borrow.Author.Needs.{needs, sfits-of}
 use mir.Facts.{toZ-ofZ}
 use Rattle.sheet.specs.InnerWriting.{Wrote}
 use Rattle.sheet.specs.Lines.{Grids, cellLines, gridsOf}
-use Rattle.sheet.proofs.Writing.{wrote-as, wrote-long}
-use Rattle.sheet.proofs.Shown.{cells-none, cells-more}
+use Rattle.sheet.proofs.InnerWriting.{wrote-as, wrote-long}
+use Rattle.sheet.proofs.InnerShown.{cells-none, cells-more}
 use Rattle.sheet.proofs.lines.put_cells.Statement.{statement}
 use Rattle.sheet.proofs.lines.put_cells.Tie as tie
 

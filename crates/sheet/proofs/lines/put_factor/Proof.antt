@@ -1,7 +1,7 @@
 -- `sheet::lines::put_factor` meets its contract. Assumes nothing.
 use borrow.Author.Needs.{needs}
 use native.Mathlib.Omega.{arith}
-use Rattle.sheet.proofs.Writing.{wrote-as}
+use Rattle.sheet.proofs.InnerWriting.{wrote-as}
 use mathlib.Core.Path.{sym, ap}
 use mathlib.Core.Bool.{Bool, cond}
 use mathlib.Core.List.{[], _∷_, _++_}

@@ -1,7 +1,7 @@
 -- `sheet::lines::put_place` meets its contract. Assumes nothing.
 use borrow.Author.Needs.{needs}
 use native.Mathlib.Omega.{arith}
-use Rattle.sheet.proofs.Writing.{wrote-word}
+use Rattle.sheet.proofs.InnerWriting.{wrote-word}
 use Rattle.text.specs.Bytes.{bytes}
 use Rattle.sheet.specs.Words.{line}
 use Rattle.sheet.proofs.lines.put_place.Statement.{statement}

@@ -1,7 +1,7 @@
 -- `sheet::lines::put_summary` meets its contract. Assumes nothing.
 use borrow.Author.Needs.{needs}
 use native.Mathlib.Omega.{arith}
-use Rattle.sheet.proofs.Writing.{wrote-word}
+use Rattle.sheet.proofs.InnerWriting.{wrote-word}
 use Rattle.sheet.specs.Words.{decimal, line}
 use Rattle.sheet.proofs.lines.put_summary.Statement.{statement}
 use Rattle.sheet.proofs.lines.put_summary.Tie as tie

@@ -2,7 +2,7 @@
 use Prim.Native.Nat.{ℕ, _<_, _/_}
 use native.Mathlib.Omega.{arith}
 use mathlib.Core.Path.{sym, _∙_}
-use Rattle.sheet.proofs.Writing.{wrote-as, wrote-then}
+use Rattle.sheet.proofs.InnerWriting.{wrote-as, wrote-then}
 use Rattle.sheet.proofs.Decimal.{decimal-digit, decimal-more, decimal-short}
 use borrow.Fn.Kinds.{In}
 use borrow.Fn.PlainCycle.{Measures, is, falls, and}

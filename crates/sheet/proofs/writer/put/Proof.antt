@@ -1,7 +1,7 @@
 -- `sheet::writer::put` meets its contract. Assumes nothing.
 use mathlib.Core.Logic.{⊎-elim}
 use borrow.Author.Needs.{needs}
-use Rattle.sheet.proofs.Writing.{wrote-byte, wrote-past, wrote-long}
+use Rattle.sheet.proofs.InnerWriting.{wrote-byte, wrote-past, wrote-long}
 use Rattle.sheet.proofs.writer.put.Statement.{statement}
 use Rattle.sheet.proofs.writer.put.Tie as tie
 

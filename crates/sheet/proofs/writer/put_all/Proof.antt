@@ -4,7 +4,7 @@ use native.Mathlib.Omega.{arith}
 use lib.ListN.{length, take, length-take}
 use denote.Ref.{now}
 use Rattle.sheet.specs.InnerWriting.{Wrote}
-use Rattle.sheet.proofs.Writing.{wrote-none, wrote-more, wrote-long, wrote-all}
+use Rattle.sheet.proofs.InnerWriting.{wrote-none, wrote-more, wrote-long, wrote-all}
 use Rattle.sheet.proofs.writer.put_all.Statement.{statement}
 use Rattle.sheet.proofs.writer.put_all.Tie as tie
 

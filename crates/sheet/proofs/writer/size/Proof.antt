@@ -3,7 +3,7 @@ use mathlib.Core.Path.{ap}
 use lib.IntN.{natAbs}
 use mir.Syntax.{w32, w64}
 use mir.Facts.{toZ-ofZ, sfits-widen, fits-natAbs}
-use Rattle.sheet.proofs.Signs.{size-small, size-fits, minus-fits, minus-is, plus-sign}
+use Rattle.sheet.proofs.InnerSigns.{size-small, size-fits, minus-fits, minus-is, plus-sign}
 use Rattle.sheet.proofs.writer.size.Statement.{statement}
 use Rattle.sheet.proofs.writer.size.Tie as tie
 

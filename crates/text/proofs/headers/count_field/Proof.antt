@@ -1,7 +1,7 @@
 -- `text::headers::count_field` meets its contract. Assumes nothing.
 use mathlib.Core.Path.{_∙_}
 use Rattle.text.specs.Numbers.{count}
-use Rattle.text.proofs.Fields.{field-off, field-on}
+use Rattle.text.proofs.InnerFields.{field-off, field-on}
 use borrow.Author.Needs.{needs}
 use Rattle.text.proofs.headers.count_field.Statement.{statement}
 use Rattle.text.proofs.headers.count_field.Tie as tie

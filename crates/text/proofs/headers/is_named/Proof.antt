@@ -4,7 +4,7 @@ use Prim.Native.Nat.{_≤_, _-_}
 use native.Mathlib.Omega.{arith}
 use lib.ListN.{length, drop}
 use Rattle.text.specs.Headers.{named}
-use Rattle.text.proofs.Names.{named-short, named-other, named-more, named-end}
+use Rattle.text.proofs.InnerNames.{named-short, named-other, named-more, named-end}
 use borrow.Author.Needs.{needs}
 use Rattle.text.proofs.headers.is_named.Statement.{statement}
 use Rattle.text.proofs.headers.is_named.Tie as tie

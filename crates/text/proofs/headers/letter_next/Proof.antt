@@ -1,5 +1,5 @@
 -- `text::headers::letter_next` meets its contract. Assumes nothing.
-use Rattle.text.proofs.Fields.{letter-in, letter-past}
+use Rattle.text.proofs.InnerFields.{letter-in, letter-past}
 use borrow.Author.Needs.{needs}
 use Rattle.text.proofs.headers.letter_next.Statement.{statement}
 use Rattle.text.proofs.headers.letter_next.Tie as tie

@@ -1,7 +1,7 @@
 -- `text::headers::read` meets its contract. Assumes nothing.
 use mathlib.Core.Path.{_∙_, subst}
 use Rattle.text.specs.InnerHeaders.{ExtendedFits}
-use Rattle.text.proofs.Fields.{header-no-extent, header-no-corners, header-on}
+use Rattle.text.proofs.InnerFields.{header-no-extent, header-no-corners, header-on}
 use borrow.Author.Needs.{needs}
 use Rattle.text.proofs.headers.read.Statement.{statement}
 use Rattle.text.proofs.headers.read.Tie as tie

@@ -1,5 +1,5 @@
 -- `text::headers::read_corner` meets its contract. Assumes nothing.
-use Rattle.text.proofs.Fields.{corner-none, corner-on}
+use Rattle.text.proofs.InnerFields.{corner-none, corner-on}
 use borrow.Author.Needs.{needs}
 use Rattle.text.proofs.headers.read_corner.Statement.{statement}
 use Rattle.text.proofs.headers.read_corner.Tie as tie

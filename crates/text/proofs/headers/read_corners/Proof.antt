@@ -1,7 +1,7 @@
 -- `text::headers::read_corners` meets its contract. Assumes nothing.
 use mathlib.Core.Path.{_∙_}
 use Rattle.text.specs.Bytes.{bytes}
-use Rattle.text.proofs.Fields.{corners-off, corners-on}
+use Rattle.text.proofs.InnerFields.{corners-off, corners-on}
 use borrow.Author.Needs.{needs}
 use Rattle.text.proofs.headers.read_corners.Statement.{statement}
 use Rattle.text.proofs.headers.read_corners.Tie as tie

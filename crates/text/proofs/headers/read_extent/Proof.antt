@@ -1,6 +1,6 @@
 -- `text::headers::read_extent` meets its contract. Assumes nothing.
 use Rattle.text.specs.Bytes.{bytes}
-use Rattle.text.proofs.Fields.{extent-no-columns, extent-no-rows, extent-on, extent-fits}
+use Rattle.text.proofs.InnerFields.{extent-no-columns, extent-no-rows, extent-on, extent-fits}
 use borrow.Author.Needs.{needs}
 use Rattle.text.proofs.headers.read_extent.Statement.{statement}
 use Rattle.text.proofs.headers.read_extent.Tie as tie

@@ -2,7 +2,7 @@
 use mathlib.Core.Path.{_≡_}
 use mir.Syntax.{w64}
 use mir.Val.{toZ, ofZ}
-use Rattle.text.proofs.Fields.{any-none, any-on}
+use Rattle.text.proofs.InnerFields.{any-none, any-on}
 use borrow.Author.Needs.{needs}
 use Rattle.text.proofs.headers.read_length.Statement.{statement}
 use Rattle.text.proofs.headers.read_length.Tie as tie

@@ -1,6 +1,6 @@
 -- `text::headers::read_name` meets its contract. Assumes nothing.
 use mathlib.Core.Path.{sym, _∙_}
-use Rattle.text.proofs.Fields.{name-none, name-on, name-off, word-inside}
+use Rattle.text.proofs.InnerFields.{name-none, name-on, name-off, word-inside}
 use borrow.Author.Needs.{needs}
 use Rattle.text.proofs.headers.read_name.Statement.{statement}
 use Rattle.text.proofs.headers.read_name.Tie as tie

@@ -1,7 +1,7 @@
 -- `text::headers::read_no_data` meets its contract. Assumes nothing.
 use mathlib.Core.Path.{sym, _∙_}
 use Rattle.text.specs.Bytes.{bytes}
-use Rattle.text.proofs.Fields.{no-data-given, no-data-absent}
+use Rattle.text.proofs.InnerFields.{no-data-given, no-data-absent}
 use borrow.Author.Needs.{needs}
 use Rattle.text.proofs.headers.read_no_data.Statement.{statement}
 use Rattle.text.proofs.headers.read_no_data.Tie as tie

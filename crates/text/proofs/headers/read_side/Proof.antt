@@ -4,7 +4,7 @@ use mathlib.Core.Bool.{true}
 use mir.Syntax.{w64}
 use mir.Val.{toZ, ofZ}
 use Rattle.text.specs.Quantities.{sideIn}
-use Rattle.text.proofs.Fields.{side-none, side-off, side-on, side-nat}
+use Rattle.text.proofs.InnerFields.{side-none, side-off, side-on, side-nat}
 use borrow.Author.Needs.{needs}
 use Rattle.text.proofs.headers.read_side.Statement.{statement}
 use Rattle.text.proofs.headers.read_side.Tie as tie

@@ -3,7 +3,7 @@ use mathlib.Core.Path.{_≡_}
 use mir.Syntax.{w64}
 use mir.Val.{toZ, ofZ}
 use Rattle.text.specs.Bytes.{bytes}
-use Rattle.text.proofs.Fields.{last-no-side, last-no-data, last-on}
+use Rattle.text.proofs.InnerFields.{last-no-side, last-no-data, last-on}
 use borrow.Author.Needs.{needs}
 use Rattle.text.proofs.headers.read_side_and_no_data.Statement.{statement}
 use Rattle.text.proofs.headers.read_side_and_no_data.Tie as tie

@@ -1,5 +1,5 @@
 -- `text::heights::judge_end` meets its contract. Assumes nothing.
-use Rattle.text.proofs.Grids.{end-off, end-on}
+use Rattle.text.proofs.InnerGrids.{end-off, end-on}
 use borrow.Author.Needs.{needs}
 use Rattle.text.proofs.heights.judge_end.Statement.{statement}
 use Rattle.text.proofs.heights.judge_end.Tie as tie

@@ -8,7 +8,7 @@ use mir.Facts.{toZ-ofZ}
 use denote.Ref.{now}
 use Rattle.text.specs.Heights.{heights}
 use Rattle.text.specs.InnerHeights.{forget}
-use Rattle.text.proofs.Grids.{judge-off, judge-on, judge-all, length-off, length-on}
+use Rattle.text.proofs.InnerGrids.{judge-off, judge-on, judge-all, length-off, length-on}
 use borrow.Author.Needs.{needs}
 use Rattle.text.proofs.heights.judge_heights.Statement.{statement}
 use Rattle.text.proofs.heights.judge_heights.Tie as tie

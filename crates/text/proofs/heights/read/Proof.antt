@@ -10,7 +10,7 @@ use lib.ListN.{length}
 use denote.Ref.{now}
 use Rattle.text.specs.Answers.{accepted, headerOf}
 use Rattle.text.specs.InnerHeights.{bodyOutcome}
-use Rattle.text.proofs.Grids.{judged-good, body-unlike, body-off, body-more, body-on}
+use Rattle.text.proofs.InnerGrids.{judged-good, body-unlike, body-off, body-more, body-on}
 use borrow.Author.Needs.{needs}
 use Rattle.text.proofs.heights.read.Statement.{statement}
 use Rattle.text.proofs.heights.read.Tie as tie

@@ -5,7 +5,7 @@ use mir.Syntax.{w64}
 use mir.Val.{toZ, ofZ}
 use Rattle.text.specs.Quantities.{heightIn}
 use Rattle.text.specs.Heights.{same}
-use Rattle.text.proofs.Grids.{height-none, height-no-data, height-on, height-off, height-in-fits}
+use Rattle.text.proofs.InnerGrids.{height-none, height-no-data, height-on, height-off, height-in-fits}
 use borrow.Author.Needs.{needs}
 use Rattle.text.proofs.heights.read_height.Statement.{statement}
 use Rattle.text.proofs.heights.read_height.Tie as tie

@@ -12,7 +12,7 @@ use denote.Ref.{now}
 use Rattle.laws.proofs.Filling.{filling-all}
 use Rattle.text.specs.Heights.{heights}
 use Rattle.text.specs.InnerHeights.{Good, valuesOf}
-use Rattle.text.proofs.Grids.{Storing, storing-more, store-off, store-all, length-off, length-on, length-fits}
+use Rattle.text.proofs.InnerGrids.{Storing, storing-more, store-off, store-all, length-off, length-on, length-fits}
 use borrow.Author.Needs.{needs}
 use Rattle.text.proofs.heights.store_heights.Statement.{statement}
 use Rattle.text.proofs.heights.store_heights.Tie as tie

@@ -1,7 +1,7 @@
 -- `text::numbers::read_count` meets its contract. Assumes nothing.
 use mathlib.Core.Path.{sym, _∙_}
 use borrow.Author.Tests.{not-true, not-false}
-use Rattle.text.proofs.Steps.{count-none, count-empty, count-off, count-low, count-high, count-on}
+use Rattle.text.proofs.InnerSteps.{count-none, count-empty, count-off, count-low, count-high, count-on}
 use borrow.Author.Needs.{needs}
 use Rattle.text.proofs.numbers.read_count.Statement.{statement}
 use Rattle.text.proofs.numbers.read_count.Tie as tie

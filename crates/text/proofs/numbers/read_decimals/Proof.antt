@@ -1,7 +1,7 @@
 -- `text::numbers::read_decimals` meets its contract. Assumes nothing.
 use mathlib.Core.Path.{sym, _∙_}
 use Rattle.text.proofs.Ends.{end-no-digit}
-use Rattle.text.proofs.Forms.{tail-none, decimals-none, decimals-on, decimals-off}
+use Rattle.text.proofs.InnerForms.{tail-none, decimals-none, decimals-on, decimals-off}
 use borrow.Author.Needs.{needs}
 use Rattle.text.proofs.numbers.read_decimals.Statement.{statement}
 use Rattle.text.proofs.numbers.read_decimals.Tie as tie

@@ -3,7 +3,7 @@ use mathlib.Core.Path.{sym, _∙_}
 use Prim.Native.Nat.{_-_}
 use native.Mathlib.Omega.{arith}
 use borrow.Author.Tests.{not-true, not-false}
-use Rattle.text.proofs.Values.{Scanned, scan-none, scan-more, scan-small, scan-stop, scan-end}
+use Rattle.text.proofs.InnerValues.{Scanned, scan-none, scan-more, scan-small, scan-stop, scan-end}
 use borrow.Author.Needs.{needs}
 use Rattle.text.proofs.numbers.read_digits.Statement.{statement}
 use Rattle.text.proofs.numbers.read_digits.Tie as tie

@@ -2,7 +2,7 @@
 use mathlib.Core.Path.{sym, _∙_}
 use native.Mathlib.Omega.{arith}
 use denote.Ref.{now}
-use Rattle.text.proofs.Forms.{sign-within, point-within, form-none, form-point, form-on, form-off}
+use Rattle.text.proofs.InnerForms.{sign-within, point-within, form-none, form-point, form-on, form-off}
 use borrow.Author.Needs.{needs}
 use Rattle.text.proofs.numbers.read_form.Statement.{statement}
 use Rattle.text.proofs.numbers.read_form.Tie as tie

@@ -1,5 +1,5 @@
 -- `text::numbers::read_hundredths` meets its contract. Assumes nothing.
-use Rattle.text.proofs.Values.{hundredths-short, hundredths-full}
+use Rattle.text.proofs.InnerValues.{hundredths-short, hundredths-full}
 use borrow.Author.Needs.{needs}
 use Rattle.text.proofs.numbers.read_hundredths.Statement.{statement}
 use Rattle.text.proofs.numbers.read_hundredths.Tie as tie

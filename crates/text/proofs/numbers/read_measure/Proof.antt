@@ -5,7 +5,7 @@ use mir.Facts.{toZ-ofZ}
 use mir.Syntax.{w64}
 use Rattle.text.specs.Reader.{got}
 use Rattle.text.specs.InnerNumbers.{SizeFits}
-use Rattle.text.proofs.Steps.{measure-none, measure-fine, measure-on}
+use Rattle.text.proofs.InnerSteps.{measure-none, measure-fine, measure-on}
 use borrow.Author.Needs.{needs}
 use Rattle.text.proofs.numbers.read_measure.Statement.{statement}
 use Rattle.text.proofs.numbers.read_measure.Tie as tie

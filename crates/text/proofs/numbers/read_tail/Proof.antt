@@ -1,6 +1,6 @@
 -- `text::numbers::read_tail` meets its contract. Assumes nothing.
 use native.Mathlib.Omega.{arith}
-use Rattle.text.proofs.Forms.{two-from, two-within, zeros-from, zeros-short, zeros-within, tail-short, tail-more}
+use Rattle.text.proofs.InnerForms.{two-from, two-within, zeros-from, zeros-short, zeros-within, tail-short, tail-more}
 use Rattle.text.proofs.numbers.read_tail.Statement.{statement}
 use Rattle.text.proofs.numbers.read_tail.Tie as tie
 

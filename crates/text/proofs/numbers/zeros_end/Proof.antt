@@ -4,7 +4,7 @@ use Prim.Native.Nat.{_-_}
 use native.Mathlib.Omega.{arith}
 use borrow.Author.Tests.{eq-eqb, ne-eqb}
 use Rattle.text.specs.Numbers.{zero}
-use Rattle.text.proofs.Runs.{Along, along-none, along-more, along-stop, along-end}
+use Rattle.text.proofs.InnerRuns.{Along, along-none, along-more, along-stop, along-end}
 use borrow.Author.Needs.{needs}
 use Rattle.text.proofs.numbers.zeros_end.Statement.{statement}
 use Rattle.text.proofs.numbers.zeros_end.Tie as tie

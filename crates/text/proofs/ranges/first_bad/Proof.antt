@@ -9,7 +9,7 @@ use mir.Val.{toZ, ofZ}
 use borrow.Author.Tests.{not-true, not-false}
 use borrow.Author.Needs.{needs}
 use Rattle.text.specs.Ranges.{heightAccepted}
-use Rattle.text.proofs.Tested.{GoodTo, good-none, good-more, first-bad, all-good}
+use Rattle.text.proofs.InnerTested.{GoodTo, good-none, good-more, first-bad, all-good}
 use Rattle.text.proofs.ranges.first_bad.Statement.{statement}
 use Rattle.text.proofs.ranges.first_bad.Tie as tie
 

@@ -1,7 +1,7 @@
 -- `text::ranges::is_height` meets its contract. Assumes nothing.
 use mir.Facts.{toZ-ofZ}
 use Rattle.text.proofs.Accepted.{bits-none, none-bits}
-use Rattle.text.proofs.Tested.{height-none, height-low, height-high}
+use Rattle.text.proofs.InnerTested.{height-none, height-low, height-high}
 use Rattle.text.proofs.ranges.is_height.Statement.{statement}
 use Rattle.text.proofs.ranges.is_height.Tie as tie
 

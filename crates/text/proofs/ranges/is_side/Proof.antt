@@ -1,5 +1,5 @@
 -- `text::ranges::is_side` meets its contract. Assumes nothing.
-use Rattle.text.proofs.Tested.{cell-side-none, cell-side-some}
+use Rattle.text.proofs.InnerTested.{cell-side-none, cell-side-some}
 use Rattle.text.proofs.ranges.is_side.Statement.{statement}
 use Rattle.text.proofs.ranges.is_side.Tie as tie
 

@@ -1,5 +1,5 @@
 -- `text::ranges::is_size` meets its contract. Assumes nothing.
-use Rattle.text.proofs.Tested.{size-none, size-some}
+use Rattle.text.proofs.InnerTested.{size-none, size-some}
 use Rattle.text.proofs.ranges.is_size.Statement.{statement}
 use Rattle.text.proofs.ranges.is_size.Tie as tie
 

@@ -5,7 +5,7 @@ use Prim.Native.Nat.{_-_}
 use native.Mathlib.Omega.{arith}
 use lib.ListN.{length}
 use Rattle.text.specs.Words.{blank, run, wordStart}
-use Rattle.text.proofs.Runs.{run-stop, run-end, run-step}
+use Rattle.text.proofs.InnerRuns.{run-stop, run-end, run-step}
 use borrow.Author.Needs.{needs}
 use Rattle.text.proofs.words.word_start.Statement.{statement}
 use Rattle.text.proofs.words.word_start.Tie as tie

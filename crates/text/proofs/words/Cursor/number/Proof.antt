@@ -1,6 +1,6 @@
 -- `text::words::Cursor::number` meets its contract. Assumes nothing.
 use Rattle.text.proofs.Ends.{first-solid}
-use Rattle.text.proofs.Steps.{number-none, number-bad, number-on}
+use Rattle.text.proofs.InnerSteps.{number-none, number-bad, number-on}
 use borrow.Author.Needs.{needs}
 use Rattle.text.proofs.words.Cursor.number.Statement.{statement}
 use Rattle.text.proofs.words.Cursor.number.Tie as tie

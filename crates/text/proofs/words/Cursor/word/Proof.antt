@@ -1,7 +1,7 @@
 -- `text::words::Cursor::word` meets its contract. Assumes nothing.
 use mathlib.Core.Path.{sym}
 use Rattle.text.proofs.Ends.{word-none}
-use Rattle.text.proofs.Steps.{word-step}
+use Rattle.text.proofs.InnerSteps.{word-step}
 use borrow.Author.Needs.{needs}
 use Rattle.text.proofs.words.Cursor.word.Statement.{statement}
 use Rattle.text.proofs.words.Cursor.word.Tie as tie

@@ -14,7 +14,7 @@ use Rattle.text.specs.Words.{run}
 use Rattle.text.specs.Numbers.{digit, digitOf, digitAt, value}
 use Rattle.text.specs.InnerNumbers.{Limit, DigitsFrom, HundredthsFrom}
 use Rattle.text.proofs.Bytes.{digit-range}
-use Rattle.text.proofs.Runs.{Along, along-none, along-more, along-stop, along-end}
+use Rattle.text.proofs.InnerRuns.{Along, along-none, along-more, along-stop, along-end}
 
 digit-small : (b : ℕ) → digitOf b ≤ 9
 digit-small b = go (digit b) refl

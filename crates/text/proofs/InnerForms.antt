@@ -14,9 +14,9 @@ use Rattle.text.specs.declared.numbers.Form.{Form}
 use Rattle.text.specs.declared.numbers.Form.the-variants as F
 use Rattle.text.specs.InnerNumbers.{DigitsFrom, HundredthsFrom, TailFrom, Parsed}
 use Rattle.text.proofs.Bytes.{zero-digit}
-use Rattle.text.proofs.Runs.{run-stop, run-lower, run-upper, run-fails, run-passes, run-within, run-split, run-after}
+use Rattle.text.proofs.InnerRuns.{run-stop, run-lower, run-upper, run-fails, run-passes, run-within, run-split, run-after}
 use Rattle.text.proofs.Ends.{byte-within, end-byte, end-digits}
-use Rattle.text.proofs.Values.{value-wider}
+use Rattle.text.proofs.InnerValues.{value-wider}
 
 -- ---- zeros from q on, of which at most four are looked at, end at z
 

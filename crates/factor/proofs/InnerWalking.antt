@@ -37,7 +37,7 @@ use Rattle.factor.specs.InnerPass.{Ruled, bearingAt, Turning, lengthNow,
 use Rattle.factor.specs.declared.pass.Terms.{Terms}
 use Rattle.factor.proofs.Slopes.{fall-steepness, fall-small}
 use Rattle.factor.proofs.Lengths.{lengths-long, lengths-at}
-use Rattle.factor.proofs.Gathering.{lengthAt, gatheredAt, finalAt, givenBy, final-is, length-none, gathered-none, gathered-small, lengths-handed}
+use Rattle.factor.proofs.InnerGathering.{lengthAt, gatheredAt, finalAt, givenBy, final-is, length-none, gathered-none, gathered-small, lengths-handed}
 
 module _ (rows cols side : ℕ) (rules : Rules) (lv dir count : List ℕ) where
   -- the cells at the first p places have their length and LS, and have handed on
