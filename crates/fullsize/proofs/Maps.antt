@@ -1,13 +1,12 @@
 -- What a map call promises, told of the numbers that are handed out and of the settings that the five numbers stand for. Assumes nothing.
-use mathlib.Core.Path.{_≡_, refl, sym, ap, _∙_}
-use mathlib.Core.Bool.{true, true≢false}
+use mathlib.Core.Path.{_≡_, sym, ap, subst, _∙_}
+use mathlib.Core.Bool.{true}
 use mathlib.Core.List.{List}
 use Prim.Native.Nat.{ℕ}
 use lib.IntN.{ℤ}
-use Rattle.laws.specs.Tests.{Test, passed, failed}
 use Rattle.settings.specs.declared.Settings.{Settings}
-use Rattle.terrain.specs.Answers.{groundValids}
-use Rattle.factor.specs.Answers.{Grids, judged, answerOf, answer, after, Numbers, told, accepts}
+use Rattle.terrain.specs.Drainage.{Totals}
+use Rattle.factor.specs.Answers.{Grids, answer, after, Numbers, told, accepts}
 use Rattle.factor.specs.declared.Answer.{Answer}
 use Rattle.factor.proofs.Judging.{number-some}
 
@@ -19,16 +18,7 @@ module _ (rows cols side : ℕ) (ground : List ℤ) (g : Grids) {s t : Settings}
   leaves-of p = p ∙ ap (λ (x : Settings). after rows cols side x ground g) same
 
 module _ (rows cols side : ℕ) (settings : Settings) (ground : List ℤ) (g : Grids) where
-  -- the number of valid cells that an accepted call answers
-  accepted-valids : accepts (answer rows cols side settings ground g) ≡ true → told (answer rows cols side settings ground g) .valids ≡ groundValids rows cols ground
-  unfolding answer answerOf
-  accepted-valids = go (judged rows cols side settings ground g)
-    where
-      go : (t : Test) → accepts (answerOf rows cols ground t) ≡ true → told (answerOf rows cols ground t) .valids ≡ groundValids rows cols ground
-      go passed y = refl
-      go (failed number place) y = absurd (true≢false (sym y))
-
-  -- a call that hands out the number 0 is accepted, and hands out the number of valid cells
+  -- a call that hands out the number 0 is accepted
   module _ {n : Numbers} {a : Answer} (e : n ≡ told a) (p : a ≡ answer rows cols side settings ground g) (z : n .number ≡ 0) where
     told-is : n ≡ told (answer rows cols side settings ground g)
     told-is = e ∙ ap told p
@@ -39,5 +29,6 @@ module _ (rows cols side : ℕ) (settings : Settings) (ground : List ℤ) (g : G
     pub accepts-of : accepts a ≡ true
     accepts-of = ap accepts p ∙ accepted
 
-    pub valids-of : {total : ℕ} → total ≡ groundValids rows cols ground → total ≡ n .valids
-    valids-of t = t ∙ sym (ap (λ (x : Numbers). x .valids) told-is ∙ accepted-valids accepted)
+    -- the totals hold of the number that is handed out
+    pub totals-of : {direction count : List ℕ} → Totals rows cols ground direction count (told a .valids) → Totals rows cols ground direction count (n .valids)
+    totals-of {direction} {count} t = subst (Totals rows cols ground direction count) (sym (ap (λ (x : Numbers). x .valids) e)) t

@@ -3,7 +3,7 @@
 use denote.Ref.{now}
 use borrow.Author.Needs.{needs}
 use Rattle.factor.specs.Answers.{Grids, lent}
-use Rattle.fullsize.proofs.Maps.{answers-of, leaves-of, accepts-of, valids-of}
+use Rattle.fullsize.proofs.Maps.{answers-of, leaves-of, accepts-of, totals-of}
 use Rattle.fullsize.proofs.lsmap_map.Statement.{statement}
 use Rattle.fullsize.proofs.lsmap_map.Tie as tie
 
@@ -63,7 +63,7 @@ returns c =
       answers-of (a .rows) (a .columns) (a .side) (now (a .ground)) (grids s) (t .ensures) e (p .0),
       (
         leaves-of (a .rows) (a .columns) (a .side) (now (a .ground)) (grids s) (t .ensures) (p .1 .0),
-        ((λ z. p .1 .1 .0 (accepted z)), ((λ z. valids-of (a .rows) (a .columns) (a .side) (t .result) (now (a .ground)) (grids s) e (p .0) z (p .1 .1 .1 .0 (accepted z))), (λ z. p .1 .1 .1 .1 (accepted z)))),
+        ((λ z. p .1 .1 .0 (accepted z)), ((λ z. totals-of (a .rows) (a .columns) (a .side) (t .result) (now (a .ground)) (grids s) e (p .0) z (p .1 .1 .1 .0 (accepted z))), (λ z. p .1 .1 .1 .1 (accepted z)))),
       ),
     )
 
