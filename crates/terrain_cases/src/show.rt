@@ -2,7 +2,9 @@
 // filled heights, directions and counts row by row; and what became of the workspace.
 ghost use Prim.Native.Nat.{_≤_};
 use factor::Answer;
-use libc::STDOUT_FILENO;
+use output::write;
+use output::write_height;
+use output::write_natural;
 use settings::Channel;
 use settings::Settings;
 
@@ -193,31 +195,4 @@ fn write_counts(columns: usize, counts: &[u32]) {
         write_natural(counts[x] as u64);
         x += 1;
     }
-}
-
-// For a negative height h, -h is !h + 1.
-fn write_height(height: i32) {
-    if height < 0 {
-        write(b" -");
-        io::print_decimal(
-            STDOUT_FILENO,
-            std::num::wrapping_add_u64(natural(!height), 1),
-        );
-    } else {
-        write_natural(natural(height));
-    }
-}
-
-// `n`, or 0 where `n` is negative.
-fn natural(n: i32) -> u64 {
-    if n < 0 { 0 } else { n as u64 }
-}
-
-fn write_natural(n: u64) {
-    write(b" ");
-    io::print_decimal(STDOUT_FILENO, n);
-}
-
-fn write(bytes: &[u8]) {
-    io::write_all(STDOUT_FILENO, bytes);
 }

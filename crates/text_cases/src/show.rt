@@ -1,7 +1,10 @@
 // Writes what both calls of `text` answer for one text. An answer is number, place, rows, columns, side and NoData
 // number, and after the reader call's stand the lent heights.
 ghost use Prim.Native.Nat.{_≤_};
-use libc::STDOUT_FILENO;
+use output::write;
+use output::write_height;
+use output::write_integer;
+use output::write_natural;
 use text::Answer;
 use text::Header;
 use text::Refusal;
@@ -67,31 +70,7 @@ fn write_refusal(refusal: Refusal) {
 fn write_heights(heights: &[i32]) {
     let mut i = 0;
     while i < heights.len() {
-        write_integer(heights[i] as i64);
+        write_height(heights[i]);
         i += 1;
     }
-}
-
-// For a negative `n`, -n is !n + 1.
-fn write_integer(n: i64) {
-    if n < 0 {
-        write(b" -");
-        io::print_decimal(STDOUT_FILENO, std::num::wrapping_add_u64(natural(!n), 1));
-    } else {
-        write_natural(natural(n));
-    }
-}
-
-// `n`, or 0 where `n` is negative.
-fn natural(n: i64) -> u64 {
-    if n < 0 { 0 } else { n as u64 }
-}
-
-fn write_natural(n: u64) {
-    write(b" ");
-    io::print_decimal(STDOUT_FILENO, n);
-}
-
-fn write(bytes: &[u8]) {
-    io::write_all(STDOUT_FILENO, bytes);
 }

@@ -6,8 +6,8 @@ use lib.Dec.{T}
 use lib.IntN.{ℤ, pos, negsuc}
 use lib.Signed.{ltZ, nonNeg}
 use mir.Facts.{toZ-ofZ, fits-natAbs}
-use Rattle.terrain_cases.proofs.show.natural.Statement.{statement}
-use Rattle.terrain_cases.proofs.show.natural.Tie as tie
+use Rattle.output.proofs.natural.Statement.{statement}
+use Rattle.output.proofs.natural.Tie as tie
 
 not-below-0 : (z : ℤ) → ltZ z (pos 0) ≡ false → T (nonNeg z)
 not-below-0 (pos n) h = tt
