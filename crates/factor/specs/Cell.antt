@@ -1,4 +1,4 @@
--- Document 01, "LS": what one valid cell's LS is, by the cell side c, its steepness q and its length. Assumes nothing.
+-- RULES 6: what one valid cell's LS is, by the cell side c, its steepness q and its length. Assumes nothing.
 use Prim.Native.Nat.{ℕ, _*_}
 use mathlib.Core.Bool.{cond}
 use lib.Dec.{ltb}

@@ -1,4 +1,4 @@
--- Document 01, "Length": channel cells. Assumes nothing.
+-- RULES 5.1: channel cells. Assumes nothing.
 use mathlib.Core.List.{List}
 use mathlib.Core.Bool.{Bool, false}
 use Prim.Native.Nat.{ℕ, _*_}

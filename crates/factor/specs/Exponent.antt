@@ -1,4 +1,4 @@
--- Document 01, "LS": the exponent of the length factor, in tenths. Assumes nothing.
+-- RULES 6.1: the exponent of the length factor, in tenths. Assumes nothing.
 use Prim.Native.Nat.{ℕ, _*_}
 use mathlib.Core.Bool.{cond}
 use lib.Dec.{leb, ltb}

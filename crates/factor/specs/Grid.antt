@@ -1,4 +1,4 @@
--- Document 01, "LS": the LS grid of a map, over filled levels, a list of directions and slope lengths. Assumes nothing.
+-- RULES 6: the LS grid of a map, over filled levels, a list of directions and slope lengths. Assumes nothing.
 use mathlib.Core.List.{List}
 use mathlib.Core.Bool.{cond}
 use Prim.Native.Nat.{ℕ, _*_}

@@ -1,4 +1,4 @@
--- Document 01, "Length": what one inflow brings. Assumes nothing.
+-- RULES 5.2: what one inflow brings. Assumes nothing.
 use mathlib.Core.Bool.{Bool, cond, _&&_}
 use Prim.Native.Nat.{ℕ, _+_, _-_, _*_}
 use lib.Dec.{ltb, leb, eqb}

@@ -1,4 +1,4 @@
--- Document 01, "Length": the length of every cell, over filled levels, a list of directions and its flow counts. Assumes nothing.
+-- RULES 5.2: the length of every cell, over filled levels, a list of directions and its flow counts. Assumes nothing.
 use mathlib.Core.List.{List}
 use mathlib.Core.Bool.{cond}
 use Prim.Native.Nat.{ℕ, zero, suc, _*_}

@@ -1,4 +1,4 @@
--- Document 01, "LS": the slope length in mm, and the length factor. Assumes nothing.
+-- RULES 6.2: the slope length in mm, and the length factor. Assumes nothing.
 use Prim.Native.Nat.{ℕ, _*_, _^_, _/_}
 use mathlib.Core.Bool.{Bool}
 use lib.Dec.{leb}

@@ -1,4 +1,4 @@
--- Document 01, "Filling and directions": the steepness of a cell, from its drop along its direction. Assumes nothing.
+-- RULES 4.3: the steepness of a cell, from its drop along its direction. Assumes nothing.
 use mathlib.Core.List.{List}
 use Prim.Native.Nat.{ℕ}
 use lib.ListN.{getD}

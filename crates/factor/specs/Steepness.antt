@@ -1,4 +1,4 @@
--- Document 01, "LS": the sine in thousandths, and the steepness factor. Assumes nothing.
+-- RULES 6.3: the sine in thousandths, and the steepness factor. Assumes nothing.
 use Prim.Native.Nat.{ℕ, _+_, _*_, _/_}
 use mathlib.Core.Bool.{Bool}
 use lib.Dec.{leb}

@@ -1,4 +1,4 @@
-// Channel cells. Document 01, "Length". The channel rule becomes one bound, the greatest count that is no channel's, so that marking a
+// Channel cells. RULES 5. The channel rule becomes one bound, the greatest count that is no channel's, so that marking a
 // cell is one comparison.
 ghost use mathlib.Core.Path.{_≡_};
 ghost use Prim.Native.Nat.{ℕ, _≤_, max};

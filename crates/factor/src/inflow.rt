@@ -1,4 +1,4 @@
-// What one inflow brings to a cell: the cutoff, the cut, the step and the amount (Hickey 2000). Document 01, "Length".
+// What one inflow brings to a cell: the cutoff, the cut, the step and the amount (Hickey 2000). RULES 5.
 ghost use mathlib.Core.Path.{_≡_};
 ghost use Prim.Native.Nat.{ℕ, _≤_};
 ghost use Rattle.factor.specs.Inflow.{isCut, stepOver, amountOf};

@@ -1,4 +1,4 @@
-// The tests of refusals 1 to 4, which are judged before the terrain layer is called; it judges 5. Document 01, "Numbers of refusal".
+// The tests of refusals 1 to 4, which are judged before the terrain layer is called; it judges 5. RULES 3.
 ghost use mathlib.Core.Path.{_≡_};
 ghost use Rattle.laws.specs.Tests.{failed};
 ghost use Rattle.text.specs.Ranges.{allLong};

@@ -1,7 +1,7 @@
 // The factor layer, what the handbook makes of the water: slope length and steepness become the LS factor of Handbook 537.
-// Document 01, "Length" and "LS".
+// RULES 5 and 6.
 //
-// Its call gives every grid of document 01. It judges sizes, lengths, cell side and settings; the terrain layer, known by its
+// Its call gives every grid of docs/RULES.md. It judges sizes, lengths, cell side and settings; the terrain layer, known by its
 // promise alone, judges the heights and writes filled heights, directions, counts and falls, and an order from the ridges down;
 // one pass along that order gives lengths and LS.
 mod cell;

@@ -1,5 +1,5 @@
 // One pass along the order from the ridges down. When a cell's turn comes all its inflows have handed on, so its length is final:
-// its LS is worked out, and its own amount goes to the cell that it points at. Document 01, "Length" and "LS".
+// its LS is worked out, and its own amount goes to the cell that it points at. RULES 5 and 6.
 //
 // The grid of lengths holds what is gathered until a cell's turn comes: one more than the greatest amount brought, 0 for none. The
 // grid of factors holds the cells' falls until then, and NoData's LS, which is NoData's fall too.

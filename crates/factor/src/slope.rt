@@ -1,5 +1,4 @@
-// The steepness of a cell, from its fall: twice its drop, and one more where its direction is diagonal. Document 01, "Filling
-// and directions".
+// The steepness of a cell, from its fall: twice its drop, and one more where its direction is diagonal. RULES 4.
 ghost use mathlib.Core.Path.{_≡_};
 ghost use Prim.Native.Nat.{_≤_};
 ghost use Rattle.factor.specs.Inner.{greatestFall, steepnessOf};

@@ -1,4 +1,4 @@
-// The constant lists of document 01, "LS": the first millimetre at which each t is reached, up to 304,800 mm.
+// The constant lists of RULES 6: the first millimetre at which each t is reached, up to 304,800 mm.
 ghost use Rattle.factor.specs.Inner.{Listed};
 
 // Four rows, for the exponents 2/10, 3/10, 4/10 and 5/10.

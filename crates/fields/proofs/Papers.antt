@@ -1,4 +1,4 @@
--- Document 01, "Small fields": all that is marked P, as one statement over a list. antt computes each side. Assumes nothing.
+-- RULES 8: all that is marked P, as one statement over a list. antt computes each side. Assumes nothing.
 use mathlib.Core.Path.{refl}
 use mathlib.Core.List.{List, [], _∷_}
 use lib.IntN.{pos, negsuc}

@@ -1,4 +1,4 @@
--- Fields for each rule of document 01's "Length", and numbers for the edges of "LS". antt computes each side. Assumes nothing.
+-- Fields for each rule of RULES 5, and numbers for the edges of RULES 6. antt computes each side. Assumes nothing.
 use mathlib.Core.Path.{refl}
 use mathlib.Core.List.{List, [], _∷_}
 use lib.IntN.{pos, negsuc}

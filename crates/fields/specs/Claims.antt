@@ -1,4 +1,4 @@
--- What is claimed of small fields, lengths and factors, and when a claim holds: by the definitions that the map call promises. Assumes nothing.
+-- RULES 8: What is claimed of small fields, lengths and factors, and when a claim holds: by the definitions that the map call promises. Assumes nothing.
 use mathlib.Core.Path.{_≡_}
 use mathlib.Core.List.{List, [], _∷_}
 use Prim.Native.Nat.{ℕ, _*_}

@@ -1,4 +1,4 @@
--- Settings as plain numbers, for a caller that has no enum. Document 01, "Quantities": the channel rule is a percentage of the largest flow count, a
+-- Settings as plain numbers, for a caller that has no enum. RULES 7.3: the channel rule is a percentage of the largest flow count, a
 -- number of cells, or none. Assumes nothing.
 use Prim.Native.Nat.{ℕ}
 use mathlib.Core.Bool.{cond}

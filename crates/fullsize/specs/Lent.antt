@@ -1,4 +1,4 @@
--- What a call hands out into the numbers that it is lent. Assumes nothing.
+-- RULES 7.3: What a call hands out into the numbers that it is lent. Assumes nothing.
 use Prim.Native.Nat.{ℕ}
 use lib.IntN.{ℤ}
 use lib.Ieee.{Float}

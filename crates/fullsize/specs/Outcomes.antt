@@ -1,4 +1,4 @@
--- What a call gives, as the outcome that the wrapped call's promise speaks of: the number is the result, and the rest stands in the lent numbers. Assumes nothing.
+-- RULES 7.3: What a call gives, as the outcome that the wrapped call's promise speaks of: the number is the result, and the rest stands in the lent numbers. Assumes nothing.
 use Prim.Native.Nat.{ℕ}
 use mathlib.Core.List.{List}
 use lib.IntN.{ℤ, pos}

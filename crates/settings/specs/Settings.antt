@@ -1,4 +1,4 @@
--- Document 01, "Quantities": which settings are accepted, and what they mean in whole numbers. Assumes nothing.
+-- RULES 7.1: which settings are accepted, and what they mean in whole numbers. Assumes nothing.
 use mathlib.Core.Bool.{Bool, true, cond}
 use Prim.Native.Nat.{ℕ, suc}
 use lib.IntN.{pos}

@@ -1,4 +1,4 @@
-// The settings of a map: the two cutoffs and the channel rule, judged and turned into whole percentages. Document 01, "Quantities".
+// The settings of a map: the two cutoffs and the channel rule, judged and turned into whole percentages. RULES 1.
 ghost use mathlib.Core.Path.{_≡_};
 ghost use Prim.Native.Nat.{_≤_};
 ghost use Rattle.settings.specs.Settings.{wholeOf, judgedOf, defaultSettings};

@@ -1,4 +1,4 @@
--- Document 01, "Small fields": the pit's sheet, byte by byte, and the sheets of a few other texts, computed from the definitions. Assumes nothing.
+-- RULES 8: the pit's sheet, byte by byte, and the sheets of a few other texts, computed from the definitions. Assumes nothing.
 use mathlib.Core.Path.{_≡_, refl}
 use mathlib.Core.List.{List, [], _∷_, map}
 use Prim.Native.String.{String}

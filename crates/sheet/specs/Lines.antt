@@ -1,4 +1,4 @@
--- Document 01, "Small fields": the lines that the printer shows. Assumes nothing.
+-- RULES 9: the lines that the printer shows. Assumes nothing.
 use mathlib.Core.Bool.{cond}
 use mathlib.Core.List.{List, [], _∷_, _++_}
 use Prim.Native.Nat.{ℕ, zero, suc, _*_, _/_, _%_}

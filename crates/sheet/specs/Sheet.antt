@@ -1,4 +1,4 @@
--- Document 01, "Small fields" and refusal 11: the whole sheet of a text. Assumes nothing.
+-- RULES 3 and 9: the whole sheet of a text. Assumes nothing.
 use mathlib.Core.Bool.{true, false}
 use mathlib.Core.List.{List}
 use Prim.Native.Nat.{ℕ, _*_}

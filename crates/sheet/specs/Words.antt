@@ -1,4 +1,4 @@
--- Document 01, "Small fields": how a sheet's numbers are written, and how words make a line. A byte is its ASCII code. Assumes nothing.
+-- RULES 9: how a sheet's numbers are written, and how words make a line. A byte is its ASCII code. Assumes nothing.
 use mathlib.Core.Bool.{true, false}
 use mathlib.Core.List.{List, [], _∷_, _++_}
 use Prim.Native.Nat.{ℕ, zero, suc, _+_, _/_, _%_}

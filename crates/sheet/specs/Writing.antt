@@ -1,4 +1,4 @@
--- What lies in a lent room after bytes were written into it: the room is never overrun. Assumes nothing.
+-- RULES 9: What lies in a lent room after bytes were written into it: the room is never overrun. Assumes nothing.
 use mathlib.Core.List.{List}
 use Prim.Native.Nat.{ℕ}
 use lib.Seq.{sets}

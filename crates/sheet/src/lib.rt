@@ -1,4 +1,4 @@
-// The sheet layer: a text grid becomes a map's printed lines, or the one line of a refusal. Document 01, "Small fields".
+// The sheet layer: a text grid becomes a map's printed lines, or the one line of a refusal. RULES 8.
 //
 // Every text gets a sheet: the call has no `requires`. It reads, maps and writes by the calls of the layers below, on grids of its own.
 mod answers;

@@ -107,7 +107,7 @@ module _ (rows cols : ℕ) (ground : List ℤ) (g : Grids) where
         let h = length-passed (rows * cols) _ _ (f .1) in
         record { filled-long = b .0; direction-long = c .0; count-long = d .0; falls-long = f .0; workspace-long = h .0 }
 
-    -- what document 01 demands of its grids
+    -- what docs/RULES.md demands of its grids
     pub mapped-drains : {h : Grids} → Mapped rows cols ground (groundDirections rows cols ground) h → Drainage rows cols ground (h .filled) (h .direction) (h .count) (groundValids rows cols ground)
     mapped-drains m = rw (m .filled-is, m .direction-is, m .count-is) (drainage rows cols ground passed-ready)
 

@@ -1,4 +1,4 @@
--- Laws for the reader: what the definitions compute is what document 01 says in words of trails, walks and runs, for every ground that the call accepts
+-- Laws for the reader: what the definitions compute is what docs/RULES.md says in words of trails, walks and runs, for every ground that the call accepts
 -- (`passed-ready`). Assumes nothing.
 use mathlib.Core.Path.{_≡_, sym, ap, _∙_}
 use mathlib.Core.List.{List}

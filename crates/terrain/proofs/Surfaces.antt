@@ -1,4 +1,4 @@
--- The filled heights in the words of document 01: the least greatest height of the runs, and the lowest surface that drains. Assumes nothing.
+-- The filled heights in the words of docs/RULES.md: the least greatest height of the runs, and the lowest surface that drains. Assumes nothing.
 use mathlib.Core.Path.{_≡_, sym, ap, subst, _∙_}
 use mathlib.Core.List.{List}
 use Prim.Native.Nat.{ℕ, zero, suc, _≤_, _<_}

@@ -1,4 +1,4 @@
--- Document 01, "Numbers of refusal": what terrain's call answers, and what each lent grid holds afterwards. Assumes nothing.
+-- RULES 3 and 7.2: what terrain's call answers, and what each lent grid holds afterwards. Assumes nothing.
 use mathlib.Core.Path.{_≡_}
 use mathlib.Core.List.{List, [], _∷_}
 use mathlib.Core.Bool.{Bool, true, false}
@@ -44,7 +44,7 @@ lentAfter filled direction count falls workspace = lentAt (filled .exit) (direct
 abbrev pub placesOf : List ℤ → Grids → List ℕ
 placesOf ground g = length ground ∷ length (g .filled) ∷ length (g .direction) ∷ length (g .count) ∷ length (g .falls) ∷ length (g .workspace) ∷ []
 
--- the tests of the call, in the order of document 01: 1, 2, 5
+-- the tests of the call, in the order of docs/RULES.md: 1, 2, 5
 unfoldable pub tests : ℕ → ℕ → List ℤ → Grids → List Test
 tests rows cols ground g = sizeTest rows cols ∷ lengthTest (rows * cols) (placesOf ground g) ∷ heightTest (rows * cols) ground ∷ []
 

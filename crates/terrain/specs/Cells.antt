@@ -1,4 +1,4 @@
--- Document 01, "Filling and directions": neighbours, valid cells, rim cells, codes. A grid is a list, row after row from the north, and a cell is an index.
+-- RULES 4.1: neighbours, valid cells, rim cells, codes. A grid is a list, row after row from the north, and a cell is an index.
 -- Heights are whole numbers; a level is a height counted from NoData, so that NoData is 0, and what is no cell is at level 0 too. Assumes nothing.
 use mathlib.Core.Path.{_≡_}
 use mathlib.Core.List.{List, [], _∷_, map}

@@ -1,4 +1,4 @@
--- Document 01: steepness and directions, over filled levels. Assumes nothing.
+-- RULES 4.3: steepness and directions, over filled levels. Assumes nothing.
 use mathlib.Core.List.{List}
 use mathlib.Core.Bool.{Bool, cond, _&&_}
 use Prim.Native.Nat.{ℕ, _+_, _-_, _*_}

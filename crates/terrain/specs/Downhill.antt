@@ -1,4 +1,4 @@
--- The valid cells in an order from the ridges down. Assumes nothing.
+-- RULES 4.5: The valid cells in an order from the ridges down. Assumes nothing.
 use mathlib.Core.Path.{_≡_}
 use mathlib.Core.List.{List}
 use mathlib.Core.Bool.{true}

@@ -1,4 +1,4 @@
--- What document 01 demands of a map, in its own words: over the ground and the grids that a call gives. Assumes nothing.
+-- What RULES 4.6 demands of a map, in its own words: over the ground and the grids that a call gives. Assumes nothing.
 use mathlib.Core.Path.{_≡_}
 use mathlib.Core.List.{List}
 use Prim.Native.Nat.{ℕ, _*_}

@@ -1,4 +1,4 @@
--- Document 01, "Filling and directions": the drop of a cell along its direction, and the cell's fall, which tells the drop and whether the direction is diagonal in
+-- RULES 4.3: the drop of a cell along its direction, and the cell's fall, which tells the drop and whether the direction is diagonal in
 -- one number. The grid of falls is what the layer above works steepness out from. Assumes nothing.
 use mathlib.Core.List.{List}
 use mathlib.Core.Bool.{cond}

@@ -1,4 +1,4 @@
--- Document 01: "Filled height: over all runs of valid neighbours from the cell to a rim cell, the least possible greatest ground height on the run."
+-- RULES 4.2: "Filled height: over all runs of valid neighbours from the cell to a rim cell, the least possible greatest ground height on the run."
 -- Here as a computation, lowered until still; `Drainage` states that it is that least height. Assumes nothing.
 use mathlib.Core.List.{List, map}
 use Prim.Native.Nat.{ℕ, zero, suc, _*_, _≤_, min, max}

@@ -1,4 +1,4 @@
--- Document 01: lower neighbours, and the steps of cells that have none: "Any other cell with no lower neighbour counts the fewest steps, over valid cells of its own
+-- RULES 4.4: lower neighbours, and the steps of cells that have none: "Any other cell with no lower neighbour counts the fewest steps, over valid cells of its own
 -- filled height, to a cell with a lower neighbour or to a rim cell." Over filled levels. Assumes nothing.
 use mathlib.Core.Path.{_≡_}
 use mathlib.Core.List.{List}

@@ -1,4 +1,4 @@
--- Document 01, "Filling and directions": runs of valid neighbours, surfaces, and what it is for a surface to drain. Assumes nothing.
+-- RULES 4.2: runs of valid neighbours, surfaces, and what it is for a surface to drain. Assumes nothing.
 use mathlib.Core.List.{List}
 use mathlib.Core.Bool.{cond}
 use Prim.Native.Nat.{ℕ, _<_}

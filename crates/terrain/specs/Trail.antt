@@ -1,4 +1,4 @@
--- Document 01: trails along given directions, flow counts, the longest trail and the number of valid cells. Assumes nothing.
+-- RULES 4.5: trails along given directions, flow counts, the longest trail and the number of valid cells. Assumes nothing.
 use mathlib.Core.Path.{_≡_}
 use mathlib.Core.List.{List}
 use mathlib.Core.Logic.{_⊎_}

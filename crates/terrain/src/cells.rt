@@ -1,4 +1,4 @@
-// Cells and their neighbours: document 01, "Filling and directions". The eight bearings stand in the order of the codes:
+// Cells and their neighbours: RULES 4. The eight bearings stand in the order of the codes:
 //
 //     5 NW   6 N   7 NE
 //     4 W      x   0 E

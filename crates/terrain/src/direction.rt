@@ -1,5 +1,5 @@
 // Directions: the steepest lower neighbour of eight (D8, O'Callaghan and Mark 1984); over flats the first neighbour that is
-// one step nearer. Document 01, "Filling and directions".
+// one step nearer. RULES 4.
 ghost use mathlib.Core.Path.{_≡_};
 ghost use mathlib.Core.Bool.{true, not, cond, _&&_};
 ghost use Prim.Native.Nat.{ℕ, _+_, _*_, _≤_, _<_};

@@ -1,7 +1,7 @@
 // The terrain layer, where the water goes: from ground heights to filled heights, directions, falls and flow counts, and an
-// order of the cells from the ridges down. Document 01, "Filling and directions". No settings and no cell side come in here.
+// order of the cells from the ridges down. RULES 4. No settings and no cell side come in here.
 //
-// Every input gets an answer: the call has no `requires`. The modules follow document 01: cells, filled heights, steps over
+// Every input gets an answer: the call has no `requires`. The modules follow docs/RULES.md: cells, filled heights, steps over
 // flats, directions, the order from the ridges down, trails.
 mod cells;
 mod direction;

@@ -1,4 +1,4 @@
-// Small fields given by their heights in cm: document 01's two drops, and the ends of the range of heights.
+// Small fields given by their heights in cm: the rules' two drops, and the ends of the range of heights.
 use crate::show::field;
 
 pub(crate) fn drops() {

@@ -1,4 +1,4 @@
-// Maps fields of every kind with the map call and writes its answers and its grids up to the counts, for document 01's
+// Maps fields of every kind with the map call and writes its answers and its grids up to the counts, for the rules'
 // headings "Filling and directions" and "Numbers of refusal". What must be written, the file `stdout`, is worked out from
 // that document.
 mod drawn;

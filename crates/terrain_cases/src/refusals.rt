@@ -1,4 +1,4 @@
-// The refusals 1, 2 and 5 of document 01, which are tested in that order, and heights that are just accepted.
+// The refusals 1, 2 and 5 of docs/RULES.md, which are tested in that order, and heights that are just accepted.
 use crate::show::field;
 use crate::show::lent;
 

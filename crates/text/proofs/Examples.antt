@@ -1,4 +1,4 @@
--- Document 01's examples of the text, computed from the definitions. Assumes nothing.
+-- The rules' examples of the text, computed from the definitions. Assumes nothing.
 use mathlib.Core.Path.{_≡_, refl}
 use mathlib.Core.List.{List, [], _∷_, map}
 use Prim.Native.Nat.{ℕ}

@@ -1,4 +1,4 @@
--- Document 01, "The text" and "Numbers of refusal": the answers of the two calls, as the promises state them. Assumes nothing.
+-- RULES 2.5 and 3: the answers of the two calls, as the promises state them. Assumes nothing.
 use Prim.Native.Nat.{ℕ}
 use mathlib.Core.List.{List}
 use lib.IntN.{ℤ, pos}

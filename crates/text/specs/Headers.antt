@@ -1,4 +1,4 @@
--- Document 01, "The text": the header. Assumes nothing.
+-- RULES 2.2: the header. Assumes nothing.
 use Prim.Native.Nat.{ℕ, suc, _+_, _*_}
 use mathlib.Core.Bool.{Bool, true, false, cond, _&&_}
 use mathlib.Core.List.{List, [], _∷_}

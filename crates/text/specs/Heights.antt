@@ -1,4 +1,4 @@
--- Document 01, "The text": the heights and the end. Assumes nothing.
+-- RULES 2.4: the heights and the end. Assumes nothing.
 use Prim.Native.Nat.{ℕ, zero, suc, _*_}
 use mathlib.Core.Bool.{Bool, cond, _&&_, _||_}
 use mathlib.Core.List.{List, [], _∷_}

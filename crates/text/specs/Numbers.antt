@@ -1,4 +1,4 @@
--- Document 01, "The text": numbers. A number's word begins at a and ends before e. Assumes nothing.
+-- RULES 2.3: numbers. A number's word begins at a and ends before e. Assumes nothing.
 use Prim.Native.Nat.{ℕ, zero as zeroᴺ, suc, _+_, _-_, _*_}
 use mathlib.Core.Bool.{Bool, false, not, cond, _&&_}
 use mathlib.Core.List.{List}

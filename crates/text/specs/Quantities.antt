@@ -1,4 +1,4 @@
--- Document 01, "Quantities": the ranges of what a text says, and NoData. Assumes nothing.
+-- RULES 1: the ranges of what a text says, and NoData. Assumes nothing.
 use Prim.Native.Nat.{ℕ}
 use mathlib.Core.Bool.{Bool, _&&_}
 use lib.Dec.{leb}

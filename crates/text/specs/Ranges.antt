@@ -1,4 +1,4 @@
--- Document 01, "Quantities" and "Numbers of refusal": what sizes, sides and heights are accepted, and the tests of a call that takes them. Assumes nothing.
+-- RULES 1 and 3: what sizes, sides and heights are accepted, and the tests of a call that takes them. Assumes nothing.
 use mathlib.Core.List.{List, [], _∷_}
 use mathlib.Core.Bool.{Bool, true, not, _&&_, _||_}
 use Prim.Native.Nat.{ℕ}

@@ -1,4 +1,4 @@
--- Document 01, "The text": words are judged in order, and the first fault decides. A text is the list of its bytes, and a place an
+-- RULES 2.5: words are judged in order, and the first fault decides. A text is the list of its bytes, and a place an
 -- offset into it. Assumes nothing.
 use Prim.Native.Nat.{ℕ}
 use mathlib.Core.Bool.{Bool, cond}

@@ -1,4 +1,4 @@
--- Document 01, "The text": blanks and words. Assumes nothing.
+-- RULES 2.1: blanks and words. Assumes nothing.
 use Prim.Native.Nat.{ℕ, zero, suc, _-_}
 use mathlib.Core.Bool.{Bool, true, false, not, cond, _||_}
 use mathlib.Core.List.{List}

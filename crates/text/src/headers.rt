@@ -18,7 +18,7 @@ use crate::words;
 use crate::words::Cursor;
 use crate::words::Next;
 
-// Document 01, "The text": the NoData number where the text gives none, -9999 m, in cm.
+// RULES 2: the NoData number where the text gives none, -9999 m, in cm.
 const ABSENT_NO_DATA: i64 = -9999 * 100;
 
 // The moved cursor, or the refusal.

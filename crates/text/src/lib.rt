@@ -1,6 +1,6 @@
-// The text layer: an Esri ASCII grid is read into heights in cm, or refused. Document 01, "The text".
+// The text layer: an Esri ASCII grid is read into heights in cm, or refused. RULES 2.
 //
-// Every text gets an answer: no call has a `requires`. The modules follow document 01: words, numbers, the header, the heights. The
+// Every text gets an answer: no call has a `requires`. The modules follow docs/RULES.md: words, numbers, the header, the heights. The
 // ranges are tested here for the calls of the layers above too.
 mod headers;
 mod heights;
@@ -17,10 +17,10 @@ pub use ranges::is_side;
 pub use ranges::is_size;
 use words::Cursor;
 
-// Document 01, "Quantities": a NoData cell's height, in cm.
+// RULES 1: a NoData cell's height, in cm.
 pub const NO_DATA: i32 = -999900;
 
-// Document 01, "Numbers of refusal": the number and the place.
+// RULES 3: the number and the place.
 pub struct Refusal {
     pub number: u32,
     pub place: usize,

@@ -1,4 +1,4 @@
-// The ranges of rows, columns, cell side and heights, tested for every call that takes them as numbers. Document 01, "Quantities".
+// The ranges of rows, columns, cell side and heights, tested for every call that takes them as numbers. RULES 1.
 ghost use mathlib.Core.Path.{_≡_};
 ghost use lib.ListN.{length};
 ghost use Rattle.text.specs.Ranges.{sizeAccepted, sideAccepted, heightAccepted, firstBad};

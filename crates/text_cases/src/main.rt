@@ -1,5 +1,4 @@
-// Runs both calls of `text` on small texts and writes what they answer, for document 01's headings "The text" and
-// "Numbers of refusal". What must be written, the file `stdout`, is worked out from that document.
+// Runs both calls of `text` on small texts and writes what they answer, for RULES 2 and // "Numbers of refusal". What must be written, the file `stdout`, is worked out from that document.
 mod counts;
 mod ends;
 mod forms;
