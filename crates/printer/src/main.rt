@@ -1,4 +1,4 @@
-// The printer of RULES 8: reads a text grid from standard input and prints its sheet. All work is done before
+// The printer of RULES 9: reads a text grid from standard input and prints its sheet. All work is done before
 // the first byte is printed.
 use libc::STDIN_FILENO;
 use libc::STDOUT_FILENO;

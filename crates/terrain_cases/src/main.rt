@@ -1,6 +1,5 @@
-// Maps fields of every kind with the map call and writes its answers and its grids up to the counts, for the rules'
-// headings "Filling and directions" and "Numbers of refusal". What must be written, the file `stdout`, is worked out from
-// that document.
+// Maps fields of every kind with the map call and writes its answers and its grids up to the counts, for RULES 3 and 4. What
+// must be written, the file `stdout`, is worked out from those.
 mod drawn;
 mod land;
 mod listed;

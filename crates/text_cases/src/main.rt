@@ -1,4 +1,5 @@
-// Runs both calls of `text` on small texts and writes what they answer, for RULES 2 and // "Numbers of refusal". What must be written, the file `stdout`, is worked out from that document.
+// Runs both calls of `text` on small texts and writes what they answer, for RULES 2 and 3. What must be written, the file
+// `stdout`, is worked out from those.
 mod counts;
 mod ends;
 mod forms;
