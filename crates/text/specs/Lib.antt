@@ -1,4 +1,4 @@
--- The rules' rules of a text and of its ranges, as the promises cite them; those named Inner are cited by inner functions only.
+-- The rules of a text and of its ranges, as the promises cite them; those named Inner are cited by inner functions only.
 pub mod Bytes
 pub mod Quantities
 pub mod Reader
