@@ -51,7 +51,7 @@ abbrev pub placesOf : List ℤ → Grids → List ℕ
 placesOf ground g =
     length ground ∷ length (g .filled) ∷ length (g .direction) ∷ length (g .count) ∷ length (g .lengths) ∷ length (g .factors) ∷ length (g .workspace) ∷ []
 
--- "The map call tests 1, 2, 3, 4, 5 in that order, 5 at the first bad cell in row order."
+-- The map call tests 1, 2, 3, 4, 5 in that order, 5 at the first bad cell in row order.
 unfoldable pub tests : ℕ → ℕ → ℕ → Settings → List ℤ → Grids → List Test
 tests rows cols side settings ground g =
     sizeTest rows cols ∷ lengthTest (rows * cols) (placesOf ground g) ∷ sideTest side ∷ settingsTest settings ∷ heightTest (rows * cols) ground ∷ []
@@ -61,7 +61,7 @@ unfoldable pub judged : ℕ → ℕ → ℕ → Settings → List ℤ → Grids 
 unfolding tests verdict
 judged rows cols side settings ground g = verdict (tests rows cols side settings ground g)
 
--- the grids of a ground for a list of directions. "The workspace holds zeros after success."
+-- the grids of a ground for a list of directions. The workspace holds zeros after success.
 unfoldable pub mapOf : ℕ → ℕ → ℕ → Rules → List ℤ → List ℕ → Grids
 unfolding filledLevels filledOf countsOf lengthsOf factorsOf
 mapOf rows cols side rules ground dir =
@@ -70,13 +70,13 @@ mapOf rows cols side rules ground dir =
     let lengths = lengthsOf rows cols side rules lv dir count in
     lent (filledOf rows cols ground) dir count lengths (factorsOf rows cols side lv dir lengths) (replicate (rows * cols) 0)
 
--- "The answer also gives the number of valid cells and the longest trail"; a refusal has number and place
+-- The answer also gives the number of valid cells and the longest trail; a refusal has number and place
 unfoldable pub answerOf : ℕ → ℕ → List ℤ → Test → Answer
 unfolding groundValids groundDirections longestOf
 answerOf rows cols ground passed = let dir = groundDirections rows cols ground in Accepted (groundValids rows cols ground) (longestOf rows cols dir)
 answerOf rows cols ground (failed number place) = Refused (record { number = number; place = place })
 
--- "A refusal changes no lent grid."
+-- A refusal changes no lent grid.
 unfoldable pub gridsOf : ℕ → ℕ → ℕ → Settings → List ℤ → Grids → Test → Grids
 unfolding rulesOf groundDirections mapOf
 gridsOf rows cols side settings ground g passed = let dir = groundDirections rows cols ground in mapOf rows cols side (rulesOf settings) ground dir
@@ -100,7 +100,7 @@ pub record Numbers : Type 0 where
   pub valids : ℕ
   pub longest : ℕ
 
--- "An accepted call has number and place 0"; "a refusal returns number and place with every other number 0"
+-- An accepted call has number and place 0; a refusal returns number and place with every other number 0
 abbrev pub told : Answer → Numbers
 told (Accepted valid longest) = record { number = 0; place = 0; valids = valid; longest = longest }
 told (Refused f) = record { number = f .number; place = f .place; valids = 0; longest = 0 }

@@ -6,7 +6,7 @@ use Rattle.factor.specs.Exponent.{exponentOf}
 use Rattle.factor.specs.LengthFactor.{millimetres, greatestMm, lengthFactor}
 use Rattle.factor.specs.Steepness.{steepnessFactor}
 
--- "LS: 4,294,967,294 too long"
+-- LS: 4,294,967,294 too long
 abbrev pub tooLong : ℕ
 tooLong = 4294967294
 

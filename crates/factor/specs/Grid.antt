@@ -8,7 +8,7 @@ use Rattle.terrain.specs.Trail.{mappedAt}
 use Rattle.factor.specs.Slope.{steepnessAt}
 use Rattle.factor.specs.Cell.{factorOf}
 
--- "LS: 4,294,967,295 NoData"
+-- LS: 4,294,967,295 NoData
 abbrev pub noDataFactor : ℕ
 noDataFactor = 4294967295
 

@@ -27,7 +27,7 @@ pub record Sloping (side q : ℕ) : Type 0 where
   pub side-small : side ≤ 100000
   pub steepness-small : q < 2 ^ 43
 
--- "a constant list gives the first millimetre at which each t is reached": in the row of each class of slopes, the entry of t is at
+-- a constant list gives the first millimetre at which each t is reached: in the row of each class of slopes, the entry of t is at
 -- most a length just where the length reaches t
 pub record Listed (lists : List ℕ) : Type 0 where
   pub tells : (class t mm : ℕ) → class < 4 → t < 373 → mm ≤ greatestMm → leb (getD lists (373 * class + t) 0) mm ≡ reached (class + 2) mm t

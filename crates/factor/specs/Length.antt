@@ -25,7 +25,7 @@ module _ (rows cols side : ℕ) (rules : Rules) (lv dir : List ℕ) where
   broughtTo z x len = amountOf (cutoffAt z) (steepnessAt rows cols lv dir z) (steepnessAt rows cols lv dir x) (stepOver (bearingOf (getD dir x 255))) len
 
 module _ (rows cols side : ℕ) (rules : Rules) (lv dir count : List ℕ) where
-  -- the length of z by the lengths f of its inflows: "The greatest amount is the length." A channel and a NoData cell have 0.
+  -- the length of z by the lengths f of its inflows: The greatest amount is the length. A channel and a NoData cell have 0.
   unfoldable pub lengthFrom : (ℕ → ℕ) → ℕ → ℕ
   unfolding mappedAt channelAt someOf neighbour intoAt greatestTo when broughtTo
   lengthFrom f z =

@@ -29,7 +29,7 @@ pub record Maps : Type 0 where
 abbrev pub settings : ℕ → ℕ → Settings
 settings low high = record { low = quotient 100 low; high = quotient 100 high; channel = NoChannel }
 
--- "cutoffs 0.5, no channels, unless said"
+-- cutoffs 0.5, no channels, unless said
 abbrev pub half : Settings
 half = settings 50 50
 

@@ -1,4 +1,4 @@
--- The tests of a call, in order: the first that fails decides (RULES 3, "Numbers of refusal"). Assumes nothing.
+-- The tests of a call, in order: the first that fails decides (RULES 3, Numbers of refusal). Assumes nothing.
 use mathlib.Core.List.{List, [], _∷_}
 use mathlib.Core.Bool.{Bool, cond}
 use Prim.Native.Nat.{ℕ}

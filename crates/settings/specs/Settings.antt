@@ -25,12 +25,12 @@ unfoldable pub wholeOf : ℕ → ℕ → Float → ℕ
 unfolding firstOf eq quotient
 wholeOf d top x = firstOf (λ n. eq x (quotient d n)) (suc top)
 
--- "A cutoff is accepted exactly if it equals the float quotient n / 100 for a whole n from 0 to 100, and then means n percent."
+-- A cutoff is accepted exactly if it equals the float quotient n / 100 for a whole n from 0 to 100, and then means n percent.
 unfoldable pub cutoffOf : Float → ℕ
 unfolding wholeOf
 cutoffOf x = wholeOf 100 100 x
 
--- "The percentage is a 64-bit float and must equal n / 10 for a whole n from 0 to 1,000. Any 32-bit number of cells is accepted."
+-- The percentage is a 64-bit float and must equal n / 10 for a whole n from 0 to 1,000. Any 32-bit number of cells is accepted.
 unfoldable pub thresholdOf : Channel → Threshold
 unfolding wholeOf
 thresholdOf (Percentage x) = Share (wholeOf 10 1000 x)
@@ -47,7 +47,7 @@ unfoldable pub rulesOf : Settings → Rules
 unfolding cutoffOf thresholdOf
 rulesOf s = record { low = cutoffOf (s .low); high = cutoffOf (s .high); threshold = thresholdOf (s .channel) }
 
--- "the first bad one of 1 low cutoff, 2 high, 3 channel"
+-- the first bad one of 1 low cutoff, 2 high, 3 channel
 unfoldable pub verdictOf : Rules → Judged
 unfolding thresholdAccepted
 verdictOf rules = cond (leb (rules .low) 100) (cond (leb (rules .high) 100) (cond (thresholdAccepted (rules .threshold)) (Accepted rules) (Refused 3)) (Refused 2)) (Refused 1)
@@ -61,12 +61,12 @@ abbrev pub told : Judged → Test
 told (Accepted rules) = passed
 told (Refused place) = failed 4 place
 
--- "4: a setting not accepted; place: the first bad one of 1 low cutoff, 2 high, 3 channel"
+-- 4: a setting not accepted; place: the first bad one of 1 low cutoff, 2 high, 3 channel
 unfoldable pub settingsTest : Settings → Test
 unfolding judgedOf
 settingsTest s = told (judgedOf s)
 
--- "Library defaults: 0.5, 0.5, percentage 1.0"
+-- Library defaults: 0.5, 0.5, percentage 1.0
 unfoldable pub defaultSettings : Settings
 unfolding quotient
 defaultSettings = record { low = quotient 100 50; high = quotient 100 50; channel = Percentage (quotient 10 10) }

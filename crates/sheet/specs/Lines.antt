@@ -13,12 +13,12 @@ use Rattle.sheet.specs.Words.{decimal, integer, line}
 use Rattle.sheet.specs.declared.lines.Cell.{Cell}
 use Rattle.sheet.specs.declared.lines.Shape.{Shape}
 
--- "A refusal prints `refused 7 at 52` and nothing else."
+-- A refusal prints `refused 7 at 52` and nothing else.
 unfoldable pub refusalLine : ℕ → ℕ → List ℕ
 unfolding decimal line bytes
 refusalLine number place = line (bytes "refused" ∷ decimal number ∷ bytes "at" ∷ decimal place ∷ [])
 
--- "too long shows `long`"
+-- too long shows `long`
 unfoldable pub factorWord : ℕ → List ℕ
 unfolding decimal bytes
 factorWord n = cond (eqb n tooLong) (bytes "long") (decimal n)
@@ -29,17 +29,17 @@ unfolding decimal integer factorWord
 valueWords c =
     integer (c .ground) ∷ integer (c .filled) ∷ decimal (c .direction) ∷ decimal (c .count) ∷ decimal (c .length) ∷ factorWord (c .factor) ∷ []
 
--- "A NoData cell shows row, column and six times `-`"
+-- A NoData cell shows row, column and six times `-`
 unfoldable pub shownWords : Cell → List (List ℕ)
 unfolding valueWords bytes
 shownWords c = cond (same (c .ground) noDataHeight) (replicate 6 (bytes "-")) (valueWords c)
 
--- "then each cell's row, column, ground, filled, direction, count, length, LS"
+-- then each cell's row, column, ground, filled, direction, count, length, LS
 unfoldable pub cellLine : ℕ → ℕ → Cell → List ℕ
 unfolding decimal line shownWords
 cellLine row column c = line (decimal row ∷ decimal column ∷ shownWords c)
 
--- "It prints rows, columns, side, valid cells and longest trail"
+-- It prints rows, columns, side, valid cells and longest trail
 unfoldable pub shapeLine : Shape → List ℕ
 unfolding decimal line
 shapeLine s = line (decimal (s .rows) ∷ decimal (s .columns) ∷ decimal (s .side) ∷ decimal (s .valid) ∷ decimal (s .longest) ∷ [])

@@ -36,7 +36,7 @@ gridSheet rows columns side settings text heights g =
 abbrev pub zeros : ℕ → Grids
 zeros n = lent (replicate n (pos 0)) (replicate n 0) (replicate n 0) (replicate n 0) (replicate n 0) (replicate n 0)
 
--- "then, after a good header, more than 2,048 cells (place 0)"
+-- then, after a good header, more than 2,048 cells (place 0)
 unfoldable pub headSheet : ℕ → ℕ → ℕ → Settings → List ℕ → List ℕ
 unfolding refusalLine gridSheet
 headSheet rows columns side settings text =
@@ -45,7 +45,7 @@ headSheet rows columns side settings text =
       | false ↦ gridSheet rows columns side settings text (replicate (rows * columns) (pos 0)) (zeros (rows * columns))
     ]
 
--- "printer only: text above 32,768 bytes (place 32768)", before anything else
+-- printer only: text above 32,768 bytes (place 32768), before anything else
 unfoldable pub sheetOf : List ℕ → Settings → List ℕ
 unfolding linesOr refusalLine headSheet
 sheetOf text settings =

@@ -21,7 +21,7 @@ unfolding decimal
 integer (pos n) = decimal n
 integer (negsuc n) = 45 ∷ decimal (suc n)
 
--- "one space between two words, LF after each line"
+-- one space between two words, LF after each line
 unfoldable pub line : List (List ℕ) → List ℕ
 line [] = 10 ∷ []
 line (w ∷ []) = w ++ (10 ∷ [])

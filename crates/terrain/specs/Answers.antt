@@ -53,7 +53,7 @@ unfoldable pub judged : ℕ → ℕ → List ℤ → Grids → Test
 unfolding tests verdict
 judged rows cols ground g = verdict (tests rows cols ground g)
 
--- "the number of valid cells"
+-- the number of valid cells
 unfoldable pub groundValids : ℕ → ℕ → List ℤ → ℕ
 unfolding validsOf levelsOf
 groundValids rows cols ground = validsOf rows cols (levelsOf ground)
@@ -71,13 +71,13 @@ pub record Mapped (rows cols : ℕ) (ground : List ℤ) (dir : List ℕ) (g : Gr
   pub falls-are : g .falls ≡ fallsOf rows cols (filledLevels rows cols ground) dir
   pub order : Downhill rows cols dir (g .workspace) (groundValids rows cols ground)
 
--- "A refusal returns number and place with every other number 0"; "an accepted call has number and place 0": the cases of the enum
+-- A refusal returns number and place with every other number 0; an accepted call has number and place 0: the cases of the enum
 unfoldable pub answerOf : ℕ → ℕ → List ℤ → Test → Answer
 unfolding groundValids groundDirections longestOf
 answerOf rows cols ground passed = let dir = groundDirections rows cols ground in Accepted (groundValids rows cols ground) (longestOf rows cols dir)
 answerOf rows cols ground (failed number place) = Refused (record { number = number; place = place })
 
--- "A refusal changes no lent grid": what the lent grids g are afterwards, for a ground and what its tests decide
+-- A refusal changes no lent grid: what the lent grids g are afterwards, for a ground and what its tests decide
 abbrev pub After : ℕ → ℕ → List ℤ → Grids → Grids → Test → Type 0
 After rows cols ground g h passed = Mapped rows cols ground (groundDirections rows cols ground) h
 After rows cols ground g h (failed number place) = h ≡ g

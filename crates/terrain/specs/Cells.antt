@@ -12,7 +12,7 @@ use Rattle.text.specs.Quantities.{datum, noDataHeight}
 
 -- ---- heights
 
--- "-999,900 means NoData"
+-- -999,900 means NoData
 abbrev pub noData : ℤ
 noData = noDataHeight
 
@@ -21,7 +21,7 @@ abbrev pub Fine : ℤ → Type 0
 Fine (pos n) = n ≤ 900000
 Fine (negsuc n) = n < datum
 
--- ---- neighbours: "the eight around"
+-- ---- neighbours: the eight around
 
 -- The bearings 0 to 7 in the order of the codes, E SE S SW W NW N NE: one more than the rows that a bearing goes down, and than the columns that it goes right.
 abbrev pub rowSteps : List ℕ
@@ -45,7 +45,7 @@ neighbour rows cols x k = cellAt rows cols (x / cols + getD rowSteps k 0) (x % c
 pub record Shifts (cols : ℕ) (shifts : List ℕ) : Type 0 where
   pub steps : (k : ℕ) → k < 8 → getD shifts k 0 ≡ getD rowSteps k 0 * cols + getD colSteps k 0
 
--- ---- codes: "E 1, SE 2, S 4, SW 8, W 16, NW 32, N 64, NE 128; 0 leaves the map; 255 NoData"
+-- ---- codes: E 1, SE 2, S 4, SW 8, W 16, NW 32, N 64, NE 128; 0 leaves the map; 255 NoData
 
 -- the code of a bearing; 0 for 8, which is no bearing
 abbrev pub codeOf : ℕ → ℕ
@@ -60,12 +60,12 @@ bearingOf code = firstOf (λ k. eqb code (codeOf k)) 8
 abbrev pub cardinal : ℕ → Bool
 cardinal k = eqb (k % 2) 0
 
--- ---- "A cell is valid if its ground height is not NoData."
+-- ---- A cell is valid if its ground height is not NoData.
 
 abbrev pub Valid : List ℤ → ℕ → Type 0
 Valid ground x = getD ground x noData ≡ noData → ⊥
 
--- "A rim cell is a valid cell on the grid's edge or beside a NoData cell": at some bearing it has no cell, or NoData.
+-- A rim cell is a valid cell on the grid's edge or beside a NoData cell: at some bearing it has no cell, or NoData.
 pub record Rim (rows cols : ℕ) (ground : List ℤ) (x : ℕ) : Type 0 where
   pub valid : Valid ground x
   pub bearing : ℕ

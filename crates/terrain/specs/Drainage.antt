@@ -32,7 +32,7 @@ pub record Trails (rows cols : ℕ) (ground filled : List ℤ) (direction : List
   -- and ends at a rim cell with direction 0
   pub leaves : {x : ℕ} (t : Trail rows cols direction x) → Valid ground x → Rim rows cols ground (lastOf rows cols direction t) × (getD direction (lastOf rows cols direction t) 255 ≡ 0)
 
--- "The flow counts of the cells where trails leave add up to the number of valid cells, and the answer gives that number"
+-- The flow counts of the cells where trails leave add up to the number of valid cells, and the answer gives that number
 pub record Totals (rows cols : ℕ) (ground : List ℤ) (direction count : List ℕ) (given : ℕ) : Type 0 where
   pub valids : given ≡ validsOf rows cols (levelsOf ground)
   pub outflow : outflowOf rows cols direction count ≡ given

@@ -1,4 +1,4 @@
--- RULES 4.2: "Filled height: over all runs of valid neighbours from the cell to a rim cell, the least possible greatest ground height on the run."
+-- RULES 4.2: Filled height: over all runs of valid neighbours from the cell to a rim cell, the least possible greatest ground height on the run.
 -- Here as a computation, lowered until still; `Drainage` states that it is that least height. Assumes nothing.
 use mathlib.Core.List.{List, map}
 use Prim.Native.Nat.{ℕ, zero, suc, _*_, _≤_, min, max}
@@ -32,7 +32,7 @@ unfoldable pub filledLevels : ℕ → ℕ → List ℤ → List ℕ
 unfolding settledOf lowestOf levelsOf
 filledLevels rows cols ground = settledOf (filling rows cols (levelsOf ground))
 
--- the filled heights; "a NoData cell has filled height -999,900"
+-- the filled heights; a NoData cell has filled height -999,900
 unfoldable pub filledOf : ℕ → ℕ → List ℤ → List ℤ
 unfolding filledLevels heightOf
 filledOf rows cols ground = map heightOf (filledLevels rows cols ground)

@@ -1,5 +1,5 @@
--- RULES 4.4: lower neighbours, and the steps of cells that have none: "Any other cell with no lower neighbour counts the fewest steps, over valid cells of its own
--- filled height, to a cell with a lower neighbour or to a rim cell." Over filled levels. Assumes nothing.
+-- RULES 4.4: lower neighbours, and the steps of cells that have none: Any other cell with no lower neighbour counts the fewest steps, over valid cells of its own
+-- filled height, to a cell with a lower neighbour or to a rim cell. Over filled levels. Assumes nothing.
 use mathlib.Core.Path.{_≡_}
 use mathlib.Core.List.{List}
 use mathlib.Core.Bool.{Bool, false, not, cond, _&&_, _||_}
@@ -15,7 +15,7 @@ abbrev pub farSteps : ℕ
 farSteps = 2000000
 
 module _ (rows cols : ℕ) (lv : List ℕ) where
-  -- "A lower neighbour is a valid one of lower filled height": at the bearing k of x there is one
+  -- A lower neighbour is a valid one of lower filled height: at the bearing k of x there is one
   abbrev pub lowerAt : ℕ → ℕ → Bool
   lowerAt x k = ltb 0 (getD lv (neighbour rows cols x k) 0) && ltb (getD lv (neighbour rows cols x k) 0) (getD lv x 0)
 

@@ -12,13 +12,13 @@ use Rattle.laws.specs.Lists.{tab}
 use Rattle.laws.specs.Sums.{sumTo, greatestTo, when}
 use Rattle.terrain.specs.Cells.{neighbour, codeOf, bearingOf, Valid, validAt}
 
--- "the number of valid cells", of a grid of levels
+-- the number of valid cells, of a grid of levels
 unfoldable pub validsOf : ℕ → ℕ → List ℕ → ℕ
 unfolding sumTo when
 validsOf rows cols lv = sumTo (rows * cols) (λ x. when (validAt lv x) 1)
 
 module _ (rows cols : ℕ) (dir : List ℕ) where
-  -- ---- "A trail begins at a valid cell. From a cell whose direction is not 0 it goes on to the neighbour that the direction points at; at a cell with direction 0 it ends."
+  -- ---- A trail begins at a valid cell. From a cell whose direction is not 0 it goes on to the neighbour that the direction points at; at a cell with direction 0 it ends.
 
   pub data Trail : ℕ → Type 0 where
     ends : (x : ℕ) → getD dir x 255 ≡ 0 → Trail x
@@ -49,7 +49,7 @@ module _ (rows cols : ℕ) (dir : List ℕ) where
   lastOf (ends x e) = x
   lastOf (goes x k h e t) = lastOf t
 
-  -- the steps between its cells; "leaving the map is no step"
+  -- the steps between its cells; leaving the map is no step
   abbrev pub steps : {x : ℕ} → Trail x → ℕ
   steps (ends x e) = 0
   steps (goes x k h e t) = suc (steps t)
@@ -86,17 +86,17 @@ module _ (rows cols : ℕ) (dir : List ℕ) where
   passesIn zero x z = cond (eqb x z) 1 0
   passesIn (suc m) x z = cond (eqb x z) 1 (cond (flowsAt x) (passesIn m (nextAt x) z) 0)
 
-  -- "Flow count: the number of valid cells whose trail passes the cell, itself included."
+  -- Flow count: the number of valid cells whose trail passes the cell, itself included.
   unfoldable pub countAt : ℕ → ℕ
   unfolding sumTo when mappedAt passesIn
   countAt z = sumTo (rows * cols) (λ x. when (mappedAt x) (passesIn (rows * cols) x z))
 
-  -- "A NoData cell has count 0."
+  -- A NoData cell has count 0.
   unfoldable pub countsOf : List ℕ
   unfolding tab when mappedAt countAt
   countsOf = tab (rows * cols) (λ z. when (mappedAt z) (countAt z))
 
-  -- "the longest trail, in steps between cells; an empty map has 0"
+  -- the longest trail, in steps between cells; an empty map has 0
   unfoldable pub longestOf : ℕ
   unfolding greatestTo when mappedAt stepsIn
   longestOf = greatestTo (rows * cols) (λ x. when (mappedAt x) (stepsIn (rows * cols) x))

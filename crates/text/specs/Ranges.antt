@@ -10,15 +10,15 @@ use Rattle.laws.specs.Tests.{Test, test}
 use Rattle.text.specs.Quantities.{extentIn, sideIn, heightIn, noDataHeight}
 use Rattle.text.specs.Heights.{same}
 
--- "rows, columns: each 1 to 1,024"
+-- rows, columns: each 1 to 1,024
 unfoldable pub sizeAccepted : ℕ → Bool
 sizeAccepted n = extentIn n
 
--- "cell side c: whole cm, 1 to 100,000"
+-- cell side c: whole cm, 1 to 100,000
 unfoldable pub sideAccepted : ℕ → Bool
 sideAccepted c = sideIn (pos c)
 
--- what is no cause of refusal 5, "height out of range and not NoData"
+-- what is no cause of refusal 5, height out of range and not NoData
 unfoldable pub heightAccepted : ℤ → Bool
 heightAccepted z = same z noDataHeight || heightIn z
 
@@ -34,22 +34,22 @@ allLong n (length ∷ lengths) = eqb length n && allLong n lengths
 
 -- ---- the tests of a call, but for its settings: the promises of the layers above cite them
 
--- "1: rows or columns 0 or above 1,024"
+-- 1: rows or columns 0 or above 1,024
 unfoldable pub sizeTest : ℕ → ℕ → Test
 unfolding sizeAccepted
 sizeTest rows cols = test (sizeAccepted rows && sizeAccepted cols) 1 0
 
--- "2: a lent grid or the workspace is not exactly rows times columns long"
+-- 2: a lent grid or the workspace is not exactly rows times columns long
 unfoldable pub lengthTest : ℕ → List ℕ → Test
 unfolding allLong
 lengthTest n lengths = test (allLong n lengths) 2 0
 
--- "3: cell side out of range"
+-- 3: cell side out of range
 unfoldable pub sideTest : ℕ → Test
 unfolding sideAccepted
 sideTest side = test (sideAccepted side) 3 0
 
--- "5: height out of range and not NoData; place: cell index", "at the first bad cell in row order"
+-- 5: height out of range and not NoData; place: cell index, at the first bad cell in row order
 unfoldable pub heightTest : ℕ → List ℤ → Test
 unfolding firstBad
 heightTest n ground = test (not (ltb (firstBad n ground) n)) 5 (firstBad n ground)
