@@ -41,7 +41,7 @@ files() {
     printf '%s\n5 5 5\n5 2 4\n5 5 5\nend\n' "$head" >more.asc
     stops 1 'refused 10 at 70' '(line 5, column 1, at `end`): nothing may follow' more.asc
     : >empty.asc
-    stops 1 'refused 9 at 0' 'the file is empty' empty.asc
+    stops 1 'refused 9 at 0' 'the text is empty' empty.asc
     head -c 200000000 /dev/zero | tr '\0' 7 >digits.asc
     stops 1 'refused 6 at 0' 'at `777777777777777777777777..`): expected the header' digits.asc
     rm digits.asc
@@ -96,7 +96,10 @@ output() {
     [ ! -s out ] && [ ! -s err ] || fail "--output prints"
     chmod 640 sheet.txt
     ln -s sheet.txt link.txt
+    ln sheet.txt old.txt
     "$lsmap" pit.asc --output link.txt
+    cmp old.txt "$root/host/pit.txt" || fail "an old sheet is written over and not replaced"
+    ! ls -A | grep '^\.lsmap' || fail "a sheet's part is left"
     [ -L link.txt ] && [ "$(stat -c %a sheet.txt)" = 640 ] && ! cmp -s sheet.txt "$root/host/pit.txt" || fail "--output over a link"
     cp sheet.txt before.txt
     stops 1 'refused 7 at 52' 'comma.asc: refused 7' comma.asc --output sheet.txt
@@ -145,6 +148,8 @@ pipes() {
     [ "$got" -eq 2 ] && grep -qx 'lsmap: cannot write sheet.txt: File too large' err || fail "a file that may not grow"
     [ "$(ls -A)" = "$before" ] && cmp sheet.txt before.txt || fail "half a sheet"
     command -v script >out || { echo "host/check: no script(1), the summary is skipped"; return; }
-    script -qec "'$lsmap' --channel none pit.asc --output sheet.txt" /dev/null | tr -d '\r' >out
+    script -qec "'$lsmap' --channel none - <pit.asc >sheet.txt" /dev/null | tr -d '\r' >out
     grep -qxE 'lsmap: 9 cells, 9 valid, longest trail 2, greatest LS 0\.54379, [0-9]+\.[0-9]{2} s' out || fail "the summary: $(cat out)"
+    script -qec "'$lsmap' pit.asc 2>err" /dev/null >out
+    [ ! -s err ] || fail "a summary for no terminal"
 }

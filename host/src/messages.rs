@@ -71,7 +71,7 @@ fn hint(text: &[u8], refusal: Refusal, header: Option<Header>) -> String {
     let word = word_at(text, refusal.place);
     match (refusal.number, header) {
         (6, _) if refusal.place == 0 && is_marked(text) => {
-            "; the file begins with a byte order mark: save it as plain text without one".to_string()
+            "; the text begins with a byte order mark: save it as plain text without one".to_string()
         }
         (7, _) if word.contains(&b',') => "; decimals take a point and no comma".to_string(),
         (7, _) if has_too_many_decimals(word) => {
@@ -79,7 +79,7 @@ fn hint(text: &[u8], refusal: Refusal, header: Option<Header>) -> String {
                 .to_string()
         }
         (9 | 10, Some(h)) => format!("; the header asks for {} rows of {} heights", h.rows, h.columns),
-        (9, None) if text.is_empty() => "; the file is empty".to_string(),
+        (9, None) if text.is_empty() => "; the text is empty".to_string(),
         _ => String::new(),
     }
 }
@@ -170,7 +170,7 @@ mod tests {
         for text in [&b"\xef\xbb\xbfncols"[..], b"\xff\xfen\0", b"\xfe\xff\0n"] {
             assert!(message(text, 6, 0).contains("begins with a byte order mark"));
         }
-        assert!(message(b"", 9, 0).ends_with("; the file is empty"));
+        assert!(message(b"", 9, 0).ends_with("; the text is empty"));
     }
 
     #[test]
