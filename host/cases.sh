@@ -2,12 +2,15 @@
 
 head='ncols 3 nrows 3 xllcorner 0 yllcorner 0 cellsize 10'
 
-# Sheets that are known: document 01's pit; and of the real grids the sums that the second program's sheets have, with
-# its limits of a printer (2,048 cells, 32,768 bytes) lifted for volcano.
+# Sheets that are known: the pit of docs/RULES.md 8; and of the real grids the sums that the second program's sheets have,
+# with its limits of a printer (2,048 cells, 32,768 bytes) lifted for volcano.
 sheets() {
     printf '%s\n5 5 5\n5 2 4\n5 5 5\n' "$head" >pit.asc
     "$lsmap" pit.asc --channel none --grids grids >out
     cmp out "$root/host/pit.txt" || fail "the pit's sheet"
+    "$lsmap" - --channel none <pit.asc | cmp - "$root/host/pit.txt" || fail "the pit from standard input"
+    cp pit.asc ./--low
+    "$lsmap" --channel none -- --low | cmp - "$root/host/pit.txt" || fail "a field behind --"
     [ "$(cat grids/length.txt)" = 'length rows 3 columns 3 type u64 side 1000' ] || fail "the description of a grid"
     [ "$(od -An -td4 -v grids/filled.bin | tr -s ' \n' ' ')" = ' 500 500 500 500 400 400 500 500 500 ' ] || fail "the filled heights on disk"
     [ "$(od -An -tu4 -v grids/ls.bin | tr -s ' \n' ' ')" = ' 33088 54379 54379 54379 0 4810 33088 54379 54379 ' ] || fail "LS on disk"
@@ -27,6 +30,9 @@ files() {
     printf '%s\n12,5 5 5\n5 2 4\n5 5 5\n' "$head" >comma.asc
     stops 1 'refused 7 at 52' 'comma.asc: refused 7 at 52 (line 2, column 1, at `12,5`): expected a number' comma.asc
     stops 1 'refused 7 at 52' 'decimals take a point and no comma' comma.asc
+    stops 1 'refused 7 at 52' 'standard input: refused 7 at 52 (line 2, column 1, at `12,5`)' - <comma.asc
+    printf 'ncols 1\nnrows 1\nxllcorner 478000.000000000000\n' >gdal.asc
+    stops 1 'refused 7 at 26' 'at most six digits may stand behind the point: docs/FROM-GIS.md' gdal.asc
     printf '%s\n5 5 5\n5 2 4\n' "$head" >short.asc
     stops 1 'refused 9 at 64' '(line 4, column 1, at the end of the text): the text ends too early' short.asc
     stops 1 'refused 9 at 64' 'the header asks for 3 rows of 3 heights' short.asc
@@ -35,13 +41,14 @@ files() {
     printf '%s\n5 5 5\n5 2 4\n5 5 5\nend\n' "$head" >more.asc
     stops 1 'refused 10 at 70' '(line 5, column 1, at `end`): nothing may follow' more.asc
     : >empty.asc
-    stops 1 'refused 9 at 0' 'the file is empty' empty.asc
+    stops 1 'refused 9 at 0' 'the text is empty' empty.asc
     head -c 200000000 /dev/zero | tr '\0' 7 >digits.asc
     stops 1 'refused 6 at 0' 'at `777777777777777777777777..`): expected the header' digits.asc
     rm digits.asc
     mkdir folder.asc
     stops 2 '' 'cannot read folder.asc: Is a directory' folder.asc
     stops 2 '' 'cannot read missing.asc: No such file or directory' missing.asc
+    stops 2 '' 'cannot read standard input: Is a directory' - <folder.asc
 }
 
 # lengths HEIGHTS WORDS...: the slope lengths of a strip of heights.
@@ -51,7 +58,7 @@ lengths() {
     "$lsmap" strip.asc "$@" | awk 'NR > 1 { printf " %s", $7 }'
 }
 
-# Document 01's strips, by which each flag shows that it reaches the library as the setting that it names.
+# The strips of docs/RULES.md 8, by which each flag shows that it reaches the library as the setting that it names.
 settings() {
     [ "$(lengths '9 8 7 5' --channel none)" = ' 5000 15000 25000 0' ] || fail "cutoffs 0.5"
     [ "$(lengths '9 8 7 5' --channel none --low 1.0 --high 1.0)" = ' 5000 15000 25000 35000' ] || fail "cutoffs 1.0"
@@ -71,14 +78,38 @@ flags() {
     stops 2 '' '--channel cells:N: "1.5" is not a number' pit.asc --channel cells:1.5
     stops 2 '' '--channel: "some" is none of none, cells:N, percent:P' pit.asc --channel some
     stops 2 '' '--deep: no such flag' pit.asc --deep
+    stops 2 '' '-x: no such flag' -x
+    stops 2 '' '--deep: no such flag; --low wants a value; -x: no such flag' --deep 3 pit.asc --low --high 0.5 -x
     stops 2 '' 'one field at a time' pit.asc pit.asc
     stops 2 '' 'no FIELD.asc is named'
     "$lsmap" pit.asc --verbose 2>&1 >out | grep -qx 'lsmap: low 0.5, high 0.5, channel percent:1' || fail "the defaults"
     "$lsmap" pit.asc --channel percent:1.0 --low 0.5 --high 0.5 | cmp - out || fail "the defaults as flags"
     "$lsmap" --help | grep -q 'Exit status' || fail "--help"
-    got=0
-    "$lsmap" pit.asc --grids pit.asc >out 2>err || got=$?
-    [ "$got" -eq 2 ] && [ ! -s out ] && grep -q 'cannot make pit.asc' err || fail "grids into a file"
+    "$lsmap" --version | grep -qx 'lsmap [^ ].*' || fail "--version"
+    stops 2 '' 'cannot make pit.asc' pit.asc --grids pit.asc
+}
+
+# The sheet as a file: whole or not at all.
+output() {
+    "$lsmap" pit.asc --channel none --output sheet.txt >out 2>err
+    cmp sheet.txt "$root/host/pit.txt" || fail "the sheet as a file"
+    [ ! -s out ] && [ ! -s err ] || fail "--output prints"
+    chmod 640 sheet.txt
+    ln -s sheet.txt link.txt
+    ln sheet.txt old.txt
+    "$lsmap" pit.asc --output link.txt
+    cmp old.txt "$root/host/pit.txt" || fail "an old sheet is written over and not replaced"
+    ! ls -A | grep '^\.lsmap' || fail "a sheet's part is left"
+    [ -L link.txt ] && [ "$(stat -c %a sheet.txt)" = 640 ] && ! cmp -s sheet.txt "$root/host/pit.txt" || fail "--output over a link"
+    cp sheet.txt before.txt
+    stops 1 'refused 7 at 52' 'comma.asc: refused 7' comma.asc --output sheet.txt
+    stops 2 '' 'cannot make pit.asc' pit.asc --grids pit.asc --output sheet.txt
+    cmp sheet.txt before.txt || fail "a run that failed changed a sheet"
+    stops 2 '' 'cannot write gone/sheet.txt: No such file or directory' pit.asc --output gone/sheet.txt
+    stops 2 '' 'cannot write folder.asc: Is a directory' pit.asc --output folder.asc
+    stops 2 '' '--output: ./pit.asc is the field itself' pit.asc --output ./pit.asc
+    "$lsmap" pit.asc --output - | cmp - sheet.txt || fail "--output -"
+    "$lsmap" pit.asc --output /dev/stdout | cmp - sheet.txt || fail "--output to a device"
 }
 
 # A rough field of full size, on 64 KiB of stack; the library asks the system for no memory.
@@ -91,4 +122,34 @@ full_size() {
     [ "$(wc -c <grids/length.bin)" -eq 8388608 ] || fail "the grids of full size"
     wanted=$(nm -u "$root/target/staticlib/libfullsize.a" | grep ' U ' | grep -v ' mem[a-z]*$' || true)
     [ -z "$wanted" ] || fail "the library calls $wanted"
+}
+
+# ends STATUS WORDS...: lsmap says nothing and ends with the status where its reader has left before it writes.
+ends() {
+    status=$1
+    shift
+    { sleep 0.2; got=0; "$lsmap" "$@" 2>err || got=$?; echo "$got" >got; } | :
+    [ "$(cat got)" -eq "$status" ] || fail "a broken pipe: $*: status $(cat got)"
+}
+
+# Standard output that takes no more, and a terminal as standard error.
+pipes() {
+    for words in --help --version 'pit.asc' 'full.asc' 'full.asc --output /dev/stdout'; do
+        ends 0 $words
+        [ ! -s err ] || fail "a broken pipe: $words: said $(cat err)"
+    done
+    ends 1 comma.asc
+    got=0
+    "$lsmap" full.asc >/dev/full 2>err || got=$?
+    [ "$got" -eq 2 ] && grep -qx 'lsmap: cannot write standard output: No space left on device' err || fail "a full disk"
+    before=$(ls -A)
+    got=0
+    (trap '' XFSZ; ulimit -f 64; "$lsmap" full.asc --output sheet.txt 2>err) || got=$?
+    [ "$got" -eq 2 ] && grep -qx 'lsmap: cannot write sheet.txt: File too large' err || fail "a file that may not grow"
+    [ "$(ls -A)" = "$before" ] && cmp sheet.txt before.txt || fail "half a sheet"
+    command -v script >out || { echo "host/check: no script(1), the summary is skipped"; return; }
+    script -qec "'$lsmap' --channel none - <pit.asc >sheet.txt" /dev/null | tr -d '\r' >out
+    grep -qxE 'lsmap: 9 cells, 9 valid, longest trail 2, greatest LS 0\.54379, [0-9]+\.[0-9]{2} s' out || fail "the summary: $(cat out)"
+    script -qec "'$lsmap' pit.asc 2>err" /dev/null >out
+    [ ! -s err ] || fail "a summary for no terminal"
 }

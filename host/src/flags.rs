@@ -1,20 +1,39 @@
 //! The command line: flags become numbers and are handed on; the library judges them.
 
-use crate::library::{self, Settings};
+use crate::library::Settings;
 use std::ffi::OsString;
+use std::iter::Peekable;
 use std::path::PathBuf;
 
-/// What a command line asks for.
-pub struct Job {
-    pub field: PathBuf,
-    pub grids: Option<PathBuf>,
+/// Where the field's text comes from.
+pub enum Field {
+    StandardInput,
+    File(PathBuf),
+}
+
+impl Field {
+    /// The field's name in a message.
+    pub fn name(&self) -> String {
+        match self {
+            Field::StandardInput => "standard input".to_string(),
+            Field::File(path) => path.display().to_string(),
+        }
+    }
+}
+
+/// What the flags ask for. Without an output the sheet goes to standard output.
+pub struct Flags {
     pub settings: Settings,
+    pub output: Option<PathBuf>,
+    pub grids: Option<PathBuf>,
     pub verbose: bool,
 }
 
+/// What a command line asks for.
 pub enum Asked {
     Help,
-    Job(Job),
+    Version,
+    Map(Field, Flags),
 }
 
 /// A flag's text as a number.
@@ -47,32 +66,160 @@ pub fn channel_text(settings: &Settings) -> String {
     }
 }
 
-fn value(flag: &str, rest: &mut impl Iterator<Item = OsString>) -> Result<OsString, String> {
-    rest.next().ok_or_else(|| format!("{flag} wants a value"))
+/// The word after a flag, unless it is a long flag itself. A minus alone may begin a number.
+fn value(flag: &str, words: &mut Peekable<impl Iterator<Item = OsString>>) -> Result<OsString, String> {
+    words.next_if(|word| !word.as_encoded_bytes().starts_with(b"--")).ok_or_else(|| format!("{flag} wants a value"))
 }
 
-fn text(flag: &str, rest: &mut impl Iterator<Item = OsString>) -> Result<String, String> {
-    let v = value(flag, rest)?;
+fn text(flag: &str, words: &mut Peekable<impl Iterator<Item = OsString>>) -> Result<String, String> {
+    let v = value(flag, words)?;
     v.into_string().map_err(|v| format!("{flag}: {v:?} is not text"))
 }
 
-/// Reads the words after the program's name.
-pub fn read(mut words: impl Iterator<Item = OsString>) -> Result<Asked, String> {
-    let mut settings = library::default_settings();
-    let (mut field, mut grids, mut verbose) = (None, None, false);
+impl Flags {
+    /// Takes a flag, and its value from the words after it.
+    fn take(&mut self, flag: &str, words: &mut Peekable<impl Iterator<Item = OsString>>) -> Result<(), String> {
+        match flag {
+            "--low" => self.settings.low = number(flag, &text(flag, words)?)?,
+            "--high" => self.settings.high = number(flag, &text(flag, words)?)?,
+            "--channel" => set_channel(&mut self.settings, &text(flag, words)?)?,
+            "--output" => self.output = Some(value(flag, words)?).filter(|v| v != "-").map(PathBuf::from),
+            "--grids" => self.grids = Some(value(flag, words)?.into()),
+            "--verbose" => self.verbose = true,
+            _ => return Err(format!("{}: no such flag", flag.escape_debug())),
+        }
+        Ok(())
+    }
+}
+
+/// The one field that the words name.
+fn only(fields: Vec<OsString>) -> Result<Field, String> {
+    match <[OsString; 1]>::try_from(fields) {
+        Ok([field]) if field == "-" => Ok(Field::StandardInput),
+        Ok([field]) => Ok(Field::File(field.into())),
+        Err(fields) if fields.is_empty() => Err("no FIELD.asc is named".to_string()),
+        Err(fields) => Err(format!("{:?}: one field at a time", fields[1])),
+    }
+}
+
+/// Reads the words after the program's name; a setting that no flag gives stays as it is. All wrong flags are told, and
+/// only without them the fields, for a word behind a wrong flag may have been meant as its value.
+pub fn read(words: impl Iterator<Item = OsString>, settings: Settings) -> Result<Asked, String> {
+    let mut words = words.peekable();
+    let mut flags = Flags { settings, output: None, grids: None, verbose: false };
+    let (mut fields, mut wrong) = (Vec::new(), Vec::new());
     while let Some(word) = words.next() {
-        match word.to_str() {
-            Some("--help" | "-h") => return Ok(Asked::Help),
-            Some("--verbose") => verbose = true,
-            Some("--grids") => grids = Some(PathBuf::from(value("--grids", &mut words)?)),
-            Some("--low") => settings.low = number("--low", &text("--low", &mut words)?)?,
-            Some("--high") => settings.high = number("--high", &text("--high", &mut words)?)?,
-            Some("--channel") => set_channel(&mut settings, &text("--channel", &mut words)?)?,
-            Some(flag) if flag.starts_with("--") => return Err(format!("{flag}: no such flag")),
-            _ if field.is_some() => return Err(format!("{word:?}: one field at a time")),
-            _ => field = Some(PathBuf::from(word)),
+        match &*word.to_string_lossy() {
+            "--help" | "-h" => return Ok(Asked::Help),
+            "--version" => return Ok(Asked::Version),
+            "--" => fields.extend(words.by_ref()),
+            flag if flag.starts_with('-') && flag != "-" => wrong.extend(flags.take(flag, &mut words).err()),
+            _ => fields.push(word),
         }
     }
-    let field = field.ok_or("no FIELD.asc is named")?;
-    Ok(Asked::Job(Job { field, grids, settings, verbose }))
+    if !wrong.is_empty() {
+        return Err(wrong.join("; "));
+    }
+    Ok(Asked::Map(only(fields)?, flags))
+}
+
+#[cfg(test)]
+mod tests {
+    use super::*;
+
+    const DEFAULTS: Settings = Settings { low: 0.5, high: 0.5, kind: 2, cells: 0, percentage: 1.0 };
+
+    fn asked(line: &str) -> Result<Asked, String> {
+        read(line.split_whitespace().map(OsString::from), DEFAULTS)
+    }
+
+    /// The field's name and the flags of a line that asks for a map.
+    fn wanted(line: &str) -> (String, Flags) {
+        match asked(line) {
+            Ok(Asked::Map(field, flags)) => (field.name(), flags),
+            Ok(_) => panic!("{line}: asks for no map"),
+            Err(why) => panic!("{line}: {why}"),
+        }
+    }
+
+    /// What is wrong with a line.
+    fn wrong(line: &str) -> String {
+        asked(line).err().unwrap_or_else(|| panic!("{line}: is accepted"))
+    }
+
+    #[test]
+    fn a_field_alone_has_the_defaults() {
+        let (name, flags) = wanted("a.asc");
+        assert_eq!(name, "a.asc");
+        assert_eq!((flags.settings.low, flags.settings.high), (0.5, 0.5));
+        assert_eq!(channel_text(&flags.settings), "percent:1");
+        assert_eq!((flags.output, flags.grids, flags.verbose), (None, None, false));
+    }
+
+    #[test]
+    fn each_flag_sets_its_own() {
+        let (_, flags) = wanted("--low 0.29 --output out --verbose a.asc --high -0 --grids g");
+        assert_eq!((flags.settings.low, flags.settings.high.to_bits()), (0.29, (-0.0f64).to_bits()));
+        assert_eq!((flags.output, flags.grids, flags.verbose), (Some("out".into()), Some("g".into()), true));
+        assert_eq!(wanted("a.asc --low 0.1 --low 0.2").1.settings.low, 0.2);
+    }
+
+    #[test]
+    fn channel_rules_are_named_as_they_are_given() {
+        for rule in ["none", "cells:0", "cells:4294967295", "percent:0.1", "percent:NaN"] {
+            assert_eq!(channel_text(&wanted(&format!("a.asc --channel {rule}")).1.settings), rule);
+        }
+        assert!(
+            wrong("a.asc --channel cells:4294967296").starts_with("--channel cells:N: \"4294967296\" is not a number")
+        );
+        assert!(wrong("a.asc --channel percent:").starts_with("--channel percent:P: \"\" is not a number"));
+        assert_eq!(wrong("a.asc --channel Cells:2"), "--channel: \"Cells:2\" is none of none, cells:N, percent:P");
+    }
+
+    #[test]
+    fn a_lone_minus_is_standard_input_or_output() {
+        let (name, flags) = wanted("- --output -");
+        assert_eq!((name.as_str(), flags.output), ("standard input", None));
+        assert_eq!(wanted("-- -").0, "standard input");
+    }
+
+    #[test]
+    fn two_minuses_end_the_flags() {
+        assert_eq!(wanted("--verbose -- --low").0, "--low");
+        assert_eq!(wanted("-- --").0, "--");
+        assert_eq!(wrong("a.asc -- --help"), "\"--help\": one field at a time");
+    }
+
+    #[test]
+    fn help_and_version_come_before_faults() {
+        for line in ["--help", "-h", "--deep --help", "a.asc b.asc -h"] {
+            assert!(matches!(asked(line), Ok(Asked::Help)), "{line}");
+        }
+        assert!(matches!(asked("-x --version"), Ok(Asked::Version)));
+    }
+
+    #[test]
+    fn every_wrong_flag_is_told_by_name() {
+        assert_eq!(wrong("-x a.asc"), "-x: no such flag");
+        assert_eq!(wrong("--low=0.5 a.asc"), "--low=0.5: no such flag");
+        assert_eq!(wrong("--deep 3 a.asc -x"), "--deep: no such flag; -x: no such flag");
+        assert_eq!(wrong("a.asc --low --grids"), "--low wants a value; --grids wants a value");
+        assert_eq!(wrong("--output -- a.asc"), "--output wants a value");
+        assert!(wrong("a.asc --low half --deep").ends_with("handed on; --deep: no such flag"));
+    }
+
+    #[test]
+    fn a_flag_that_is_no_text_is_no_file_name() {
+        use std::os::unix::ffi::OsStringExt;
+        let read = |bytes: &[u8]| read([OsString::from_vec(bytes.to_vec())].into_iter(), DEFAULTS);
+        assert_eq!(read(b"-\xff").err().as_deref(), Some("-\u{fffd}: no such flag"));
+        assert!(matches!(read(b"\xff.asc"), Ok(Asked::Map(Field::File(_), _))));
+    }
+
+    #[test]
+    fn one_field_is_named() {
+        assert_eq!(wrong(""), "no FIELD.asc is named");
+        assert_eq!(wrong("--"), "no FIELD.asc is named");
+        assert_eq!(wrong("a.asc - b.asc"), "\"-\": one field at a time");
+    }
 }

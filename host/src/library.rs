@@ -1,5 +1,5 @@
 //! The calls of crates/fullsize, with each `&[T]` as a pointer and a length. The declarations here have to
-//! agree with crates/fullsize/src/lib.rt; nothing checks that but host/check.
+//! agree with crates/fullsize/src/lib.rt.
 
 unsafe extern "C" {
     fn lsmap_read_header(
@@ -116,40 +116,31 @@ fn answer<T>(number: u32, place: usize, value: T) -> Result<T, Refusal> {
     if number == 0 { Ok(value) } else { Err(Refusal { number, place }) }
 }
 
-/// Reads the header alone.
-pub fn read_header(text: &[u8]) -> Result<Header, Refusal> {
-    let (mut place, mut h) = (0, Header::default());
+/// Reads the header alone or, where heights are lent, the whole text into them, in cm.
+fn read(text: &[u8], heights: Option<&mut [i32]>) -> Result<Header, Refusal> {
+    let (mut place, mut header) = (0, Header::default());
+    let Header { rows, columns, side, no_data } = &mut header;
+    let (start, length) = (text.as_ptr(), text.len());
+    #[rustfmt::skip]
     let number = unsafe {
-        lsmap_read_header(
-            text.as_ptr(),
-            text.len(),
-            &mut place,
-            &mut h.rows,
-            &mut h.columns,
-            &mut h.side,
-            &mut h.no_data,
-        )
+        match heights {
+            None => lsmap_read_header(start, length, &mut place, rows, columns, side, no_data),
+            Some(lent) => lsmap_read_grid(
+                start, length, lent.as_mut_ptr(), lent.len(), &mut place, rows, columns, side, no_data,
+            ),
+        }
     };
-    answer(number, place, h)
+    answer(number, place, header)
 }
 
-/// Reads the whole text into the heights, in cm.
+/// The header call.
+pub fn read_header(text: &[u8]) -> Result<Header, Refusal> {
+    read(text, None)
+}
+
+/// The grid call.
 pub fn read_grid(text: &[u8], heights: &mut [i32]) -> Result<Header, Refusal> {
-    let (mut place, mut h) = (0, Header::default());
-    let number = unsafe {
-        lsmap_read_grid(
-            text.as_ptr(),
-            text.len(),
-            heights.as_mut_ptr(),
-            heights.len(),
-            &mut place,
-            &mut h.rows,
-            &mut h.columns,
-            &mut h.side,
-            &mut h.no_data,
-        )
-    };
-    answer(number, place, h)
+    read(text, Some(heights))
 }
 
 /// The library's default settings.

@@ -5,20 +5,37 @@ mod flags;
 mod grids;
 mod library;
 mod messages;
+mod output;
 mod sheet;
+mod summary;
 
-use flags::{Asked, Job};
-use library::{Grids, Refusal};
+use flags::{Asked, Field, Flags};
+use library::{Grids, Header, Refusal, Settings, Totals};
+use output::Output;
 use std::fs;
-use std::io::{self, Write};
+use std::io::{self, ErrorKind, IsTerminal, Read, Write};
 use std::process::ExitCode;
+use std::time::Instant;
 
 const HELP: &str = include_str!("help.txt");
 
-/// Why there is no sheet: a refusal with its message, or something that kept the program from running.
+/// The commit that host/build was run on.
+const VERSION: Option<&str> = option_env!("LSMAP_VERSION");
+
+/// An accepted field with its grids.
+pub struct Map {
+    pub header: Header,
+    pub totals: Totals,
+    pub ground: Vec<i32>,
+    pub grids: Grids,
+}
+
+/// Why there is no whole sheet: a refusal with its message, something that kept the program from running, or a reader
+/// that had enough.
 enum Stop {
     Refused(Refusal, String),
     CouldNotRun(String),
+    ReaderLeft,
 }
 
 /// What the system says of a failed call, without its number.
@@ -27,8 +44,15 @@ pub fn reason(e: &io::Error) -> String {
     text.split(" (os error").next().unwrap_or_default().to_string()
 }
 
-fn cannot_print(e: &io::Error) -> Stop {
-    Stop::CouldNotRun(format!("cannot write standard output: {}", reason(e)))
+fn cannot_write(name: &str, e: &io::Error) -> Stop {
+    match e.kind() {
+        ErrorKind::BrokenPipe => Stop::ReaderLeft,
+        _ => Stop::CouldNotRun(format!("cannot write {name}: {}", reason(e))),
+    }
+}
+
+fn print(text: &str) -> Result<(), Stop> {
+    io::stdout().write_all(text.as_bytes()).map_err(|e| cannot_write("standard output", &e))
 }
 
 /// Says something on standard error, if that can be written.
@@ -36,43 +60,79 @@ fn tell(message: &str) {
     let _ = writeln!(io::stderr(), "lsmap: {message}");
 }
 
-fn tell_settings(job: &Job) {
-    let s = &job.settings;
+fn tell_settings(s: &Settings) {
     tell(&format!("low {}, high {}, channel {}", s.low, s.high, flags::channel_text(s)));
 }
 
-/// Reads, maps and writes one field.
-fn run(job: &Job) -> Result<(), Stop> {
-    if job.verbose {
-        tell_settings(job);
+/// A field's text.
+fn read(field: &Field) -> io::Result<Vec<u8>> {
+    let mut text = Vec::new();
+    match field {
+        Field::StandardInput => io::stdin().read_to_end(&mut text).map(|_| text),
+        Field::File(path) => fs::read(path),
     }
-    let name = job.field.display();
-    let text = fs::read(&job.field).map_err(|e| Stop::CouldNotRun(format!("cannot read {name}: {}", reason(&e))))?;
-    let of_text = |r, h| Stop::Refused(r, format!("{name}: {}", messages::of_text(&text, r, h)));
-    let header = library::read_header(&text).map_err(|r| of_text(r, None))?;
+}
+
+/// Has the library read and map a text.
+fn map(name: &str, text: &[u8], settings: Settings) -> Result<Map, Stop> {
+    let of_text = |r, h| Stop::Refused(r, format!("{name}: {}", messages::of_text(text, r, h)));
+    let header = library::read_header(text).map_err(|r| of_text(r, None))?;
     let mut ground = vec![0; header.rows * header.columns];
-    let header = library::read_grid(&text, &mut ground).map_err(|r| of_text(r, Some(header)))?;
+    let header = library::read_grid(text, &mut ground).map_err(|r| of_text(r, Some(header)))?;
     let mut grids = Grids::new(ground.len());
-    let totals = library::map(header, job.settings, &ground, &mut grids)
+    let totals = library::map(header, settings, &ground, &mut grids)
         .map_err(|r| Stop::Refused(r, format!("{name}: {}", messages::of_map(r, header))))?;
-    if let Some(folder) = &job.grids {
-        grids::write(folder, header, &ground, &grids).map_err(Stop::CouldNotRun)?;
+    Ok(Map { header, totals, ground, grids })
+}
+
+/// Writes the sheet to standard output, or to a file that appears when it is whole; the grids before it.
+fn write(map: &Map, flags: &Flags) -> Result<(), Stop> {
+    let name = flags.output.as_deref().map_or("standard output".into(), |path| path.to_string_lossy());
+    let failed = |e| cannot_write(&name, &e);
+    let output = flags.output.as_deref().map(Output::begin).transpose().map_err(failed)?;
+    if let Some(folder) = &flags.grids {
+        grids::write(folder, map).map_err(Stop::CouldNotRun)?;
     }
-    sheet::write(&mut io::stdout().lock(), header, totals, &ground, &grids).map_err(|e| cannot_print(&e))
+    match output {
+        None => sheet::write(&mut io::stdout().lock(), map).map_err(failed),
+        Some(mut output) => sheet::write(&mut output.file, map).and_then(|()| output.finish()).map_err(failed),
+    }
+}
+
+/// Reads, maps and writes one field.
+fn run(field: &Field, flags: &Flags) -> Result<(), Stop> {
+    let start = Instant::now();
+    if flags.verbose {
+        tell_settings(&flags.settings);
+    }
+    if let (Field::File(path), Some(output)) = (field, &flags.output)
+        && output::same(path, output)
+    {
+        return Err(Stop::CouldNotRun(format!("--output: {} is the field itself", output.display())));
+    }
+    let name = field.name();
+    let text = read(field).map_err(|e| Stop::CouldNotRun(format!("cannot read {name}: {}", reason(&e))))?;
+    let map = map(&name, &text, flags.settings)?;
+    write(&map, flags)?;
+    if io::stderr().is_terminal() {
+        tell(&summary::line(&map, start.elapsed().as_secs_f64()));
+    }
+    Ok(())
 }
 
 /// Does what the command line asks.
 fn obey() -> Result<(), Stop> {
-    match flags::read(std::env::args_os().skip(1)) {
+    match flags::read(std::env::args_os().skip(1), library::default_settings()) {
         Err(why) => Err(Stop::CouldNotRun(format!("{why}; lsmap --help tells the flags"))),
-        Ok(Asked::Help) => io::stdout().write_all(HELP.as_bytes()).map_err(|e| cannot_print(&e)),
-        Ok(Asked::Job(job)) => run(&job),
+        Ok(Asked::Help) => print(HELP),
+        Ok(Asked::Version) => print(&format!("lsmap {}\n", VERSION.unwrap_or("of an unknown commit"))),
+        Ok(Asked::Map(field, flags)) => run(&field, &flags),
     }
 }
 
 fn main() -> ExitCode {
     match obey() {
-        Ok(()) => ExitCode::SUCCESS,
+        Ok(()) | Err(Stop::ReaderLeft) => ExitCode::SUCCESS,
         Err(Stop::Refused(refusal, message)) => {
             let _ = writeln!(io::stdout(), "refused {} at {}", refusal.number, refusal.place);
             tell(&message);

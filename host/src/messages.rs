@@ -8,7 +8,7 @@ const HEADER: &str = "expected the header's next word: ncols, nrows, xllcorner, 
 const NUMBER: &str = "expected a number: an optional minus, 1 to 9 digits, then optionally a point and 1 to 6 digits; \
     ncols and nrows have digits only";
 
-/// What refusals 1 to 10 of the text's calls expect, as document 01 has it.
+/// What refusals 1 to 10 of the text's calls expect, as docs/RULES.md 3 has them.
 fn expected(number: u32) -> &'static str {
     match number {
         1 => "the number of rows and the number of columns are each from 1 to 1024",
@@ -54,16 +54,32 @@ fn is_marked(text: &[u8]) -> bool {
     marks.iter().any(|mark| text.starts_with(mark))
 }
 
+/// Whether a word would be a number if it had fewer digits behind its point.
+fn has_too_many_decimals(word: &[u8]) -> bool {
+    let mut parts = word.strip_prefix(b"-").unwrap_or(word).split(|b| *b == b'.');
+    let are_digits = |part: &[u8]| !part.is_empty() && part.iter().all(u8::is_ascii_digit);
+    match (parts.next(), parts.next(), parts.next()) {
+        (Some(whole), Some(decimals), None) => {
+            are_digits(whole) && whole.len() <= 9 && are_digits(decimals) && decimals.len() > 6
+        }
+        _ => false,
+    }
+}
+
 /// What is likely behind a refusal, where its number and the bytes there tell.
 fn hint(text: &[u8], refusal: Refusal, header: Option<Header>) -> String {
     let word = word_at(text, refusal.place);
     match (refusal.number, header) {
         (6, _) if refusal.place == 0 && is_marked(text) => {
-            "; the file begins with a byte order mark: save it as plain text without one".to_string()
+            "; the text begins with a byte order mark: save it as plain text without one".to_string()
         }
         (7, _) if word.contains(&b',') => "; decimals take a point and no comma".to_string(),
+        (7, _) if has_too_many_decimals(word) => {
+            "; at most six digits may stand behind the point: docs/FROM-GIS.md has a command that shortens them"
+                .to_string()
+        }
         (9 | 10, Some(h)) => format!("; the header asks for {} rows of {} heights", h.rows, h.columns),
-        (9, None) if text.is_empty() => "; the file is empty".to_string(),
+        (9, None) if text.is_empty() => "; the text is empty".to_string(),
         _ => String::new(),
     }
 }
@@ -94,4 +110,84 @@ pub fn of_map(refusal: Refusal, header: Header) -> String {
         _ => expected(number).to_string(),
     };
     format!("refused {number} at {place}: {what}")
+}
+
+#[cfg(test)]
+mod tests {
+    use super::*;
+
+    const HEADER_LINE: &str = "ncols 3 nrows 1 xllcorner 0 yllcorner 0 cellsize 10\n";
+    const ONE_ROW: Header = Header { rows: 1, columns: 3, side: 1000, no_data: -999_900 };
+
+    fn message(text: &[u8], number: u32, place: usize) -> String {
+        of_text(text, Refusal { number, place }, None)
+    }
+
+    /// The message for refusal 7 at the first height.
+    fn malformed(word: &str) -> String {
+        message(format!("{HEADER_LINE}{word} 2 3\n").as_bytes(), 7, HEADER_LINE.len())
+    }
+
+    #[test]
+    fn a_place_is_told_as_line_and_column() {
+        assert!(
+            message(b"ncols 3\nnrows x\n", 7, 14)
+                .starts_with("refused 7 at 14 (line 2, column 7, at `x`): expected a number")
+        );
+        assert!(
+            message(b"", 9, 0)
+                .starts_with("refused 9 at 0 (line 1, column 1, at the end of the text): the text ends too early")
+        );
+        assert!(message(b"ncols\n", 9, 6).contains("(line 2, column 1, at the end of the text)"));
+    }
+
+    #[test]
+    fn a_word_is_shown_short_and_in_letters() {
+        assert!(message(&[b'7'; 1000], 6, 0).contains("at `777777777777777777777777..`)"));
+        assert!(message(b"a\x00\xff`\tb", 6, 0).contains("at `a\\x00\\xff``)"));
+    }
+
+    #[test]
+    fn decimals_behind_a_comma_get_a_hint() {
+        assert!(malformed("12,5").ends_with("; decimals take a point and no comma"));
+        assert!(malformed("12,0000000").ends_with("; decimals take a point and no comma"));
+    }
+
+    #[test]
+    fn too_many_decimals_get_a_hint() {
+        for word in ["10.000000000000", "-0.1234567", "123456789.0000000"] {
+            let said = malformed(word);
+            assert!(said.contains("; at most six digits may stand behind the point: docs/FROM-GIS.md"), "{said}");
+        }
+        for word in ["10.000000", "1e-7", "1.2.3456789", ".0000000", "1.000000x", "--1.0000000", "1234567890.0000000"] {
+            let said = malformed(word);
+            assert!(said.ends_with("ncols and nrows have digits only"), "{said}");
+        }
+    }
+
+    #[test]
+    fn marks_and_empty_texts_get_a_hint() {
+        for text in [&b"\xef\xbb\xbfncols"[..], b"\xff\xfen\0", b"\xfe\xff\0n"] {
+            assert!(message(text, 6, 0).contains("begins with a byte order mark"));
+        }
+        assert!(message(b"", 9, 0).ends_with("; the text is empty"));
+    }
+
+    #[test]
+    fn what_the_header_asks_for_is_told() {
+        for number in [9, 10] {
+            let said = of_text(b"", Refusal { number, place: 0 }, Some(ONE_ROW));
+            assert!(said.ends_with("; the header asks for 1 rows of 3 heights"), "{said}");
+        }
+    }
+
+    #[test]
+    fn settings_and_cells_are_named() {
+        let said = |number, place| of_map(Refusal { number, place }, ONE_ROW);
+        assert!(said(4, 1).starts_with("refused 4 at 1: --low is a cutoff"));
+        assert!(said(4, 2).starts_with("refused 4 at 2: --high is a cutoff"));
+        assert!(said(4, 3).starts_with("refused 4 at 3: --channel percent:P takes"));
+        assert!(said(5, 5).starts_with("refused 5 at 5: row 1, column 2: a height is"));
+        assert!(said(2, 0).starts_with("refused 2 at 0: a lent grid has the wrong length"));
+    }
 }

@@ -1,11 +1,11 @@
 //! The printer's sheet: a first line with rows, columns, side, valid cells and longest trail, then a line for each cell.
 
-use crate::library::{Grids, Header, Totals};
+use crate::Map;
 use std::io::{self, Write};
 
 /// A NoData cell's direction, and the LS of a slope that is too long.
 const NO_DIRECTION: u8 = 255;
-const TOO_LONG: u32 = 4_294_967_294;
+pub const TOO_LONG: u32 = 4_294_967_294;
 
 /// Bytes that are gathered before they are written.
 const FULL: usize = 1 << 16;
@@ -34,12 +34,13 @@ fn put_height(line: &mut Vec<u8>, h: i32) {
     put(line, u64::from(h.unsigned_abs()));
 }
 
-fn put_cell(line: &mut Vec<u8>, x: usize, ground: &[i32], g: &Grids) {
+fn put_cell(line: &mut Vec<u8>, x: usize, map: &Map) {
+    let g = &map.grids;
     if g.direction[x] == NO_DIRECTION {
         line.extend_from_slice(b" - - - - - -");
         return;
     }
-    put_height(line, ground[x]);
+    put_height(line, map.ground[x]);
     put_height(line, g.filled[x]);
     put_next(line, u64::from(g.direction[x]));
     put_next(line, u64::from(g.count[x]));
@@ -51,8 +52,9 @@ fn put_cell(line: &mut Vec<u8>, x: usize, ground: &[i32], g: &Grids) {
     }
 }
 
-/// Writes the sheet of an accepted map.
-pub fn write(out: &mut dyn Write, h: Header, t: Totals, ground: &[i32], g: &Grids) -> io::Result<()> {
+/// Writes the sheet of a map.
+pub fn write(out: &mut dyn Write, map: &Map) -> io::Result<()> {
+    let (h, t) = (map.header, map.totals);
     let mut line = Vec::with_capacity(2 * FULL);
     put(&mut line, h.rows as u64);
     put_next(&mut line, h.columns as u64);
@@ -60,10 +62,10 @@ pub fn write(out: &mut dyn Write, h: Header, t: Totals, ground: &[i32], g: &Grid
     put_next(&mut line, u64::from(t.valid));
     put_next(&mut line, u64::from(t.longest));
     line.push(b'\n');
-    for x in 0..ground.len() {
+    for x in 0..map.ground.len() {
         put(&mut line, (x / h.columns) as u64);
         put_next(&mut line, (x % h.columns) as u64);
-        put_cell(&mut line, x, ground, g);
+        put_cell(&mut line, x, map);
         line.push(b'\n');
         if line.len() >= FULL {
             out.write_all(&line)?;
