@@ -1,4 +1,4 @@
--- What the layers above may cite of this one, besides its promise and its definitions: no other file of proofs/ is open to them. Assumes nothing.
+-- What the layers above may cite of this one, besides its promise, its definitions and the laws for the reader (Reading): no other file of proofs/ is open to them. Assumes nothing.
 
 -- where a neighbour lies
 pub use Rattle.terrain.proofs.InnerInterior.{shift-few, beside-room, beside-is}
