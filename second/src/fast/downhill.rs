@@ -1,10 +1,10 @@
-//! Counts, longest trail and lengths, each cell after its inflows (Kahn 1962). States document 01, "Filling and
-//! directions", its paragraphs on trails and flow count, and "Length".
+//! Counts, longest trail and lengths, each cell after its inflows (Kahn 1962). States docs/RULES.md, 4 Filling and
+//! directions and 5 Length.
 
 use super::land::Land;
-use crate::direction::Flow;
-use crate::length::{amount, channel, HALF_SIDE};
-use crate::settings::Percents;
+use crate::rules::direction::Flow;
+use crate::rules::length::{amount, channel, HALF_SIDE};
+use crate::rules::settings::Percents;
 
 /// The valid cells, each after all its inflows, and the place that each points at.
 pub struct Downhill {

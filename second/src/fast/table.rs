@@ -1,6 +1,6 @@
-//! LS by tables that big whole numbers give once. States document 01, "LS".
+//! LS by tables that big whole numbers give once. States docs/RULES.md, 6 LS.
 
-use crate::factor::{exponent, millimetres, reaches, steepness_factor, LONGEST_MM, TOO_LONG};
+use crate::rules::factor::{exponent, millimetres, reaches, steepness_factor, LONGEST_MM, TOO_LONG};
 
 /// For each exponent from 2 to 5, L of every whole number of mm that is not too long.
 pub struct Table {

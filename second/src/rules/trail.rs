@@ -1,8 +1,8 @@
-//! Trails, flow counts and the longest trail, each trail walked cell by cell. States document 01, "Filling and
-//! directions", its paragraphs on trails and flow count.
+//! Trails, flow counts and the longest trail, each trail walked cell by cell. States docs/RULES.md, 4 Filling and
+//! directions.
 
-use crate::direction::NO_DIRECTION;
-use crate::grid::{side_of, Shape};
+use super::direction::NO_DIRECTION;
+use super::grid::{bearing_of, Shape};
 
 /// Flow counts and the longest trail in steps between cells.
 pub struct Trails {
@@ -12,7 +12,7 @@ pub struct Trails {
 
 /// "it goes on to the neighbour that the direction points at; at a cell with direction 0 it ends".
 pub fn onward(shape: Shape, direction: &[u8], cell: usize) -> Option<usize> {
-    side_of(direction[cell]).and_then(|side| shape.neighbour(cell, side))
+    bearing_of(direction[cell]).and_then(|bearing| shape.neighbour(cell, bearing))
 }
 
 /// "A trail begins at a valid cell": all its cells, the first one included.

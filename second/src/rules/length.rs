@@ -1,9 +1,9 @@
-//! Channels and slope lengths. States document 01, "Length".
+//! Channels and slope lengths. States docs/RULES.md, 5 Length.
 
-use crate::direction::{Flow, NO_DIRECTION};
-use crate::grid::Shape;
-use crate::settings::{Percents, Rule};
-use crate::trail::onward;
+use super::direction::{Flow, NO_DIRECTION};
+use super::grid::{bearing_of, Shape};
+use super::settings::{Percents, Rule};
+use super::trail::onward;
 
 /// "No inflow: 5,000", half a cell side; also what a flat pair brings.
 pub const HALF_SIDE: u64 = 5_000;
@@ -29,7 +29,7 @@ fn cut(q: i64, p: i64, n: i64) -> bool {
 
 /// The step of the inflow's direction: "10,000, or 14,142 if diagonal".
 fn step(direction: u8) -> u64 {
-    let diagonal = crate::grid::side_of(direction).is_some_and(|side| side.diagonal());
+    let diagonal = bearing_of(direction).is_some_and(|bearing| bearing.diagonal());
     if diagonal { 14_142 } else { 10_000 }
 }
 

@@ -1,7 +1,7 @@
-//! Fields written as texts, in all the spellings that document 01, "The text", allows.
+//! Fields written as texts, in all the spellings that docs/RULES.md, 2 The text, allows.
 
-use crate::fields::Field;
-use crate::seed::Seed;
+use super::fields::Field;
+use super::seed::Seed;
 
 /// How a text is written.
 #[derive(Clone, Copy, PartialEq, Eq)]

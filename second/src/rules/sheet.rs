@@ -1,12 +1,11 @@
-//! The printer's sheet of one text. States document 01, "Small fields", from "The printer reads standard input" on,
-//! and refusal 11.
+//! The printer's sheet of one text. States docs/RULES.md, 9 The printed sheet, and refusal 11 of 3 Numbers of refusal.
 
-use crate::factor::{NO_FACTOR, TOO_LONG};
-use crate::grid::{Shape, NODATA};
-use crate::map::{map, Map};
-use crate::refusal::{self, refuse, Refusal};
-use crate::settings::PRINTER;
-use crate::text::{read_grid, read_header, Header};
+use super::factor::{NO_FACTOR, TOO_LONG};
+use super::grid::{Shape, NODATA};
+use super::map::{map, Map};
+use super::refusal::{self, refuse, Refusal};
+use super::settings::PRINTER;
+use super::text::{read_grid, read_header, Header};
 
 /// "printer only: text above 32,768 bytes (place 32768)".
 pub const MOST_BYTES: usize = 32_768;
@@ -56,4 +55,41 @@ fn accepted(text: &[u8]) -> Result<String, Refusal> {
 /// The sheet: "A refusal prints `refused 7 at 52` and nothing else."
 pub fn sheet(text: &[u8]) -> String {
     accepted(text).unwrap_or_else(|Refusal { number, place }| format!("refused {number} at {place}\n"))
+}
+
+#[cfg(test)]
+mod tests {
+    use super::*;
+    use crate::texts::cases::{Example, PIT};
+
+    /// docs/RULES.md, 9 The printed sheet.
+    #[test]
+    fn sheet_of_the_pit() {
+        let printed = "3 3 1000 9 2\n\
+            0 0 500 500 2 1 5000 33088\n\
+            0 1 500 500 4 1 5000 54379\n\
+            0 2 500 500 4 1 5000 54379\n\
+            1 0 500 500 1 1 5000 54379\n\
+            1 1 200 400 1 6 0 0\n\
+            1 2 400 400 0 9 5000 4810\n\
+            2 0 500 500 128 1 5000 33088\n\
+            2 1 500 500 64 1 5000 54379\n\
+            2 2 500 500 64 1 5000 54379\n";
+        assert_eq!(sheet(PIT.as_bytes()), printed);
+    }
+
+    #[test]
+    fn long_and_no_data_are_not_numbers() {
+        assert_eq!(sheet(&Example(1, 1, "609.60", "0").text()), "1 1 60960 1 0\n0 0 0 0 0 1 5000 10920\n");
+        assert_eq!(sheet(&Example(1, 1, "609.61", "0").text()), "1 1 60961 1 0\n0 0 0 0 0 1 5000 long\n");
+        assert_eq!(sheet(&Example(1, 1, "10", "-9999").text()), "1 1 1000 0 0\n0 0 - - - - - -\n");
+    }
+
+    #[test]
+    fn refusals_alone() {
+        assert_eq!(sheet(b""), "refused 9 at 0\n");
+        assert_eq!(sheet(&Example(1, 1, "10", "12,5").text()), "refused 7 at 52\n");
+        assert_eq!(sheet(&[b' '; MOST_BYTES + 1]), "refused 11 at 32768\n");
+        assert_eq!(sheet(&Example(64, 33, "10", "?").text()), "refused 11 at 0\n");
+    }
 }

@@ -1,7 +1,6 @@
-//! Rim cells and filled heights, relaxed to a fixed point. States document 01, "Filling and directions",
-//! its first paragraph.
+//! Rim cells and filled heights, relaxed to a fixed point. States docs/RULES.md, 4 Filling and directions.
 
-use crate::grid::{Shape, NODATA};
+use super::grid::{Shape, NODATA};
 
 /// "A rim cell is a valid cell on the grid's edge or beside a NoData cell."
 pub fn rim(shape: Shape, ground: &[i32], cell: usize) -> bool {

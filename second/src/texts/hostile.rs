@@ -1,12 +1,12 @@
 //! Hostile texts for every refusal that the printer can give: each names the refusal that it asks for, where that is
-//! known. States document 01, "Numbers of refusal", by examples.
+//! known. States docs/RULES.md, 3 Numbers of refusal, by examples.
 
-use crate::fields::{self, Field};
-use crate::grid::Shape;
-use crate::refusal::{self, Refusal};
-use crate::seed::Seed;
-use crate::sheet::{MOST_BYTES, MOST_CELLS};
-use crate::spelling::{self, Manner, Text};
+use super::fields::{self, Field};
+use super::seed::Seed;
+use super::spelling::{self, Manner, Text};
+use crate::rules::grid::Shape;
+use crate::rules::refusal::{self, Refusal};
+use crate::rules::sheet::{MOST_BYTES, MOST_CELLS};
 
 /// A text and what its reading must give, unless that is left to the reader.
 pub struct Hostile {

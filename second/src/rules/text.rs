@@ -1,8 +1,7 @@
-//! The reader of text grids: words, header, numbers and their refusals.
-//! States document 01, "The text".
+//! The reader of text grids: words, header, numbers and their refusals. States docs/RULES.md, 2 The text.
 
-use crate::grid::{Shape, HIGHEST, LARGEST_SIDE, LOWEST, MOST_ROWS, NODATA};
-use crate::refusal::{self, refuse, Refusal};
+use super::grid::{Shape, HIGHEST, LARGEST_SIDE, LOWEST, MOST_ROWS, NODATA};
+use super::refusal::{self, refuse, Refusal};
 
 /// "answers rows, columns, side and NoData number in cm".
 #[derive(Clone, Copy, Debug, PartialEq, Eq)]
@@ -198,4 +197,48 @@ pub fn read_grid(text: &[u8], lent: &mut [i32]) -> Result<Header, Refusal> {
     }
     lent.copy_from_slice(&heights);
     Ok(header)
+}
+
+#[cfg(test)]
+mod tests {
+    use super::*;
+    use crate::texts::cases::{Example, PIT};
+
+    /// The refusal of a text, as number and place.
+    fn refused(text: &[u8]) -> (u32, usize) {
+        read_header(text).map_err(|Refusal { number, place }| (number, place)).unwrap_err()
+    }
+
+    /// docs/RULES.md, 8 Small fields.
+    #[test]
+    fn heights() {
+        let height = |word| {
+            let mut lent = [0];
+            read_grid(&Example(1, 1, "10", word).text(), &mut lent).map(|_| lent[0])
+        };
+        let refused = |number| Err(Refusal { number, place: 52 });
+        assert_eq!((height("12.5000"), height("-0"), height("12.505")), (Ok(1_250), Ok(0), refused(8)));
+        assert_eq!(["12,5", ".5", "5.", "+5"].map(height), [refused(7); 4]);
+        assert_eq!((height("-500"), height("-500.01"), height("-9999")), (Ok(LOWEST as i32), refused(5), Ok(NODATA)));
+    }
+
+    #[test]
+    fn headers() {
+        assert_eq!((refused(b""), refused(b" \n"), refused(b"ncols 0")), ((9, 0), (9, 2), (1, 6)));
+        assert_eq!((refused(b"ncols 3 nro"), refused(b"ncols 3 nrows")), ((6, 8), (9, 13)));
+        let header = b"NCOLS 2\r\nnRows\t003 xllcorner 0.5 yllcorner -1 cellsize 1.25 NODATA_value -0.01 ?";
+        let read = Header { shape: Shape { rows: 3, columns: 2 }, side: 125, nodata: -1 };
+        assert_eq!(read_header(header), Ok(read));
+    }
+
+    /// "The lent length is tested right after the header"; a refusal "changes no lent grid".
+    #[test]
+    fn lent_heights() {
+        let mut lent = [7; 3];
+        let mut refused = |text: &[u8]| read_grid(text, &mut lent).map_err(|Refusal { number, place }| (number, place));
+        assert_eq!(refused(PIT.as_bytes()), Err((2, 0)));
+        assert_eq!(refused(&Example(3, 1, "10", "1 2 x").text()), Err((7, 56)));
+        assert_eq!(refused(&Example(3, 1, "10", "1 2 3 4").text()), Err((10, 58)));
+        assert_eq!(lent, [7; 3]);
+    }
 }

@@ -1,7 +1,7 @@
-//! Directions and steepness. States document 01, "Filling and directions", its paragraph on codes.
+//! Directions and steepness. States docs/RULES.md, 4 Filling and directions.
 
-use crate::fill::rim;
-use crate::grid::{Shape, Side, NODATA};
+use super::fill::rim;
+use super::grid::{Bearing, Shape, NODATA};
 
 /// The code of a cell that leaves the map, and of a NoData cell.
 pub const LEAVES: u8 = 0;
@@ -14,22 +14,22 @@ pub struct Flow {
 }
 
 /// "steepness is 2·d·d in a cardinal direction and d·d in a diagonal one".
-fn steepness(side: &Side, drop: i64) -> i64 {
-    if side.diagonal() { drop * drop } else { 2 * drop * drop }
+fn steepness(bearing: &Bearing, drop: i64) -> i64 {
+    if bearing.diagonal() { drop * drop } else { 2 * drop * drop }
 }
 
 /// "The direction is the lower neighbour of greatest steepness; on a tie, the first in the order of the codes":
 /// code and steepness, or nothing without a lower neighbour.
 fn steepest(shape: Shape, filled: &[i32], cell: usize) -> Option<(u8, i64)> {
     let mut best = None;
-    for (side, next) in shape.neighbours(cell) {
+    for (bearing, next) in shape.neighbours(cell) {
         // "A lower neighbour is a valid one of lower filled height."
         if filled[next] == NODATA || filled[next] >= filled[cell] {
             continue;
         }
-        let steep = steepness(side, i64::from(filled[cell]) - i64::from(filled[next]));
+        let steep = steepness(bearing, i64::from(filled[cell]) - i64::from(filled[next]));
         if best.is_none_or(|(_, greatest)| steep > greatest) {
-            best = Some((side.code, steep));
+            best = Some((bearing.code, steep));
         }
     }
     best

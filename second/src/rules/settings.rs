@@ -1,6 +1,6 @@
-//! The settings record and its whole percentages. States document 01, "Quantities", its paragraph on settings.
+//! The settings record and its whole percentages. States docs/RULES.md, 7 Settings and calls.
 
-use crate::refusal::{self, refuse, Refusal};
+use super::refusal::{self, refuse, Refusal};
 
 /// "The channel rule is a percentage of the largest flow count, a number of cells, or none."
 #[derive(Clone, Copy)]
@@ -62,4 +62,37 @@ pub fn percents(settings: Settings) -> Result<Percents, Refusal> {
     let Some(high) = cutoff(settings.high) else { return refuse(refusal::SETTING, 2) };
     let Some(rule) = rule(settings.channel) else { return refuse(refusal::SETTING, 3) };
     Ok(Percents { low, high, rule })
+}
+
+#[cfg(test)]
+mod tests {
+    use super::*;
+
+    /// The place of the refusal, if these settings are refused.
+    fn place(settings: Settings) -> Result<(), usize> {
+        percents(settings).map(|_| ()).map_err(|refusal| refusal.place)
+    }
+
+    /// "A cutoff is accepted exactly if it equals the float quotient n / 100".
+    #[test]
+    fn cutoffs() {
+        assert_eq!([0.29, 1.0, -0.0, 0.07].map(cutoff), [Some(29), Some(100), Some(0), Some(7)]);
+        assert_eq!([0.295, 1.01, -0.01, f64::NAN, 0.1 + 0.2, f64::INFINITY].map(cutoff), [None; 6]);
+    }
+
+    #[test]
+    fn channels() {
+        let channel = |channel| place(Settings { channel, ..PRINTER });
+        assert_eq!([0.0, -0.0, 0.3, 1.0, 99.9, 100.0].map(|x| channel(Channel::Percentage(x))), [Ok(()); 6]);
+        assert_eq!([0.1 + 0.2, 100.1, -0.1, f64::NAN].map(|x| channel(Channel::Percentage(x))), [Err(3); 4]);
+        assert_eq!([0, u32::MAX].map(|cells| channel(Channel::Cells(cells))), [Ok(()); 2]);
+    }
+
+    #[test]
+    fn the_first_bad_one_decides() {
+        let channel = Channel::Percentage(0.05);
+        assert_eq!(place(Settings { low: 2.0, high: 2.0, channel }), Err(1));
+        assert_eq!(place(Settings { low: 0.5, high: 0.005, channel }), Err(2));
+        assert_eq!(place(Settings { low: 0.5, high: 0.5, channel }), Err(3));
+    }
 }

@@ -1,6 +1,6 @@
-//! The LS factor: exponent, L, sine and S. States document 01, "LS".
+//! The LS factor: exponent, L, sine and S. States docs/RULES.md, 6 LS.
 
-use crate::big::Big;
+use super::big::Big;
 use std::collections::HashMap;
 
 /// "LS: hundred-thousandths; 4,294,967,295 NoData; 4,294,967,294 too long".
@@ -71,5 +71,40 @@ impl Factors {
         let k = exponent(q, side);
         let t = *self.known.entry((k, mm)).or_insert_with(|| slope_length_factor(k, mm));
         (t * steepness_factor(sine(q, side))) as u32
+    }
+}
+
+#[cfg(test)]
+mod tests {
+    use super::*;
+
+    /// docs/RULES.md, 8 Small fields; t = 250 is reached with equality.
+    #[test]
+    fn slope_length_factors() {
+        for k in 2..=5 {
+            assert_eq!((slope_length_factor(k, 22_128), slope_length_factor(k, 22_129)), (99, 100));
+        }
+        assert_eq!((slope_length_factor(5, 88_513), slope_length_factor(5, 88_514)), (199, 200));
+        assert_eq!((slope_length_factor(5, 138_302), slope_length_factor(5, 138_303)), (249, 250));
+        assert!(!reaches(1_024, 5, LONGEST_MM));
+    }
+
+    /// docs/RULES.md, 8 Small fields.
+    #[test]
+    fn exponents_of_east_drops() {
+        assert_eq!([50, 49, 31, 30, 10, 9].map(|drop| exponent(2 * drop * drop, 1_000)), [5, 4, 4, 3, 3, 2]);
+    }
+
+    #[test]
+    fn sines_at_the_ends() {
+        assert_eq!((sine(0, 1_000), sine(2 * 950_000 * 950_000, 1)), (0, 999));
+        assert_eq!((sine(2, 1), sine(6, 1)), (707, 866));
+    }
+
+    #[test]
+    fn too_long_past_the_house_limit() {
+        let mut factors = Factors::default();
+        assert_eq!(factors.factor(5_000, 0, 60_960), 168 * 65);
+        assert_eq!(factors.factor(5_000, 0, 60_961), TOO_LONG);
     }
 }

@@ -1,4 +1,4 @@
-//! A refusal: its number and its place. States document 01, "Numbers of refusal".
+//! A refusal: its number and its place. States docs/RULES.md, 3 Numbers of refusal.
 
 /// "returns number and place".
 #[derive(Clone, Copy, Debug, PartialEq, Eq)]
