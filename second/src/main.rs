@@ -7,12 +7,13 @@ mod rules;
 mod texts;
 
 use command::{Command, USAGE};
+use std::ffi::OsString;
 use std::process::ExitCode;
 
 fn main() -> ExitCode {
-    let words: Vec<String> = std::env::args().skip(1).collect();
-    let words: Vec<&str> = words.iter().map(String::as_str).collect();
-    let Some(command) = Command::of(&words) else {
+    let words: Vec<OsString> = std::env::args_os().skip(1).collect();
+    let words: Option<Vec<&str>> = words.iter().map(|word| word.to_str()).collect();
+    let Some(command) = words.as_deref().and_then(Command::of) else {
         eprintln!("{USAGE}");
         return ExitCode::from(2);
     };
