@@ -1,5 +1,5 @@
-//! Counts, longest trail and lengths, each cell after its inflows (Kahn 1962). States docs/RULES.md, 4 Filling and
-//! directions and 5 Length.
+//! Counts, longest trail and lengths, each cell after its inflows (Kahn 1962). States docs/RULES.md, 4.5 and
+//! 5 Length.
 
 use super::land::Land;
 use crate::rules::direction::Flow;

@@ -1,5 +1,5 @@
 //! Filled heights by priority flood (Barnes, Lehman and Mulla 2014): from the rim inwards, always on from the lowest
-//! cell reached. States docs/RULES.md, 4 Filling and directions.
+//! cell reached. States docs/RULES.md, 4.2.
 
 use super::land::Land;
 use crate::rules::grid::NODATA;

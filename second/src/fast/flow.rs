@@ -1,4 +1,4 @@
-//! Directions and steepness, flats breadth first. States docs/RULES.md, 4 Filling and directions.
+//! Directions and steepness, flats breadth first. States docs/RULES.md, 4.3 Directions and 4.4 Flats.
 
 use super::land::Land;
 use crate::rules::direction::{Flow, LEAVES, NO_DIRECTION};

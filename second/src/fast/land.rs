@@ -1,5 +1,5 @@
-//! The ground inside a frame of NoData, so that every cell has eight neighbours. Serves docs/RULES.md, 4 Filling and
-//! directions: in a frame, a rim cell is a valid cell beside a NoData one.
+//! The ground inside a frame of NoData, so that every cell has eight neighbours. Serves docs/RULES.md, 4.1: in a
+//! frame, a rim cell is a valid cell beside a NoData one.
 
 use crate::rules::grid::{Shape, BEARINGS, NODATA};
 

@@ -1,4 +1,4 @@
-//! Whole numbers of any size, as far as the power rule of docs/RULES.md, 6 LS, needs them: products, powers, order.
+//! Whole numbers of any size, as far as the power rule of docs/RULES.md, 6.2 L, needs them: products, powers, order.
 
 use std::cmp::Ordering;
 

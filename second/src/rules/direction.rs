@@ -1,4 +1,4 @@
-//! Directions and steepness. States docs/RULES.md, 4 Filling and directions.
+//! Directions and steepness. States docs/RULES.md, 4.3 Directions and 4.4 Flats.
 
 use super::fill::rim;
 use super::grid::{Bearing, Shape, NODATA};

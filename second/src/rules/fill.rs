@@ -1,4 +1,4 @@
-//! Rim cells and filled heights, relaxed to a fixed point. States docs/RULES.md, 4 Filling and directions.
+//! Rim cells and filled heights, relaxed to a fixed point. States docs/RULES.md, 4.1 and 4.2.
 
 use super::grid::{Shape, NODATA};
 

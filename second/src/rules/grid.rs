@@ -1,5 +1,5 @@
 //! The grid: cells in row order, north row first, their eight neighbours and the codes of the eight bearings.
-//! States docs/RULES.md, 1 Quantities, and the codes of 4 Filling and directions.
+//! States docs/RULES.md, 1 Quantities, and the codes of 4.3 Directions.
 
 /// "-999,900 means NoData", for ground and filled heights alike.
 pub const NODATA: i32 = -999_900;

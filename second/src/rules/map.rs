@@ -1,5 +1,4 @@
-//! The map call: from ground heights and settings to the five grids. States docs/RULES.md, 7 Settings and calls, and
-//! the order of the map call's tests of 3 Numbers of refusal.
+//! The map call: from ground heights and settings to the five grids. States docs/RULES.md, 7.2 The map call.
 
 use super::direction::{self, Flow, NO_DIRECTION};
 use super::factor::{Factors, NO_FACTOR};

@@ -1,4 +1,4 @@
-//! The settings record and its whole percentages. States docs/RULES.md, 7 Settings and calls.
+//! The settings record and its whole percentages. States docs/RULES.md, 7.1 Settings.
 
 use super::refusal::{self, refuse, Refusal};
 

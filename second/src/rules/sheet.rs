@@ -1,4 +1,4 @@
-//! The printer's sheet of one text. States docs/RULES.md, 9 The printed sheet, and refusal 11 of 3 Numbers of refusal.
+//! The printer's sheet of one text. States docs/RULES.md, 9 The printed sheet.
 
 use super::factor::{NO_FACTOR, TOO_LONG};
 use super::grid::{Shape, NODATA};

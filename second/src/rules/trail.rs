@@ -1,5 +1,4 @@
-//! Trails, flow counts and the longest trail, each trail walked cell by cell. States docs/RULES.md, 4 Filling and
-//! directions.
+//! Trails, flow counts and the longest trail, each trail walked cell by cell. States docs/RULES.md, 4.5.
 
 use super::direction::NO_DIRECTION;
 use super::grid::{bearing_of, Shape};

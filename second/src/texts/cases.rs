@@ -8,13 +8,13 @@ use super::spelling::{text, Manner};
 use crate::rules::sheet::MOST_BYTES;
 use std::io;
 
-/// The pit of docs/RULES.md, 8 Small fields.
+/// The pit of docs/RULES.md, 9.3.
 pub const PIT: &str = "ncols 3 nrows 3 xllcorner 0 yllcorner 0 cellsize 10\n5 5 5\n5 2 4\n5 5 5\n";
 
 /// A small text: columns, rows, side and heights in metres.
 pub struct Example(pub usize, pub usize, pub &'static str, pub &'static str);
 
-/// The other examples of that section, then fields and words at the bounds of the rules.
+/// The other examples of 8 Small fields, then fields and words at the bounds of the rules.
 pub const EXAMPLES: [Example; 24] = [
     Example(1, 1, "10", "0"),
     Example(4, 1, "10", "9 8 7 5"),
