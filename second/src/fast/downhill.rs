@@ -35,7 +35,7 @@ impl Downhill {
         Downhill { order, onward }
     }
 
-    /// "the number of valid cells whose trail passes the cell, itself included".
+    /// Flow counts: the number of valid cells whose trail passes the cell, itself included.
     pub fn counts(&self) -> Vec<u32> {
         let mut count = vec![0; self.onward.len()];
         for &cell in &self.order {
@@ -45,7 +45,7 @@ impl Downhill {
         count
     }
 
-    /// "the longest trail, in steps between cells": in reverse, each cell after the one that it points at.
+    /// The longest trail, in steps between cells: in reverse, each cell after the one that it points at.
     pub fn longest(&self) -> usize {
         let mut steps = vec![0; self.onward.len()];
         for &cell in self.order.iter().rev() {

@@ -21,7 +21,7 @@ fn steepest(land: &Land, filled: &[i32], cell: usize) -> (u8, i64) {
     best
 }
 
-/// "the fewest steps, over valid cells of its own filled height, to a cell with a lower neighbour or to a rim cell":
+/// The fewest steps, over valid cells of its own filled height, to a cell with a lower neighbour or to a rim cell:
 /// out from those cells, breadth first.
 fn fewest_steps(land: &Land, filled: &[i32], direction: &[u8]) -> Vec<u32> {
     let mut steps = vec![FAR; land.places()];
@@ -39,7 +39,7 @@ fn fewest_steps(land: &Land, filled: &[i32], direction: &[u8]) -> Vec<u32> {
     steps
 }
 
-/// "it points at the first neighbour of equal height, in code order, that is one step nearer".
+/// A flat cell points at the first neighbour of equal height, in code order, that is one step nearer.
 fn across_flat(land: &Land, filled: &[i32], steps: &[u32], cell: usize) -> u8 {
     let nearer = |next: usize| filled[next] == filled[cell] && steps[next] == steps[cell] - 1;
     let bearing = land.around(cell).iter().position(|&next| nearer(next));

@@ -41,7 +41,7 @@ impl Land {
         [cell + 1, south + 1, south, south - 1, cell - 1, north - 1, north, north + 1]
     }
 
-    /// "A rim cell is a valid cell on the grid's edge or beside a NoData cell."
+    /// A rim cell is a valid cell on the grid's edge or beside a NoData cell.
     pub fn rim(&self, cell: usize) -> bool {
         self.around(cell).iter().any(|&next| !self.valid(next))
     }

@@ -3,19 +3,19 @@
 use super::big::Big;
 use std::collections::HashMap;
 
-/// "LS: hundred-thousandths; 4,294,967,295 NoData; 4,294,967,294 too long".
+/// LS in hundred-thousandths: what NoData has in its place, and what is too long.
 pub const NO_FACTOR: u32 = 4_294_967_295;
 pub const TOO_LONG: u32 = 4_294_967_294;
 
-/// "Above 304,800 (1,000 ft, a house limit): too long."
+/// Above 304,800 (1,000 ft, a house limit): too long.
 pub const LONGEST_MM: u64 = 304_800;
 
-/// "Length in mm: floor(length·c / 1,000)."
+/// Length in mm: floor(length·c / 1,000).
 pub fn millimetres(length: u64, side: i64) -> u64 {
     length * side as u64 / 1_000
 }
 
-/// "Exponent k/10: k = 5 if 200·q ≥ c²; else 4 if 5,000·q > 9·c²; else 3 if 5,000·q ≥ c²; else 2."
+/// Exponent k/10: k = 5 if 200·q ≥ c²; else 4 if 5,000·q > 9·c²; else 3 if 5,000·q ≥ c²; else 2.
 pub fn exponent(q: i64, side: i64) -> u32 {
     let square = side * side;
     if 200 * q >= square {
@@ -29,28 +29,28 @@ pub fn exponent(q: i64, side: i64) -> u32 {
     }
 }
 
-/// "t^10·2,212,848^k ≤ (100·mm)^k·100^10".
+/// Whether t is reached: t^10·2,212,848^k ≤ (100·mm)^k·100^10.
 pub fn reaches(t: u64, k: u32, mm: u64) -> bool {
     let left = Big::of(t).power(10).times(&Big::of(2_212_848).power(k));
     let right = Big::of(100 * mm).power(k).times(&Big::of(100).power(10));
     left <= right
 }
 
-/// "L: the greatest whole t with" the power rule. A t that reaches has only reaching ones below it, so t is found
+/// L: the greatest whole t that is reached. A t that reaches has only reaching ones below it, so t is found
 /// bit by bit from 512 down; 1,024 reaches at no length that is not too long.
 pub fn slope_length_factor(k: u32, mm: u64) -> u64 {
     let bits = (0..10).rev().map(|bit| 1 << bit);
     bits.fold(0, |t, bit| if reaches(t + bit, k, mm) { t + bit } else { t })
 }
 
-/// "Sine in thousandths: the greatest u with u²·(q + 2·c²) ≤ 1,000,000·q."
+/// Sine in thousandths: the greatest u with u²·(q + 2·c²) ≤ 1,000,000·q.
 pub fn sine(q: i64, side: i64) -> u64 {
     let (q, side) = (q as u128, side as u128);
     let within = |u: &u128| u * u * (q + 2 * side * side) <= 1_000_000 * q;
     (0..=1_000).rev().find(within).expect("0 is always within") as u64
 }
 
-/// "S = floor((65,410·u² + 4,560,000·u + 65,000,000) / 1,000,000)."
+/// S = floor((65,410·u² + 4,560,000·u + 65,000,000) / 1,000,000).
 pub fn steepness_factor(u: u64) -> u64 {
     (65_410 * u * u + 4_560_000 * u + 65_000_000) / 1_000_000
 }
@@ -62,7 +62,7 @@ pub struct Factors {
 }
 
 impl Factors {
-    /// "LS = t·S", or too long.
+    /// LS = t·S, or too long.
     pub fn factor(&mut self, length: u64, q: i64, side: i64) -> u32 {
         let mm = millimetres(length, side);
         if mm > LONGEST_MM {

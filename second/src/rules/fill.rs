@@ -2,7 +2,7 @@
 
 use super::grid::{Shape, NODATA};
 
-/// "A rim cell is a valid cell on the grid's edge or beside a NoData cell."
+/// A rim cell is a valid cell on the grid's edge or beside a NoData cell.
 pub fn rim(shape: Shape, ground: &[i32], cell: usize) -> bool {
     let beside = || shape.neighbours(cell).any(|(_, next)| ground[next] == NODATA);
     ground[cell] != NODATA && (shape.on_edge(cell) || beside())
@@ -21,8 +21,8 @@ fn known(shape: Shape, ground: &[i32], filled: &[i32], cell: usize) -> i32 {
     onward.max(ground[cell])
 }
 
-/// "Filled height: over all runs of valid neighbours from the cell to a rim cell, the least possible greatest
-/// ground height on the run, both ends counted." Sweeps until nothing changes.
+/// Filled height: over all runs of valid neighbours from the cell to a rim cell, the least possible greatest
+/// ground height on the run, both ends counted. Sweeps until nothing changes.
 pub fn filled(shape: Shape, ground: &[i32]) -> Vec<i32> {
     let mut filled = vec![NO_RUN; shape.cells()];
     let mut changed = true;

@@ -1,17 +1,17 @@
 //! The grid: cells in row order, north row first, their eight neighbours and the codes of the eight bearings.
 //! States docs/RULES.md, 1 Quantities, and the codes of 4.3 Directions.
 
-/// "-999,900 means NoData", for ground and filled heights alike.
+/// -999,900 means NoData, for ground and filled heights alike.
 pub const NODATA: i32 = -999_900;
 
-/// "height: whole cm, signed, -50,000 to 900,000".
+/// Heights in cm.
 pub const LOWEST: i64 = -50_000;
 pub const HIGHEST: i64 = 900_000;
 
-/// "rows, columns: each 1 to 1,024".
+/// Rows and columns, each 1 to 1,024.
 pub const MOST_ROWS: usize = 1_024;
 
-/// "cell side c: whole cm, 1 to 100,000".
+/// The cell side in cm, 1 to 100,000.
 pub const LARGEST_SIDE: i64 = 100_000;
 
 /// A bearing: one of the eight compass directions of a neighbour.
@@ -21,7 +21,7 @@ pub struct Bearing {
     east: i64,
 }
 
-/// "Codes: E 1, SE 2, S 4, SW 8, W 16, NW 32, N 64, NE 128", in this order.
+/// The codes: E 1, SE 2, S 4, SW 8, W 16, NW 32, N 64, NE 128, in this order.
 pub const BEARINGS: [Bearing; 8] = [
     Bearing { code: 1, south: 0, east: 1 },
     Bearing { code: 2, south: 1, east: 1 },
@@ -53,7 +53,7 @@ pub struct Shape {
 }
 
 impl Shape {
-    /// "rows times columns".
+    /// Rows times columns.
     pub fn cells(&self) -> usize {
         self.rows * self.columns
     }
@@ -74,7 +74,7 @@ impl Shape {
         inside.then(|| row as usize * self.columns + column as usize)
     }
 
-    /// "Neighbours are the eight around": those on the grid, in code order, each with its bearing.
+    /// Neighbours are the eight around: those on the grid, in code order, each with its bearing.
     pub fn neighbours(self, cell: usize) -> impl Iterator<Item = (&'static Bearing, usize)> {
         BEARINGS.iter().filter_map(move |bearing| self.neighbour(cell, bearing).map(|next| (bearing, next)))
     }

@@ -9,7 +9,7 @@ use super::refusal::{self, refuse, Refusal};
 use super::settings::{percents, Percents, Settings};
 use super::trail;
 
-/// "From heights and settings come five grids: filled height, direction, flow count, slope length, LS."
+/// From heights and settings come five grids: filled height, direction, flow count, slope length, LS.
 pub struct Map {
     pub filled: Vec<i32>,
     pub flow: Flow,
@@ -20,7 +20,7 @@ pub struct Map {
     pub longest: usize,
 }
 
-/// "The map call tests 1, 2, 3, 4, 5 in that order, 5 at the first bad cell in row order."
+/// The map call tests 1, 2, 3, 4, 5 in that order, 5 at the first bad cell in row order.
 pub fn judge(shape: Shape, side: i64, ground: &[i32], settings: Settings) -> Result<Percents, Refusal> {
     let good = 1..=MOST_ROWS;
     if !good.contains(&shape.rows) || !good.contains(&shape.columns) {
@@ -115,7 +115,7 @@ mod tests {
         assert_eq!(map_of("9 8 7 5", 4, percentage).length, [5_000, 15_000, 25_000, 0]);
     }
 
-    /// "The map call tests 1, 2, 3, 4, 5 in that order".
+    /// The map call tests 1, 2, 3, 4, 5 in that order.
     #[test]
     fn refusals_in_their_order() {
         let bad = Settings { low: 2.0, ..PRINTER };

@@ -2,7 +2,7 @@
 
 use super::refusal::{self, refuse, Refusal};
 
-/// "The channel rule is a percentage of the largest flow count, a number of cells, or none."
+/// The channel rule is a percentage of the largest flow count, a number of cells, or none.
 #[derive(Clone, Copy)]
 pub enum Channel {
     Percentage(f64),
@@ -10,7 +10,7 @@ pub enum Channel {
     None,
 }
 
-/// "The settings record holds two cutoffs as 64-bit floats, one for slopes under 5 percent and one for the rest".
+/// The settings record holds two cutoffs as 64-bit floats, one for slopes under 5 percent and one for the rest.
 #[derive(Clone, Copy)]
 pub struct Settings {
     pub low: f64,
@@ -18,7 +18,7 @@ pub struct Settings {
     pub channel: Channel,
 }
 
-/// The printer's settings: "with cutoffs 0.5 and no channels".
+/// The printer's settings: cutoffs 0.5 and no channels.
 pub const PRINTER: Settings = Settings { low: 0.5, high: 0.5, channel: Channel::None };
 
 /// The channel rule with its percentage in tenths.
@@ -37,17 +37,17 @@ pub struct Percents {
     pub rule: Rule,
 }
 
-/// "accepted exactly if it equals the float quotient n / 100 for a whole n from 0 to 100".
+/// The whole percentage of a cutoff, accepted exactly if it equals the float quotient n / 100 for a whole n from 0 to 100.
 fn cutoff(x: f64) -> Option<i64> {
     (0..=100).find(|&n| x == n as f64 / 100.0)
 }
 
-/// "The percentage is a 64-bit float and must equal n / 10 for a whole n from 0 to 1,000."
+/// The percentage is a 64-bit float and must equal n / 10 for a whole n from 0 to 1,000.
 fn tenths(x: f64) -> Option<u64> {
     (0..=1_000).find(|&n| x == n as f64 / 10.0)
 }
 
-/// The channel rule; "Any 32-bit number of cells is accepted."
+/// The channel rule; any 32-bit number of cells is accepted.
 fn rule(channel: Channel) -> Option<Rule> {
     match channel {
         Channel::Percentage(x) => tenths(x).map(Rule::Tenths),
@@ -56,7 +56,7 @@ fn rule(channel: Channel) -> Option<Rule> {
     }
 }
 
-/// 4, "a setting not accepted": "the first bad one of 1 low cutoff, 2 high, 3 channel".
+/// 4, a setting not accepted: the first bad one of 1 low cutoff, 2 high, 3 channel.
 pub fn percents(settings: Settings) -> Result<Percents, Refusal> {
     let Some(low) = cutoff(settings.low) else { return refuse(refusal::SETTING, 1) };
     let Some(high) = cutoff(settings.high) else { return refuse(refusal::SETTING, 2) };
@@ -73,7 +73,7 @@ mod tests {
         percents(settings).map(|_| ()).map_err(|refusal| refusal.place)
     }
 
-    /// "A cutoff is accepted exactly if it equals the float quotient n / 100".
+    /// A cutoff is accepted exactly if it equals the float quotient n / 100.
     #[test]
     fn cutoffs() {
         assert_eq!([0.29, 1.0, -0.0, 0.07].map(cutoff), [Some(29), Some(100), Some(0), Some(7)]);

@@ -7,10 +7,10 @@ use super::refusal::{self, refuse, Refusal};
 use super::settings::PRINTER;
 use super::text::{read_grid, read_header, Header};
 
-/// "printer only: text above 32,768 bytes (place 32768)".
+/// A text of more bytes gets 11 at this place.
 pub const MOST_BYTES: usize = 32_768;
 
-/// "then, after a good header, more than 2,048 cells (place 0)".
+/// After a good header, more cells get 11 at 0.
 pub const MOST_CELLS: usize = 2_048;
 
 /// The header and heights of a text within the printer's limits.
@@ -27,7 +27,7 @@ pub fn read_small(text: &[u8]) -> Result<(Header, Vec<i32>), Refusal> {
     Ok((header, ground))
 }
 
-/// "each cell's row, column, ground, filled, direction, count, length, LS".
+/// A cell's row, column, ground, filled, direction, count, length, LS.
 fn cell_line(shape: Shape, ground: &[i32], map: &Map, cell: usize) -> String {
     let (row, column) = (shape.row(cell), shape.column(cell));
     if ground[cell] == NODATA {
@@ -43,7 +43,7 @@ fn cell_line(shape: Shape, ground: &[i32], map: &Map, cell: usize) -> String {
     format!("{row} {column} {ground} {filled} {direction} {count} {length} {factor}\n")
 }
 
-/// "It prints rows, columns, side, valid cells and longest trail, then each cell's" line.
+/// A line with rows, columns, side, valid cells and longest trail, then each cell's line.
 fn accepted(text: &[u8]) -> Result<String, Refusal> {
     let (Header { shape, side, .. }, ground) = read_small(text)?;
     let map = map(shape, side, &ground, PRINTER)?;
@@ -52,7 +52,7 @@ fn accepted(text: &[u8]) -> Result<String, Refusal> {
     Ok(std::iter::once(first).chain(lines).collect())
 }
 
-/// The sheet: "A refusal prints `refused 7 at 52` and nothing else."
+/// The sheet; a refusal prints `refused 7 at 52` and nothing else.
 pub fn sheet(text: &[u8]) -> String {
     accepted(text).unwrap_or_else(|Refusal { number, place }| format!("refused {number} at {place}\n"))
 }

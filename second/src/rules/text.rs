@@ -3,7 +3,7 @@
 use super::grid::{Shape, HIGHEST, LARGEST_SIDE, LOWEST, MOST_ROWS, NODATA};
 use super::refusal::{self, refuse, Refusal};
 
-/// "answers rows, columns, side and NoData number in cm".
+/// What a reader call answers: rows and columns, side and NoData number in cm.
 #[derive(Clone, Copy, Debug, PartialEq, Eq)]
 pub struct Header {
     pub shape: Shape,
@@ -11,23 +11,23 @@ pub struct Header {
     pub nodata: i64,
 }
 
-/// "absent: -9999", in cm.
+/// The NoData number where the header has none, in cm.
 const USUAL_NODATA: i64 = -999_900;
 
-/// A word and "the offset of its first byte".
+/// A word and the offset of its first byte.
 struct Word<'a> {
     place: usize,
     bytes: &'a [u8],
 }
 
-/// "words are read left to right, each from where the last ended".
+/// Words are read left to right, each from where the last ended.
 #[derive(Clone)]
 struct Words<'a> {
     text: &'a [u8],
     at: usize,
 }
 
-/// "Blanks are space, tab, CR, LF".
+/// Blanks are space, tab, CR, LF.
 fn blank(byte: u8) -> bool {
     matches!(byte, b' ' | b'\t' | b'\r' | b'\n')
 }
@@ -37,7 +37,7 @@ impl<'a> Words<'a> {
         Words { text, at: 0 }
     }
 
-    /// "a word is a longest run of other bytes".
+    /// The next word: a longest run of other bytes.
     fn next(&mut self) -> Option<Word<'a>> {
         let text = self.text;
         let place = (self.at..text.len()).find(|&at| !blank(text[at]))?;
@@ -46,13 +46,13 @@ impl<'a> Words<'a> {
         Some(Word { place, bytes: &text[place..end] })
     }
 
-    /// The next word; 9, "text ends too early", at the "text length".
+    /// The next word; 9, text ends too early, at the text length.
     fn wanted(&mut self) -> Result<Word<'a>, Refusal> {
         let length = self.text.len();
         self.next().map_or(refuse(refusal::ENDS, length), Ok)
     }
 
-    /// 6, "header word not the expected one"; "Letter case is ignored".
+    /// 6, header word not the expected one; letter case is ignored.
     fn name(&mut self, expected: &str) -> Result<(), Refusal> {
         let word = self.wanted()?;
         if word.bytes.eq_ignore_ascii_case(expected.as_bytes()) {
@@ -61,7 +61,7 @@ impl<'a> Words<'a> {
         refuse(refusal::NAME, word.place)
     }
 
-    /// "The two counts have 1 to 9 digits only"; 1, "rows or columns 0 or above 1,024".
+    /// The two counts have 1 to 9 digits only; 1, rows or columns 0 or above 1,024.
     fn count(&mut self) -> Result<usize, Refusal> {
         let word = self.wanted()?;
         if !digits(word.bytes, 9) {
@@ -74,20 +74,20 @@ impl<'a> Words<'a> {
         Ok(count)
     }
 
-    /// "Corner numbers are checked for form only."
+    /// Corner numbers are checked for form only.
     fn corner(&mut self) -> Result<(), Refusal> {
         let word = self.wanted()?;
         number(&word).map(|_| ())
     }
 
-    /// "Cell side, NoData and heights become cm exactly": "form, then fineness". Place and cm.
+    /// Cell side, NoData and heights become cm exactly: form, then fineness. Place and cm.
     fn centimetres(&mut self) -> Result<(usize, i64), Refusal> {
         let word = self.wanted()?;
         let cm = number(&word)?.centimetres();
         cm.map_or(refuse(refusal::FINE, word.place), |cm| Ok((word.place, cm)))
     }
 
-    /// 3, "cell side out of range".
+    /// 3, cell side out of range.
     fn side(&mut self) -> Result<i64, Refusal> {
         let (place, cm) = self.centimetres()?;
         if cm < 1 || cm > LARGEST_SIDE {
@@ -96,8 +96,7 @@ impl<'a> Words<'a> {
         Ok(cm)
     }
 
-    /// "then optionally nodata_value and its number (absent: -9999)"; "An eleventh word that begins with a
-    /// letter must be nodata_value".
+    /// Optionally nodata_value and its number; an eleventh word that begins with a letter must be nodata_value.
     fn nodata(&mut self) -> Result<i64, Refusal> {
         let eleventh = self.clone().next();
         if !eleventh.is_some_and(|word| word.bytes[0].is_ascii_alphabetic()) {
@@ -107,7 +106,7 @@ impl<'a> Words<'a> {
         Ok(self.centimetres()?.1)
     }
 
-    /// "A height equal to the NoData number is NoData and becomes -999,900; that test precedes the range."
+    /// A height equal to the NoData number is NoData and becomes -999,900; that test precedes the range.
     fn height(&mut self, nodata: i64) -> Result<i32, Refusal> {
         let (place, cm) = self.centimetres()?;
         if cm == nodata {
@@ -119,7 +118,7 @@ impl<'a> Words<'a> {
         Ok(cm as i32)
     }
 
-    /// "The header is ncols, nrows, xllcorner, yllcorner, cellsize in that order, each followed by its number".
+    /// The header: ncols, nrows, xllcorner, yllcorner, cellsize in that order, each followed by its number.
     fn header(&mut self) -> Result<Header, Refusal> {
         self.name("ncols")?;
         let columns = self.count()?;
@@ -146,14 +145,14 @@ fn value(digits: &[u8]) -> i64 {
     digits.iter().fold(0, |value, digit| 10 * value + i64::from(digit - b'0'))
 }
 
-/// The parts of a number: "an optional minus, 1 to 9 digits, then optionally a point and 1 to 6 digits".
+/// The parts of a number: an optional minus, 1 to 9 digits, then optionally a point and 1 to 6 digits.
 struct Number<'a> {
     minus: bool,
     whole: &'a [u8],
     decimals: &'a [u8],
 }
 
-/// The parts of a well-formed number; 7, "number malformed, a comma included".
+/// The parts of a well-formed number; 7, number malformed, a comma included.
 fn number<'a>(word: &Word<'a>) -> Result<Number<'a>, Refusal> {
     let minus = word.bytes[0] == b'-';
     let unsigned = if minus { &word.bytes[1..] } else { word.bytes };
@@ -167,7 +166,7 @@ fn number<'a>(word: &Word<'a>) -> Result<Number<'a>, Refusal> {
 }
 
 impl Number<'_> {
-    /// The number of metres in cm; "a nonzero digit past the second decimal is too fine".
+    /// The number of metres in cm; a nonzero digit past the second decimal is too fine.
     fn centimetres(&self) -> Option<i64> {
         let digit = |at: usize| self.decimals.get(at).map_or(0, |digit| i64::from(digit - b'0'));
         if (2..self.decimals.len()).any(|at| digit(at) != 0) {
@@ -178,13 +177,13 @@ impl Number<'_> {
     }
 }
 
-/// "One call reads the header alone ... and judges nothing after it".
+/// Reads the header alone and judges nothing after it.
 pub fn read_header(text: &[u8]) -> Result<Header, Refusal> {
     Words::of(text).header()
 }
 
-/// "the other reads the whole text into lent heights": "The lent length is tested right after the header",
-/// and a refusal "changes no lent grid".
+/// Reads the whole text into lent heights. The lent length is tested right after the header, and a refusal changes no
+/// lent grid.
 pub fn read_grid(text: &[u8], lent: &mut [i32]) -> Result<Header, Refusal> {
     let mut words = Words::of(text);
     let header = words.header()?;
@@ -231,7 +230,7 @@ mod tests {
         assert_eq!(read_header(header), Ok(read));
     }
 
-    /// "The lent length is tested right after the header"; a refusal "changes no lent grid".
+    /// The lent length is tested right after the header; a refusal changes no lent grid.
     #[test]
     fn lent_heights() {
         let mut lent = [7; 3];

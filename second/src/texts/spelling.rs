@@ -53,7 +53,7 @@ fn count(seed: &mut Seed, manner: Manner, count: usize) -> Vec<u8> {
     format!("{before}{digits}").into_bytes()
 }
 
-/// "Letter case is ignored."
+/// Letter case is ignored.
 fn name(seed: &mut Seed, manner: Manner, name: &str) -> Vec<u8> {
     let kind = if manner == Manner::Plain { 0 } else { seed.below(4) };
     let letter = |letter: u8, seed: &mut Seed| match kind {

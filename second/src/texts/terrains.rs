@@ -23,7 +23,7 @@ pub const TERRAINS: [(&str, Relief, Holes); 7] = [
     ("comb", comb, sea),
 ];
 
-/// "cellsize": 10 m.
+/// The cell side in cm: 10 m.
 const SIDE: i64 = 1_000;
 
 /// Heights by row and column.
