@@ -37,7 +37,7 @@ pub struct Percents {
     pub rule: Rule,
 }
 
-/// The whole percentage of a cutoff, accepted exactly if it equals the float quotient n / 100 for a whole n from 0 to 100.
+/// The whole percentage n of a cutoff, accepted exactly if it equals the float quotient n / 100, n from 0 to 100.
 fn cutoff(x: f64) -> Option<i64> {
     (0..=100).find(|&n| x == n as f64 / 100.0)
 }
