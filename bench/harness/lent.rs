@@ -1,6 +1,6 @@
 //! What every side is lent, and what a side is.
 
-/// The settings of every measurement: document 01's printer.
+/// The settings of every measurement: the printer's, docs/RULES.md, 9 The printed sheet.
 pub const CUTOFF: f64 = 0.5;
 
 /// The grids and the workspace, lent to each side in turn and not cleared in between; and the number of valid cells and
@@ -21,15 +21,19 @@ pub struct Lent {
 }
 
 impl Lent {
-    /// Grids for a text, every place written once.
-    pub fn for_text(text: &[u8]) -> Lent {
-        let header = plain::read_header(text).expect("a terrain's text is accepted");
+    /// Grids for a text, every place written and none with an answer; the refusal of a text that is no grid.
+    pub fn for_text(text: &[u8]) -> Result<Lent, String> {
+        let refused = |refusal: plain::Refusal| format!("refused {} at {}", refusal.number, refusal.place);
+        let header = plain::read_header(text).map_err(refused)?;
         let cells = header.rows * header.columns;
-        Lent {
+        let mut ground = vec![1; cells];
+        plain::read_grid(text, &mut ground).map_err(refused)?;
+        ground.fill(1);
+        Ok(Lent {
             rows: header.rows,
             columns: header.columns,
             side: header.side,
-            ground: vec![1; cells],
+            ground,
             filled: vec![1; cells],
             direction: vec![1; cells],
             count: vec![1; cells],
@@ -37,7 +41,7 @@ impl Lent {
             factors: vec![1; cells],
             workspace: vec![1; cells],
             answer: (0, 0),
-        }
+        })
     }
 }
 

@@ -2,7 +2,7 @@
 //! of both sides for the map and for the text, those of another commit's library for the map or `-`, the text's bytes,
 //! the peak.
 
-use crate::files::read;
+use crate::files::field;
 use crate::layout::BYTES;
 use crate::measure::{measure, Found, Pair};
 use std::path::Path;
@@ -33,8 +33,8 @@ fn word(time: f64) -> String {
 pub fn print(rounds: usize, folder: &Path) -> Result<(), String> {
     for terrain in TERRAINS {
         for (size, rounds) in [(SMALL, MORE_ROUNDS * rounds), (LARGE, rounds)] {
-            let text = read(&folder.join(format!("{terrain}-{size}.asc")))?;
-            let Found { map, text, before, bytes, peak } = measure(rounds, &text);
+            let (text, lent) = field(&folder.join(format!("{terrain}-{size}.asc")))?;
+            let Found { map, text, before, bytes, peak } = measure(rounds, &text, lent);
             let times = [map.measured, map.plain, text.measured, text.plain].map(word);
             let before = before.map_or(NONE.into(), word);
             println!("{BYTES} {terrain} {size} {} {before} {bytes} {peak}", times.join(" "));

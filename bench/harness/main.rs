@@ -1,4 +1,4 @@
-//! Speed and memory of the proved library beside the plain program, on the terrains of document 01's full size.
+//! Speed and memory of the proved library beside the plain program, on terrains of full size.
 //! `harness measure ROUNDS FOLDER` prints lines of measurements, `harness table < LINES` the table of them; `harness
 //! once SIDE FILE` maps one text once, for a profiler, and `harness loops PROFILE FUNCTION` tells what that found.
 
@@ -15,7 +15,7 @@ mod rattle;
 mod sides;
 mod table;
 
-use lent::Lent;
+use std::ffi::OsString;
 use std::path::Path;
 use std::process::ExitCode;
 
@@ -41,8 +41,7 @@ fn table() -> Result<(), Wrong> {
 /// Reads and maps one text once.
 fn once(name: &str, file: &str) -> Result<(), Wrong> {
     let side = sides::all().into_iter().find(|side| side.name == name).ok_or(USAGE)?;
-    let text = files::read(Path::new(file))?;
-    let mut lent = Lent::for_text(&text);
+    let (text, mut lent) = files::field(Path::new(file))?;
     (side.read)(&text, &mut lent.ground);
     (side.map)(&mut lent);
     println!("{name}: {} valid cells, longest trail {}", lent.answer.0, lent.answer.1);
@@ -55,17 +54,21 @@ fn loops(profile: &str, function: &str) -> Result<(), Wrong> {
     Ok(())
 }
 
-fn main() -> ExitCode {
-    let words: Vec<String> = std::env::args().skip(1).collect();
-    let words: Vec<&str> = words.iter().map(String::as_str).collect();
-    let done = match words[..] {
+/// Does what the words ask for.
+fn run(words: &[&str]) -> Result<(), Wrong> {
+    match *words {
         ["measure", rounds, folder] => measure(rounds, folder),
         ["table"] => table(),
         ["once", side, file] => once(side, file),
         ["loops", profile, function] => loops(profile, function),
         _ => Err(USAGE.into()),
-    };
-    match done {
+    }
+}
+
+fn main() -> ExitCode {
+    let words: Vec<OsString> = std::env::args_os().skip(1).collect();
+    let words: Option<Vec<&str>> = words.iter().map(|word| word.to_str()).collect();
+    match words.ok_or(USAGE.into()).and_then(|words| run(&words)) {
         Ok(()) => ExitCode::SUCCESS,
         Err(wrong) => {
             eprintln!("{wrong}");

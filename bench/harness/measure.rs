@@ -63,9 +63,8 @@ fn in_turn(rounds: usize, sides: &[Side], mut call: impl FnMut(Side)) -> Vec<f64
     best
 }
 
-/// Measures one text; all sides must give the same grids.
-pub fn measure(rounds: usize, text: &[u8]) -> Found {
-    let mut lent = Lent::for_text(text);
+/// Measures one text, in lent grids that were made for it; all sides must give the same grids.
+pub fn measure(rounds: usize, text: &[u8], mut lent: Lent) -> Found {
     let others: Vec<(&Side, Lent)> = OTHERS.iter().map(|side| (side, lent.clone())).collect();
     (MEASURED.read)(text, &mut lent.ground);
     let peak = peak(|| (MEASURED.map)(&mut lent));

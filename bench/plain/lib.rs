@@ -1,4 +1,4 @@
-//! A plain, unverified program of document 01's rules, with the algorithms of crates/text, crates/terrain and
+//! A plain, unverified program of the rules of docs/RULES.md, with the algorithms of crates/text, crates/terrain and
 //! crates/factor: what their speed is measured against. It makes no comparison that those make only for want of a proof
 //! of the order in which a stage works. Every grid is the caller's. The stages are not inlined, so that a profiler sees
 //! each.
@@ -22,12 +22,12 @@ pub use map::{map, Grids};
 pub use settings::{Channel, Settings};
 pub use text::{read_grid, read_header, Header};
 
-/// Document 01, "Quantities": NoData as a height, as a code and as a factor, which is its fall too.
+/// docs/RULES.md, 1 Quantities: NoData as a height, as a code and as a factor, which is its fall too.
 pub const NODATA: i32 = -999_900;
 pub const NO_CODE: u8 = 255;
 pub const NO_FACTOR: u32 = u32::MAX;
 
-/// Document 01, "Numbers of refusal": number and place.
+/// docs/RULES.md, 3 Numbers of refusal: number and place.
 #[derive(Clone, Copy, Debug, PartialEq, Eq)]
 pub struct Refusal {
     pub number: u32,

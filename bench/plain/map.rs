@@ -1,4 +1,4 @@
-//! The map call: from ground heights and settings to the five grids. Document 01, "Numbers of refusal" and after.
+//! The map call: from ground heights and settings to the five grids. docs/RULES.md, 7.2 The map call.
 
 use crate::cells::Shape;
 use crate::length::Terms;

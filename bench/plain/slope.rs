@@ -1,5 +1,5 @@
-//! The steepness of a cell, from its fall: twice its drop, and one more where its direction is diagonal. Document 01,
-//! "Filling and directions".
+//! The steepness of a cell, from its fall: twice its drop, and one more where its direction is diagonal. docs/RULES.md,
+//! 4.3 Directions.
 
 /// The steepness of a fall: 2·d·d in a cardinal direction, d·d in a diagonal one.
 #[inline]

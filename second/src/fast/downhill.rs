@@ -1,10 +1,10 @@
-//! Counts, longest trail and lengths, each cell after its inflows (Kahn 1962). States document 01, "Filling and
-//! directions", its paragraphs on trails and flow count, and "Length".
+//! Counts, longest trail and lengths, each cell after its inflows (Kahn 1962). States docs/RULES.md, 4.5 and
+//! 5 Length.
 
 use super::land::Land;
-use crate::direction::Flow;
-use crate::length::{amount, channel, HALF_SIDE};
-use crate::settings::Percents;
+use crate::rules::direction::Flow;
+use crate::rules::length::{amount, channel, HALF_SIDE};
+use crate::rules::settings::Percents;
 
 /// The valid cells, each after all its inflows, and the place that each points at.
 pub struct Downhill {
@@ -35,7 +35,7 @@ impl Downhill {
         Downhill { order, onward }
     }
 
-    /// "the number of valid cells whose trail passes the cell, itself included".
+    /// Flow counts: the number of valid cells whose trail passes the cell, itself included.
     pub fn counts(&self) -> Vec<u32> {
         let mut count = vec![0; self.onward.len()];
         for &cell in &self.order {
@@ -45,7 +45,7 @@ impl Downhill {
         count
     }
 
-    /// "the longest trail, in steps between cells": in reverse, each cell after the one that it points at.
+    /// The longest trail, in steps between cells: in reverse, each cell after the one that it points at.
     pub fn longest(&self) -> usize {
         let mut steps = vec![0; self.onward.len()];
         for &cell in self.order.iter().rev() {

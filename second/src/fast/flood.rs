@@ -1,8 +1,8 @@
 //! Filled heights by priority flood (Barnes, Lehman and Mulla 2014): from the rim inwards, always on from the lowest
-//! cell reached. States document 01, "Filling and directions", its first paragraph.
+//! cell reached. States docs/RULES.md, 4.2.
 
 use super::land::Land;
-use crate::grid::NODATA;
+use crate::rules::grid::NODATA;
 use std::cmp::Reverse;
 use std::collections::BinaryHeap;
 

@@ -1,8 +1,8 @@
-//! Directions and steepness, flats breadth first. States document 01, "Filling and directions", its paragraph on codes.
+//! Directions and steepness, flats breadth first. States docs/RULES.md, 4.3 Directions and 4.4 Flats.
 
 use super::land::Land;
-use crate::direction::{Flow, LEAVES, NO_DIRECTION};
-use crate::grid::{NODATA, SIDES};
+use crate::rules::direction::{Flow, LEAVES, NO_DIRECTION};
+use crate::rules::grid::{BEARINGS, NODATA};
 use std::collections::VecDeque;
 
 /// Steps of a place that no search has reached.
@@ -11,17 +11,17 @@ const FAR: u32 = u32::MAX;
 /// Code and steepness of the steepest lower neighbour, the first on a tie; 0 and 0 without one.
 fn steepest(land: &Land, filled: &[i32], cell: usize) -> (u8, i64) {
     let mut best = (LEAVES, 0);
-    for (side, next) in SIDES.iter().zip(land.around(cell)) {
+    for (bearing, next) in BEARINGS.iter().zip(land.around(cell)) {
         let drop = i64::from(filled[cell]) - i64::from(filled[next]);
-        let steep = if side.diagonal() { drop * drop } else { 2 * drop * drop };
+        let steep = if bearing.diagonal() { drop * drop } else { 2 * drop * drop };
         if filled[next] != NODATA && drop > 0 && steep > best.1 {
-            best = (side.code, steep);
+            best = (bearing.code, steep);
         }
     }
     best
 }
 
-/// "the fewest steps, over valid cells of its own filled height, to a cell with a lower neighbour or to a rim cell":
+/// The fewest steps, over valid cells of its own filled height, to a cell with a lower neighbour or to a rim cell:
 /// out from those cells, breadth first.
 fn fewest_steps(land: &Land, filled: &[i32], direction: &[u8]) -> Vec<u32> {
     let mut steps = vec![FAR; land.places()];
@@ -39,11 +39,11 @@ fn fewest_steps(land: &Land, filled: &[i32], direction: &[u8]) -> Vec<u32> {
     steps
 }
 
-/// "it points at the first neighbour of equal height, in code order, that is one step nearer".
+/// A flat cell points at the first neighbour of equal height, in code order, that is one step nearer.
 fn across_flat(land: &Land, filled: &[i32], steps: &[u32], cell: usize) -> u8 {
     let nearer = |next: usize| filled[next] == filled[cell] && steps[next] == steps[cell] - 1;
-    let side = land.around(cell).iter().position(|&next| nearer(next));
-    SIDES[side.expect("a fewest number of steps has a first step")].code
+    let bearing = land.around(cell).iter().position(|&next| nearer(next));
+    BEARINGS[bearing.expect("a fewest number of steps has a first step")].code
 }
 
 /// Every place's direction and steepness.

@@ -1,7 +1,7 @@
-//! The ground inside a frame of NoData, so that every cell has eight neighbours. Serves document 01, "Filling and
-//! directions": in a frame, a rim cell is a valid cell beside a NoData one.
+//! The ground inside a frame of NoData, so that every cell has eight neighbours. Serves docs/RULES.md, 4.1: in a
+//! frame, a rim cell is a valid cell beside a NoData one.
 
-use crate::grid::{Shape, SIDES, NODATA};
+use crate::rules::grid::{Shape, BEARINGS, NODATA};
 
 /// A framed ground; a place is an index into it.
 pub struct Land {
@@ -41,19 +41,39 @@ impl Land {
         [cell + 1, south + 1, south, south - 1, cell - 1, north - 1, north, north + 1]
     }
 
-    /// "A rim cell is a valid cell on the grid's edge or beside a NoData cell."
+    /// A rim cell is a valid cell on the grid's edge or beside a NoData cell.
     pub fn rim(&self, cell: usize) -> bool {
         self.around(cell).iter().any(|&next| !self.valid(next))
     }
 
     /// The place that a code points at from a valid cell, if it is one of the eight.
     pub fn onward(&self, cell: usize, code: u8) -> Option<usize> {
-        SIDES.iter().position(|side| side.code == code).map(|side| self.around(cell)[side])
+        BEARINGS.iter().position(|bearing| bearing.code == code).map(|bearing| self.around(cell)[bearing])
     }
 
     /// A framed grid without its frame.
     pub fn inner<T: Copy>(&self, framed: &[T]) -> Vec<T> {
         let rows = framed.chunks(self.width).skip(1).take(self.shape.rows);
         rows.flat_map(|row| row[1..=self.shape.columns].iter().copied()).collect()
+    }
+}
+
+#[cfg(test)]
+mod tests {
+    use super::*;
+
+    #[test]
+    fn the_frame_goes_on_and_off() {
+        let ground = [1, 2, NODATA, 4, 5, 6];
+        let land = Land::of(Shape { rows: 2, columns: 3 }, &ground);
+        assert_eq!((land.places(), land.cells().collect::<Vec<_>>()), (20, vec![6, 7, 11, 12, 13]));
+        assert_eq!(land.inner(&land.ground), ground);
+        assert_eq!((land.onward(6, 1), land.onward(6, 2), land.onward(6, 0)), (Some(7), Some(12), None));
+    }
+
+    #[test]
+    fn the_edge_is_a_rim() {
+        let land = Land::of(Shape { rows: 3, columns: 3 }, &[5; 9]);
+        assert_eq!(land.cells().filter(|&cell| !land.rim(cell)).collect::<Vec<_>>(), [12]);
     }
 }

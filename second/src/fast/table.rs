@@ -1,13 +1,13 @@
-//! LS by tables that big whole numbers give once. States document 01, "LS".
+//! LS by tables that big whole numbers give once. States docs/RULES.md, 6 LS.
 
-use crate::factor::{exponent, millimetres, reaches, steepness_factor, LONGEST_MM, TOO_LONG};
+use crate::rules::factor::{exponent, millimetres, reaches, steepness_factor, LONGEST_MM, TOO_LONG};
 
 /// For each exponent from 2 to 5, L of every whole number of mm that is not too long.
 pub struct Table {
     by_exponent: [Vec<u16>; 4],
 }
 
-/// "the first millimetre at which each t is reached", if it is not too long; no t is reached before the t below it.
+/// The first millimetre at which a t is reached, if it is not too long; no t is reached before the t below it.
 fn first_millimetre(k: u32, t: u64, from: u64) -> Option<u64> {
     let (mut low, mut high) = (from, LONGEST_MM);
     if !reaches(t, k, high) {
@@ -46,7 +46,7 @@ impl Table {
         u64::from(self.by_exponent[k as usize - 2][mm as usize])
     }
 
-    /// "LS = t·S", or too long.
+    /// LS = t·S, or too long.
     pub fn factor(&self, length: u64, q: i64, side: i64) -> u32 {
         let mm = millimetres(length, side);
         if mm > LONGEST_MM {

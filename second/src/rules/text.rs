@@ -1,10 +1,9 @@
-//! The reader of text grids: words, header, numbers and their refusals.
-//! States document 01, "The text".
+//! The reader of text grids: words, header, numbers and their refusals. States docs/RULES.md, 2 The text.
 
-use crate::grid::{Shape, HIGHEST, LARGEST_SIDE, LOWEST, MOST_ROWS, NODATA};
-use crate::refusal::{self, refuse, Refusal};
+use super::grid::{Shape, HIGHEST, LARGEST_SIDE, LOWEST, MOST_ROWS, NODATA};
+use super::refusal::{self, refuse, Refusal};
 
-/// "answers rows, columns, side and NoData number in cm".
+/// What a reader call answers: rows and columns, side and NoData number in cm.
 #[derive(Clone, Copy, Debug, PartialEq, Eq)]
 pub struct Header {
     pub shape: Shape,
@@ -12,23 +11,23 @@ pub struct Header {
     pub nodata: i64,
 }
 
-/// "absent: -9999", in cm.
+/// The NoData number where the header has none, in cm.
 const USUAL_NODATA: i64 = -999_900;
 
-/// A word and "the offset of its first byte".
+/// A word and the offset of its first byte.
 struct Word<'a> {
     place: usize,
     bytes: &'a [u8],
 }
 
-/// "words are read left to right, each from where the last ended".
+/// Words are read left to right, each from where the last ended.
 #[derive(Clone)]
 struct Words<'a> {
     text: &'a [u8],
     at: usize,
 }
 
-/// "Blanks are space, tab, CR, LF".
+/// Blanks are space, tab, CR, LF.
 fn blank(byte: u8) -> bool {
     matches!(byte, b' ' | b'\t' | b'\r' | b'\n')
 }
@@ -38,7 +37,7 @@ impl<'a> Words<'a> {
         Words { text, at: 0 }
     }
 
-    /// "a word is a longest run of other bytes".
+    /// The next word: a longest run of other bytes.
     fn next(&mut self) -> Option<Word<'a>> {
         let text = self.text;
         let place = (self.at..text.len()).find(|&at| !blank(text[at]))?;
@@ -47,13 +46,13 @@ impl<'a> Words<'a> {
         Some(Word { place, bytes: &text[place..end] })
     }
 
-    /// The next word; 9, "text ends too early", at the "text length".
+    /// The next word; 9, text ends too early, at the text length.
     fn wanted(&mut self) -> Result<Word<'a>, Refusal> {
         let length = self.text.len();
         self.next().map_or(refuse(refusal::ENDS, length), Ok)
     }
 
-    /// 6, "header word not the expected one"; "Letter case is ignored".
+    /// 6, header word not the expected one; letter case is ignored.
     fn name(&mut self, expected: &str) -> Result<(), Refusal> {
         let word = self.wanted()?;
         if word.bytes.eq_ignore_ascii_case(expected.as_bytes()) {
@@ -62,7 +61,7 @@ impl<'a> Words<'a> {
         refuse(refusal::NAME, word.place)
     }
 
-    /// "The two counts have 1 to 9 digits only"; 1, "rows or columns 0 or above 1,024".
+    /// The two counts have 1 to 9 digits only; 1, rows or columns 0 or above 1,024.
     fn count(&mut self) -> Result<usize, Refusal> {
         let word = self.wanted()?;
         if !digits(word.bytes, 9) {
@@ -75,20 +74,20 @@ impl<'a> Words<'a> {
         Ok(count)
     }
 
-    /// "Corner numbers are checked for form only."
+    /// Corner numbers are checked for form only.
     fn corner(&mut self) -> Result<(), Refusal> {
         let word = self.wanted()?;
         number(&word).map(|_| ())
     }
 
-    /// "Cell side, NoData and heights become cm exactly": "form, then fineness". Place and cm.
+    /// Cell side, NoData and heights become cm exactly: form, then fineness. Place and cm.
     fn centimetres(&mut self) -> Result<(usize, i64), Refusal> {
         let word = self.wanted()?;
         let cm = number(&word)?.centimetres();
         cm.map_or(refuse(refusal::FINE, word.place), |cm| Ok((word.place, cm)))
     }
 
-    /// 3, "cell side out of range".
+    /// 3, cell side out of range.
     fn side(&mut self) -> Result<i64, Refusal> {
         let (place, cm) = self.centimetres()?;
         if cm < 1 || cm > LARGEST_SIDE {
@@ -97,8 +96,7 @@ impl<'a> Words<'a> {
         Ok(cm)
     }
 
-    /// "then optionally nodata_value and its number (absent: -9999)"; "An eleventh word that begins with a
-    /// letter must be nodata_value".
+    /// Optionally nodata_value and its number; an eleventh word that begins with a letter must be nodata_value.
     fn nodata(&mut self) -> Result<i64, Refusal> {
         let eleventh = self.clone().next();
         if !eleventh.is_some_and(|word| word.bytes[0].is_ascii_alphabetic()) {
@@ -108,7 +106,7 @@ impl<'a> Words<'a> {
         Ok(self.centimetres()?.1)
     }
 
-    /// "A height equal to the NoData number is NoData and becomes -999,900; that test precedes the range."
+    /// A height equal to the NoData number is NoData and becomes -999,900; that test precedes the range.
     fn height(&mut self, nodata: i64) -> Result<i32, Refusal> {
         let (place, cm) = self.centimetres()?;
         if cm == nodata {
@@ -120,7 +118,7 @@ impl<'a> Words<'a> {
         Ok(cm as i32)
     }
 
-    /// "The header is ncols, nrows, xllcorner, yllcorner, cellsize in that order, each followed by its number".
+    /// The header: ncols, nrows, xllcorner, yllcorner, cellsize in that order, each followed by its number.
     fn header(&mut self) -> Result<Header, Refusal> {
         self.name("ncols")?;
         let columns = self.count()?;
@@ -147,14 +145,14 @@ fn value(digits: &[u8]) -> i64 {
     digits.iter().fold(0, |value, digit| 10 * value + i64::from(digit - b'0'))
 }
 
-/// The parts of a number: "an optional minus, 1 to 9 digits, then optionally a point and 1 to 6 digits".
+/// The parts of a number: an optional minus, 1 to 9 digits, then optionally a point and 1 to 6 digits.
 struct Number<'a> {
     minus: bool,
     whole: &'a [u8],
     decimals: &'a [u8],
 }
 
-/// The parts of a well-formed number; 7, "number malformed, a comma included".
+/// The parts of a well-formed number; 7, number malformed, a comma included.
 fn number<'a>(word: &Word<'a>) -> Result<Number<'a>, Refusal> {
     let minus = word.bytes[0] == b'-';
     let unsigned = if minus { &word.bytes[1..] } else { word.bytes };
@@ -168,7 +166,7 @@ fn number<'a>(word: &Word<'a>) -> Result<Number<'a>, Refusal> {
 }
 
 impl Number<'_> {
-    /// The number of metres in cm; "a nonzero digit past the second decimal is too fine".
+    /// The number of metres in cm; a nonzero digit past the second decimal is too fine.
     fn centimetres(&self) -> Option<i64> {
         let digit = |at: usize| self.decimals.get(at).map_or(0, |digit| i64::from(digit - b'0'));
         if (2..self.decimals.len()).any(|at| digit(at) != 0) {
@@ -179,13 +177,13 @@ impl Number<'_> {
     }
 }
 
-/// "One call reads the header alone ... and judges nothing after it".
+/// Reads the header alone and judges nothing after it.
 pub fn read_header(text: &[u8]) -> Result<Header, Refusal> {
     Words::of(text).header()
 }
 
-/// "the other reads the whole text into lent heights": "The lent length is tested right after the header",
-/// and a refusal "changes no lent grid".
+/// Reads the whole text into lent heights. The lent length is tested right after the header, and a refusal changes no
+/// lent grid.
 pub fn read_grid(text: &[u8], lent: &mut [i32]) -> Result<Header, Refusal> {
     let mut words = Words::of(text);
     let header = words.header()?;
@@ -198,4 +196,48 @@ pub fn read_grid(text: &[u8], lent: &mut [i32]) -> Result<Header, Refusal> {
     }
     lent.copy_from_slice(&heights);
     Ok(header)
+}
+
+#[cfg(test)]
+mod tests {
+    use super::*;
+    use crate::texts::cases::{Example, PIT};
+
+    /// The refusal of a text, as number and place.
+    fn refused(text: &[u8]) -> (u32, usize) {
+        read_header(text).map_err(|Refusal { number, place }| (number, place)).unwrap_err()
+    }
+
+    /// docs/RULES.md, 8 Small fields.
+    #[test]
+    fn heights() {
+        let height = |word| {
+            let mut lent = [0];
+            read_grid(&Example(1, 1, "10", word).text(), &mut lent).map(|_| lent[0])
+        };
+        let refused = |number| Err(Refusal { number, place: 52 });
+        assert_eq!((height("12.5000"), height("-0"), height("12.505")), (Ok(1_250), Ok(0), refused(8)));
+        assert_eq!(["12,5", ".5", "5.", "+5"].map(height), [refused(7); 4]);
+        assert_eq!((height("-500"), height("-500.01"), height("-9999")), (Ok(LOWEST as i32), refused(5), Ok(NODATA)));
+    }
+
+    #[test]
+    fn headers() {
+        assert_eq!((refused(b""), refused(b" \n"), refused(b"ncols 0")), ((9, 0), (9, 2), (1, 6)));
+        assert_eq!((refused(b"ncols 3 nro"), refused(b"ncols 3 nrows")), ((6, 8), (9, 13)));
+        let header = b"NCOLS 2\r\nnRows\t003 xllcorner 0.5 yllcorner -1 cellsize 1.25 NODATA_value -0.01 ?";
+        let read = Header { shape: Shape { rows: 3, columns: 2 }, side: 125, nodata: -1 };
+        assert_eq!(read_header(header), Ok(read));
+    }
+
+    /// The lent length is tested right after the header; a refusal changes no lent grid.
+    #[test]
+    fn lent_heights() {
+        let mut lent = [7; 3];
+        let mut refused = |text: &[u8]| read_grid(text, &mut lent).map_err(|Refusal { number, place }| (number, place));
+        assert_eq!(refused(PIT.as_bytes()), Err((2, 0)));
+        assert_eq!(refused(&Example(3, 1, "10", "1 2 x").text()), Err((7, 56)));
+        assert_eq!(refused(&Example(3, 1, "10", "1 2 3 4").text()), Err((10, 58)));
+        assert_eq!(lent, [7; 3]);
+    }
 }

@@ -1,14 +1,14 @@
 //! The fast map against the literal one, over seeded fields and small terrains. Serves the self-check.
 
-use crate::factor::slope_length_factor;
+use super::second_ways::any_settings;
 use crate::fast::{self, Table};
-use crate::fields::{self, Field};
-use crate::grid::NODATA;
-use crate::map;
-use crate::second_ways::any_settings;
-use crate::seed::Seed;
-use crate::settings::Settings;
-use crate::terrains::{terrain, TERRAINS};
+use crate::rules::factor::slope_length_factor;
+use crate::rules::grid::NODATA;
+use crate::rules::map;
+use crate::rules::settings::Settings;
+use crate::texts::fields::{self, Field};
+use crate::texts::seed::Seed;
+use crate::texts::terrains::{terrain, TERRAINS};
 
 /// The size of the small terrains.
 const SIZE: usize = 40;
@@ -44,8 +44,8 @@ pub fn agree(number: usize) {
         let field = fields::field(&mut seed, case % fields::RELIEFS.len(), shape);
         same(&table, &field, any_settings(&mut seed));
     }
-    for (name, ..) in TERRAINS {
-        let field = terrain(name, SIZE, 1).expect("a terrain has its name");
+    for kind in 0..TERRAINS.len() {
+        let field = terrain(kind, SIZE, 1);
         same(&table, &field, any_settings(&mut Seed::of(3, 0)));
     }
 }

@@ -1,7 +1,7 @@
-//! Directions and steepness. States document 01, "Filling and directions", its paragraph on codes.
+//! Directions and steepness. States docs/RULES.md, 4.3 Directions and 4.4 Flats.
 
-use crate::fill::rim;
-use crate::grid::{Shape, Side, NODATA};
+use super::fill::rim;
+use super::grid::{Bearing, Shape, NODATA};
 
 /// The code of a cell that leaves the map, and of a NoData cell.
 pub const LEAVES: u8 = 0;
@@ -13,30 +13,30 @@ pub struct Flow {
     pub steepness: Vec<i64>,
 }
 
-/// "steepness is 2·d·d in a cardinal direction and d·d in a diagonal one".
-fn steepness(side: &Side, drop: i64) -> i64 {
-    if side.diagonal() { drop * drop } else { 2 * drop * drop }
+/// Steepness is 2·d·d in a cardinal direction and d·d in a diagonal one.
+fn steepness(bearing: &Bearing, drop: i64) -> i64 {
+    if bearing.diagonal() { drop * drop } else { 2 * drop * drop }
 }
 
-/// "The direction is the lower neighbour of greatest steepness; on a tie, the first in the order of the codes":
+/// The direction is the lower neighbour of greatest steepness; on a tie, the first in the order of the codes:
 /// code and steepness, or nothing without a lower neighbour.
 fn steepest(shape: Shape, filled: &[i32], cell: usize) -> Option<(u8, i64)> {
     let mut best = None;
-    for (side, next) in shape.neighbours(cell) {
-        // "A lower neighbour is a valid one of lower filled height."
+    for (bearing, next) in shape.neighbours(cell) {
+        // A lower neighbour is a valid one of lower filled height.
         if filled[next] == NODATA || filled[next] >= filled[cell] {
             continue;
         }
-        let steep = steepness(side, i64::from(filled[cell]) - i64::from(filled[next]));
+        let steep = steepness(bearing, i64::from(filled[cell]) - i64::from(filled[next]));
         if best.is_none_or(|(_, greatest)| steep > greatest) {
-            best = Some((side.code, steep));
+            best = Some((bearing.code, steep));
         }
     }
     best
 }
 
-/// "the fewest steps, over valid cells of its own filled height, to a cell with a lower neighbour or to a rim
-/// cell", in rounds: a cell not reached before round n with an equal neighbour reached in round n - 1 has n.
+/// The fewest steps, over valid cells of its own filled height, to a cell with a lower neighbour or to a rim
+/// cell, in rounds: a cell not reached before round n with an equal neighbour reached in round n - 1 has n.
 fn fewest_steps(shape: Shape, filled: &[i32], ends: &[bool]) -> Vec<Option<usize>> {
     let mut steps: Vec<Option<usize>> = ends.iter().map(|&end| end.then_some(0)).collect();
     let mut round = 0;
@@ -55,7 +55,7 @@ fn fewest_steps(shape: Shape, filled: &[i32], ends: &[bool]) -> Vec<Option<usize
     }
 }
 
-/// "it points at the first neighbour of equal height, in code order, that is one step nearer".
+/// A flat cell points at the first neighbour of equal height, in code order, that is one step nearer.
 fn across_flat(shape: Shape, filled: &[i32], steps: &[Option<usize>], cell: usize) -> u8 {
     let own = steps[cell].expect("every valid cell has a run to the rim");
     let nearer = |next: usize| filled[next] == filled[cell] && steps[next] == Some(own - 1);
@@ -63,7 +63,7 @@ fn across_flat(shape: Shape, filled: &[i32], steps: &[Option<usize>], cell: usiz
     found.expect("a fewest number of steps has a first step").0.code
 }
 
-/// Each cell's direction and steepness: "Cells without a lower neighbour have steepness q = 0."
+/// Each cell's direction and steepness; cells without a lower neighbour have steepness q = 0.
 pub fn flow(shape: Shape, ground: &[i32], filled: &[i32]) -> Flow {
     let cells = 0..shape.cells();
     let valid = |cell: usize| filled[cell] != NODATA;
@@ -74,7 +74,7 @@ pub fn flow(shape: Shape, ground: &[i32], filled: &[i32]) -> Flow {
     let direction = |cell: usize| match lower[cell] {
         _ if !valid(cell) => NO_DIRECTION,
         Some((code, _)) => code,
-        // "A rim cell with no lower neighbour has 0."
+        // A rim cell with no lower neighbour has 0.
         None if rim(shape, ground, cell) => LEAVES,
         None => across_flat(shape, filled, &steps, cell),
     };

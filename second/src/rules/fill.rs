@@ -1,9 +1,8 @@
-//! Rim cells and filled heights, relaxed to a fixed point. States document 01, "Filling and directions",
-//! its first paragraph.
+//! Rim cells and filled heights, relaxed to a fixed point. States docs/RULES.md, 4.1 and 4.2.
 
-use crate::grid::{Shape, NODATA};
+use super::grid::{Shape, NODATA};
 
-/// "A rim cell is a valid cell on the grid's edge or beside a NoData cell."
+/// A rim cell is a valid cell on the grid's edge or beside a NoData cell.
 pub fn rim(shape: Shape, ground: &[i32], cell: usize) -> bool {
     let beside = || shape.neighbours(cell).any(|(_, next)| ground[next] == NODATA);
     ground[cell] != NODATA && (shape.on_edge(cell) || beside())
@@ -22,8 +21,8 @@ fn known(shape: Shape, ground: &[i32], filled: &[i32], cell: usize) -> i32 {
     onward.max(ground[cell])
 }
 
-/// "Filled height: over all runs of valid neighbours from the cell to a rim cell, the least possible greatest
-/// ground height on the run, both ends counted." Sweeps until nothing changes.
+/// Filled height: over all runs of valid neighbours from the cell to a rim cell, the least possible greatest
+/// ground height on the run, both ends counted. Sweeps until nothing changes.
 pub fn filled(shape: Shape, ground: &[i32]) -> Vec<i32> {
     let mut filled = vec![NO_RUN; shape.cells()];
     let mut changed = true;

@@ -1,10 +1,10 @@
 //! The seven terrains of full size, from a seed and for any size: rough, flat and hostile ones, each with NoData.
-//! Serves document 01 from "Filling and directions" to "LS" at full size; written as texts of "The text".
+//! Serves docs/RULES.md, 4 to 6, at full size.
 
-use crate::fields::{wound, Field};
-use crate::grid::{Shape, HIGHEST, LOWEST};
-use crate::seed::Seed;
-use crate::spelling::{text, Manner};
+use super::fields::{wound, Field};
+use super::seed::Seed;
+use super::spelling::{text, Manner};
+use crate::rules::grid::{Shape, HIGHEST, LOWEST};
 
 /// The heights of a square of this size.
 type Relief = fn(&mut Seed, usize) -> Vec<i64>;
@@ -23,7 +23,7 @@ pub const TERRAINS: [(&str, Relief, Holes); 7] = [
     ("comb", comb, sea),
 ];
 
-/// "cellsize": 10 m.
+/// The cell side in cm: 10 m.
 const SIDE: i64 = 1_000;
 
 /// Heights by row and column.
@@ -159,20 +159,24 @@ fn sea(_: &mut Seed, size: usize) -> Vec<bool> {
     (0..size * size).map(|cell| cell / size < coast(size)).collect()
 }
 
-/// A terrain by its name.
-pub fn terrain(name: &str, size: usize, seed: u64) -> Option<Field> {
-    let kind = TERRAINS.iter().position(|&(known, ..)| known == name)?;
+/// Which terrain has this name.
+pub fn kind(name: &str) -> Option<usize> {
+    TERRAINS.iter().position(|&(known, ..)| known == name)
+}
+
+/// The terrain of a kind.
+pub fn terrain(kind: usize, size: usize, seed: u64) -> Field {
     let (_, relief, holes) = TERRAINS[kind];
     let mut seed = Seed::of(seed, kind as u64);
     let ground = relief(&mut seed, size);
     let holes = holes(&mut seed, size);
     let height = |(&height, &hole): (&i64, &bool)| (!hole).then_some(height.clamp(LOWEST, HIGHEST));
     let heights = ground.iter().zip(&holes).map(height).collect();
-    Some(Field { shape: Shape { rows: size, columns: size }, side: SIDE, nodata: Some(-999_900), heights })
+    Field { shape: Shape { rows: size, columns: size }, side: SIDE, nodata: Some(-999_900), heights }
 }
 
 /// A terrain's text.
-pub fn terrain_text(name: &str, size: usize, seed: u64) -> Option<Vec<u8>> {
-    let field = terrain(name, size, seed)?;
-    Some(text(&mut Seed::of(seed, 0), Manner::Plain, &field).bytes)
+pub fn terrain_text(kind: usize, size: usize, seed: u64) -> Vec<u8> {
+    let field = terrain(kind, size, seed);
+    text(&mut Seed::of(seed, 0), Manner::Plain, &field).bytes
 }

@@ -1,7 +1,7 @@
-//! Fields written as texts, in all the spellings that document 01, "The text", allows.
+//! Fields written as texts, in all the spellings that docs/RULES.md, 2 The text, allows.
 
-use crate::fields::Field;
-use crate::seed::Seed;
+use super::fields::Field;
+use super::seed::Seed;
 
 /// How a text is written.
 #[derive(Clone, Copy, PartialEq, Eq)]
@@ -53,7 +53,7 @@ fn count(seed: &mut Seed, manner: Manner, count: usize) -> Vec<u8> {
     format!("{before}{digits}").into_bytes()
 }
 
-/// "Letter case is ignored."
+/// Letter case is ignored.
 fn name(seed: &mut Seed, manner: Manner, name: &str) -> Vec<u8> {
     let kind = if manner == Manner::Plain { 0 } else { seed.below(4) };
     let letter = |letter: u8, seed: &mut Seed| match kind {

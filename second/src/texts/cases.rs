@@ -1,20 +1,20 @@
-//! Streams of cases: document 01's own examples first ("Small fields"), then fields and hostile texts in turn; and the
+//! Streams of cases: the examples of docs/RULES.md, 8 Small fields, then fields and hostile texts in turn; and the
 //! framing of a stream, a line with the length in bytes before each text.
 
-use crate::fields;
-use crate::hostile;
-use crate::seed::Seed;
-use crate::sheet::MOST_BYTES;
-use crate::spelling::{text, Manner};
+use super::fields;
+use super::hostile;
+use super::seed::Seed;
+use super::spelling::{text, Manner};
+use crate::rules::sheet::MOST_BYTES;
 use std::io;
 
-/// The pit, as document 01 writes it.
+/// The pit of docs/RULES.md, 9.3.
 pub const PIT: &str = "ncols 3 nrows 3 xllcorner 0 yllcorner 0 cellsize 10\n5 5 5\n5 2 4\n5 5 5\n";
 
 /// A small text: columns, rows, side and heights in metres.
 pub struct Example(pub usize, pub usize, pub &'static str, pub &'static str);
 
-/// The other examples of "Small fields", then fields and words at the bounds of the rules.
+/// The other examples of 8 Small fields, then fields and words at the bounds of the rules.
 pub const EXAMPLES: [Example; 24] = [
     Example(1, 1, "10", "0"),
     Example(4, 1, "10", "9 8 7 5"),
@@ -100,4 +100,24 @@ pub fn texts(mut stream: &[u8]) -> io::Result<Vec<&[u8]>> {
         stream = &stream[end + 1 + length..];
     }
     Ok(texts)
+}
+
+#[cfg(test)]
+mod tests {
+    use super::*;
+
+    #[test]
+    fn framing_and_its_reading_agree() {
+        let stream = stream(1, 60);
+        let texts = texts(&stream).expect("a stream is framed");
+        assert!(texts.iter().enumerate().all(|(number, &text)| text == case(1, number)));
+        assert_eq!(texts.len(), 60);
+    }
+
+    #[test]
+    fn streams_that_are_not_framed() {
+        let wrong: [&[u8]; 5] = [b"3", b"x\nabc", b"4\nabc", b"-1\n", b"2\nabc"];
+        wrong.iter().for_each(|stream| assert!(texts(stream).is_err()));
+        assert_eq!(texts(b"0\n2\na\n").expect("two texts"), [&b""[..], b"a\n"]);
+    }
 }

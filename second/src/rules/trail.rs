@@ -1,8 +1,7 @@
-//! Trails, flow counts and the longest trail, each trail walked cell by cell. States document 01, "Filling and
-//! directions", its paragraphs on trails and flow count.
+//! Trails, flow counts and the longest trail, each trail walked cell by cell. States docs/RULES.md, 4.5.
 
-use crate::direction::NO_DIRECTION;
-use crate::grid::{side_of, Shape};
+use super::direction::NO_DIRECTION;
+use super::grid::{bearing_of, Shape};
 
 /// Flow counts and the longest trail in steps between cells.
 pub struct Trails {
@@ -10,18 +9,18 @@ pub struct Trails {
     pub longest: usize,
 }
 
-/// "it goes on to the neighbour that the direction points at; at a cell with direction 0 it ends".
+/// Where a trail goes on: to the neighbour that the direction points at. At a cell with direction 0 it ends.
 pub fn onward(shape: Shape, direction: &[u8], cell: usize) -> Option<usize> {
-    side_of(direction[cell]).and_then(|side| shape.neighbour(cell, side))
+    bearing_of(direction[cell]).and_then(|bearing| shape.neighbour(cell, bearing))
 }
 
-/// "A trail begins at a valid cell": all its cells, the first one included.
+/// All cells of the trail that begins at a valid cell, the first one included.
 fn trail(shape: Shape, direction: &[u8], cell: usize) -> Vec<usize> {
     std::iter::successors(Some(cell), |&at| onward(shape, direction, at)).collect()
 }
 
-/// "Flow count: the number of valid cells whose trail passes the cell, itself included"; "the longest trail, in
-/// steps between cells; leaving the map is no step, and an empty map has 0".
+/// Flow counts, the number of valid cells whose trail passes the cell, itself included; and the longest trail in steps
+/// between cells: leaving the map is no step, and an empty map has 0.
 pub fn trails(shape: Shape, direction: &[u8]) -> Trails {
     let mut count = vec![0; shape.cells()];
     let mut longest = 0;

@@ -1,4 +1,4 @@
-//! Whole numbers of any size, as far as the power rule of document 01, "LS", needs them: products, powers, order.
+//! Whole numbers of any size, as far as the power rule of docs/RULES.md, 6.2 L, needs them: products, powers, order.
 
 use std::cmp::Ordering;
 
@@ -49,5 +49,34 @@ impl Ord for Big {
 impl PartialOrd for Big {
     fn partial_cmp(&self, other: &Big) -> Option<Ordering> {
         Some(self.cmp(other))
+    }
+}
+
+#[cfg(test)]
+mod tests {
+    use super::*;
+
+    /// The limbs of a number of 128 bits.
+    fn limbs(number: u128) -> Vec<u32> {
+        Big::trimmed((0..4).map(|limb| (number >> (32 * limb)) as u32).collect()).0
+    }
+
+    #[test]
+    fn products_and_powers_as_in_128_bits() {
+        let numbers = [0, 1, 2, 100, 0xFFFF_FFFF, 0x1_0000_0000, 2_212_848, u64::MAX];
+        for a in numbers {
+            for b in numbers {
+                assert_eq!(Big::of(a).times(&Big::of(b)).0, limbs(u128::from(a) * u128::from(b)));
+                assert_eq!(Big::of(a).cmp(&Big::of(b)), a.cmp(&b));
+            }
+        }
+        assert_eq!(Big::of(2_212_848).power(5).0, limbs(2_212_848_u128.pow(5)));
+        assert!(Big::of(0).power(0) == Big::of(1));
+    }
+
+    #[test]
+    fn order_past_128_bits() {
+        let (high, low) = (Big::of(3).power(200), Big::of(2).power(316));
+        assert!(low < high && high < low.times(&Big::of(2)));
     }
 }

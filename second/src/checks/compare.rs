@@ -1,7 +1,7 @@
 //! The comparison with another printer: one process for each text, its output against this program's sheet.
 
-use crate::cases::case;
-use crate::sheet::sheet;
+use crate::rules::sheet::sheet;
+use crate::texts::cases::case;
 use std::io::{self, Write};
 use std::path::PathBuf;
 use std::process::{Command, Stdio};
@@ -41,12 +41,11 @@ fn report(number: usize, text: &[u8], printed: &[u8], expected: &str) -> io::Res
 }
 
 /// Compares the first cases of a seed; stops at the first difference.
-pub fn compare(seed: u64, cases: usize, printer: &str) -> io::Result<()> {
-    let words: Vec<&str> = printer.split_whitespace().collect();
+pub fn compare(seed: u64, cases: usize, printer: &[&str]) -> io::Result<()> {
     for number in 0..cases {
         let text = case(seed, number);
         let expected = sheet(&text);
-        let printed = printed(&words, &text)?;
+        let printed = printed(printer, &text)?;
         if printed != expected.as_bytes() {
             return report(number, &text, &printed, &expected);
         }

@@ -1,5 +1,5 @@
-//! The map once more in near-linear time, for grids of full size. States document 01 from "Filling and directions" to
-//! "LS", as `map.rs` does; the self-check holds the two together.
+//! The map once more in near-linear time, for grids of full size. States docs/RULES.md, 4 to 6, as `rules/` does; the
+//! self-check holds the two together.
 
 mod downhill;
 mod flood;
@@ -7,12 +7,12 @@ mod flow;
 mod land;
 mod table;
 
-use crate::direction::Flow;
-use crate::factor::NO_FACTOR;
-use crate::grid::Shape;
-use crate::map::{judge, Map};
-use crate::refusal::Refusal;
-use crate::settings::Settings;
+use crate::rules::direction::Flow;
+use crate::rules::factor::NO_FACTOR;
+use crate::rules::grid::Shape;
+use crate::rules::map::{judge, Map};
+use crate::rules::refusal::Refusal;
+use crate::rules::settings::Settings;
 use downhill::Downhill;
 use land::Land;
 pub use table::Table;

@@ -1,12 +1,12 @@
 //! Hostile texts for every refusal that the printer can give: each names the refusal that it asks for, where that is
-//! known. States document 01, "Numbers of refusal", by examples.
+//! known. States docs/RULES.md, 3 Numbers of refusal, by examples.
 
-use crate::fields::{self, Field};
-use crate::grid::Shape;
-use crate::refusal::{self, Refusal};
-use crate::seed::Seed;
-use crate::sheet::{MOST_BYTES, MOST_CELLS};
-use crate::spelling::{self, Manner, Text};
+use super::fields::{self, Field};
+use super::seed::Seed;
+use super::spelling::{self, Manner, Text};
+use crate::rules::grid::Shape;
+use crate::rules::refusal::{self, Refusal};
+use crate::rules::sheet::{MOST_BYTES, MOST_CELLS};
 
 /// A text and what its reading must give, unless that is left to the reader.
 pub struct Hostile {
@@ -140,7 +140,7 @@ fn spoiled(seed: &mut Seed, fails: Fails) -> Hostile {
     faulty(seed, &field, &[fault])
 }
 
-/// "Words are judged in order, and the first fault decides".
+/// Words are judged in order, and the first fault decides.
 fn two_faults(seed: &mut Seed) -> Hostile {
     let kinds: [Fails; 7] =
         [wrong_name, malformed_count, count_out_of_range, malformed, too_fine, side_out_of_range, height_out_of_range];
@@ -167,7 +167,7 @@ fn refused(bytes: &[u8], number: u32, place: usize) -> Hostile {
     Hostile { bytes: bytes.to_vec(), known: Some(Err(Refusal { number, place })) }
 }
 
-/// "An eleventh word that begins with a letter must be nodata_value."
+/// An eleventh word that begins with a letter must be nodata_value.
 fn wrong_eleventh(seed: &mut Seed) -> Hostile {
     let mut field = small(seed);
     field.nodata = None;
@@ -184,7 +184,7 @@ fn ends_early(seed: &mut Seed) -> Hostile {
     refused(&text.bytes, refusal::ENDS, text.bytes.len())
 }
 
-/// "a word after the last height", whatever it is.
+/// A word after the last height, whatever it is.
 fn word_after(seed: &mut Seed) -> Hostile {
     let (field, manner) = (small(seed), manner(seed));
     let mut words = spelling::words(seed, manner, &field);

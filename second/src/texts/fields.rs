@@ -1,7 +1,7 @@
-//! Fields from a seed: grounds of every kind that document 01, "Filling and directions" and "Length", tells apart.
+//! Fields from a seed: grounds of every kind that docs/RULES.md, 4 Filling and directions and 5 Length, tells apart.
 
-use crate::grid::{Shape, HIGHEST, LOWEST};
-use crate::seed::Seed;
+use super::seed::Seed;
+use crate::rules::grid::{Shape, HIGHEST, LOWEST};
 
 /// A field before it is written as a text: heights in cm, none for NoData; the NoData number as the header gives it.
 #[derive(Clone)]

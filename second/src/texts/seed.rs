@@ -38,3 +38,21 @@ impl Seed {
         &choices[self.below(choices.len())]
     }
 }
+
+#[cfg(test)]
+mod tests {
+    use super::*;
+
+    /// The first numbers of splitmix64 from 1234567, as its authors' code gives them.
+    #[test]
+    fn numbers_of_a_known_seed() {
+        let mut seed = Seed(1_234_567);
+        assert_eq!([seed.next(), seed.next()], [6_457_827_717_110_365_317, 3_203_168_211_198_807_973]);
+    }
+
+    #[test]
+    fn numbers_stay_within_bounds() {
+        let mut seed = Seed::of(1, 2);
+        assert!((0..1_000).all(|_| (-3..=4).contains(&seed.between(-3, 4)) && seed.below(7) < 7));
+    }
+}

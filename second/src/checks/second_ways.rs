@@ -1,18 +1,18 @@
 //! The rules in a second way, over seeded fields: filled heights by thresholds, flats by a search from each cell,
 //! counts by sums, lengths by sweeps, L in words of 128 bits. Serves the self-check.
 
-use crate::direction::NO_DIRECTION;
-use crate::factor::slope_length_factor;
-use crate::fields::{self, Field};
-use crate::fill::rim;
-use crate::grid::{Shape, NODATA};
-use crate::length::Terrain;
-use crate::map::{map, Map};
-use crate::seed::Seed;
-use crate::settings::{percents, Channel, Settings};
-use crate::spelling::{text, Manner};
-use crate::text::{read_grid, read_header};
-use crate::trail::onward;
+use crate::rules::direction::NO_DIRECTION;
+use crate::rules::factor::slope_length_factor;
+use crate::rules::fill::rim;
+use crate::rules::grid::{Shape, NODATA};
+use crate::rules::length::Terrain;
+use crate::rules::map::{map, Map};
+use crate::rules::settings::{percents, Channel, Settings};
+use crate::rules::text::{read_grid, read_header};
+use crate::rules::trail::onward;
+use crate::texts::fields::{self, Field};
+use crate::texts::seed::Seed;
+use crate::texts::spelling::{text, Manner};
 
 /// L without powers above the fifth, where both sides are the same power, and else in 128 bits where they fit.
 fn reaches_in_words(t: u128, k: u32, mm: u128) -> Option<bool> {
@@ -95,7 +95,7 @@ fn flats_by_search(shape: Shape, ground: &[i32], map: &Map) {
         let steps = steps_by_search(shape, ground, map, cell);
         let equal = |next: usize| map.filled[next] == map.filled[cell];
         let nearer = |next: usize| equal(next) && steps_by_search(shape, ground, map, next) + 1 == steps;
-        let first = shape.neighbours(cell).find(|&(_, next)| nearer(next)).map(|(side, _)| side.code);
+        let first = shape.neighbours(cell).find(|&(_, next)| nearer(next)).map(|(bearing, _)| bearing.code);
         assert_eq!(Some(map.flow.direction[cell]), first);
     }
 }

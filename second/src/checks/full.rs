@@ -1,12 +1,12 @@
 //! The comparison at full size: each terrain's text to a program that writes the grids, and every cell of them against
-//! the fast map. Serves document 01 from "Filling and directions" to "LS".
+//! the fast map. Serves docs/RULES.md, 4 to 6.
 
 use crate::fast::{self, Table};
-use crate::grid::Shape;
-use crate::map::Map;
-use crate::settings::{Channel, Settings};
-use crate::terrains::{terrain_text, TERRAINS};
-use crate::text::{read_grid, read_header};
+use crate::rules::grid::Shape;
+use crate::rules::map::Map;
+use crate::rules::settings::{Channel, Settings};
+use crate::rules::text::{read_grid, read_header};
+use crate::texts::terrains::{terrain_text, TERRAINS};
 use std::fmt::Debug;
 use std::io;
 use std::path::{Path, PathBuf};
@@ -78,8 +78,9 @@ fn same_grids(folder: &Path, shape: Shape, ground: &[i32], map: &Map) -> io::Res
 }
 
 /// Compares one terrain under every settings; the line that its sheet begins with.
-fn same_terrain(table: &Table, name: &str, size: usize, program: &[&str], made: &Path) -> io::Result<String> {
-    let text = terrain_text(name, size, 1).ok_or_else(|| fault(format!("no terrain {name}")))?;
+fn same_terrain(table: &Table, kind: usize, size: usize, program: &[&str], made: &Path) -> io::Result<String> {
+    let (name, ..) = TERRAINS[kind];
+    let text = terrain_text(kind, size, 1);
     let file = made.join(format!("{name}-{size}.asc"));
     std::fs::write(&file, &text)?;
     let grids = made.join("grids");
@@ -103,13 +104,12 @@ fn same_terrain(table: &Table, name: &str, size: usize, program: &[&str], made: 
 }
 
 /// Compares the seven terrains of one size; stops at the first difference.
-pub fn compare(size: usize, program: &str) -> io::Result<()> {
-    let words: Vec<&str> = program.split_whitespace().collect();
+pub fn compare(size: usize, program: &[&str]) -> io::Result<()> {
     let made = std::env::current_exe()?.with_file_name("full");
     std::fs::create_dir_all(&made)?;
     let table = Table::new();
-    for (name, ..) in TERRAINS {
-        let line = same_terrain(&table, name, size, &words, &made)?;
+    for (kind, (name, ..)) in TERRAINS.iter().enumerate() {
+        let line = same_terrain(&table, kind, size, program, &made)?;
         println!("{name} {size}: {line}; {} settings, six grids, no difference", SETTINGS.len());
     }
     Ok(())

@@ -1,6 +1,6 @@
-//! A refusal: its number and its place. States document 01, "Numbers of refusal".
+//! A refusal: its number and its place. States docs/RULES.md, 3 Numbers of refusal.
 
-/// "returns number and place".
+/// What a refused call returns.
 #[derive(Clone, Copy, Debug, PartialEq, Eq)]
 pub struct Refusal {
     pub number: u32,

@@ -1,0 +1,8 @@
+//! Comparisons: of the rules with a second way to say them, of the fast map with the literal one, of other programs
+//! with this one.
+
+pub mod compare;
+mod fast_ways;
+pub mod full;
+mod second_ways;
+pub mod selfcheck;

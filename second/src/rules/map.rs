@@ -1,0 +1,135 @@
+//! The map call: from ground heights and settings to the five grids. States docs/RULES.md, 7.2 The map call.
+
+use super::direction::{self, Flow, NO_DIRECTION};
+use super::factor::{Factors, NO_FACTOR};
+use super::fill;
+use super::grid::{Shape, HIGHEST, LARGEST_SIDE, LOWEST, MOST_ROWS, NODATA};
+use super::length::Terrain;
+use super::refusal::{self, refuse, Refusal};
+use super::settings::{percents, Percents, Settings};
+use super::trail;
+
+/// From heights and settings come five grids: filled height, direction, flow count, slope length, LS.
+pub struct Map {
+    pub filled: Vec<i32>,
+    pub flow: Flow,
+    pub count: Vec<u32>,
+    pub length: Vec<u64>,
+    pub factor: Vec<u32>,
+    pub valid: usize,
+    pub longest: usize,
+}
+
+/// The map call tests 1, 2, 3, 4, 5 in that order, 5 at the first bad cell in row order.
+pub fn judge(shape: Shape, side: i64, ground: &[i32], settings: Settings) -> Result<Percents, Refusal> {
+    let good = 1..=MOST_ROWS;
+    if !good.contains(&shape.rows) || !good.contains(&shape.columns) {
+        return refuse(refusal::SHAPE, 0);
+    }
+    if ground.len() != shape.cells() {
+        return refuse(refusal::LENT, 0);
+    }
+    if side < 1 || side > LARGEST_SIDE {
+        return refuse(refusal::SIDE, 0);
+    }
+    let percents = percents(settings)?;
+    let bad = |&height: &i32| height != NODATA && !(LOWEST..=HIGHEST).contains(&i64::from(height));
+    ground.iter().position(bad).map_or(Ok(percents), |cell| refuse(refusal::HEIGHT, cell))
+}
+
+/// LS of every cell; NoData cells have none.
+fn factors(side: i64, flow: &Flow, length: &[u64]) -> Vec<u32> {
+    let mut factors = Factors::default();
+    let factor = |cell: usize| match flow.direction[cell] {
+        NO_DIRECTION => NO_FACTOR,
+        _ => factors.factor(length[cell], flow.steepness[cell], side),
+    };
+    (0..length.len()).map(factor).collect()
+}
+
+/// The map of a ground, or the refusal.
+pub fn map(shape: Shape, side: i64, ground: &[i32], settings: Settings) -> Result<Map, Refusal> {
+    let percents = judge(shape, side, ground, settings)?;
+    let filled = fill::filled(shape, ground);
+    let flow = direction::flow(shape, ground, &filled);
+    let trails = trail::trails(shape, &flow.direction);
+    let length = Terrain { shape, side, flow: &flow, count: &trails.count, percents: &percents }.lengths();
+    let factor = factors(side, &flow, &length);
+    let valid = ground.iter().filter(|&&height| height != NODATA).count();
+    Ok(Map { filled, flow, count: trails.count, length, factor, valid, longest: trails.longest })
+}
+
+#[cfg(test)]
+mod tests {
+    use super::super::settings::{Channel, PRINTER};
+    use super::*;
+
+    /// The map of heights in metres, side 10 m.
+    fn map_of(heights: &str, columns: usize, settings: Settings) -> Map {
+        let cm = |height: &str| (height.parse::<f64>().unwrap() * 100.0).round() as i32;
+        let ground: Vec<i32> = heights.split(' ').map(cm).collect();
+        let shape = Shape { rows: ground.len() / columns, columns };
+        map(shape, 1_000, &ground, settings).expect("an example is accepted")
+    }
+
+    /// Settings without channels.
+    fn cutoffs(low: f64, high: f64) -> Settings {
+        Settings { low, high, channel: Channel::None }
+    }
+
+    /// docs/RULES.md, 8 Small fields.
+    #[test]
+    fn small_fields() {
+        let one = map_of("0", 1, PRINTER);
+        assert_eq!((one.flow.direction[0], one.count[0], one.length[0], one.longest), (0, 1, 5_000, 0));
+        assert_eq!(map_of("9 8 7 5", 4, PRINTER).length, [5_000, 15_000, 25_000, 0]);
+        assert_eq!(map_of("9 8 7 5", 4, cutoffs(1.0, 1.0)).length, [5_000, 15_000, 25_000, 35_000]);
+        assert_eq!(map_of("9 7 6", 3, PRINTER).length, [5_000, 0, 0]);
+        assert_eq!(map_of("9 7 6", 3, cutoffs(0.5, 0.51)).length, [5_000, 15_000, 0]);
+        assert_eq!(map_of("9 8 9 7.59", 2, PRINTER).flow.direction[0], 1);
+        assert_eq!(map_of("9 8 9 7.58", 2, PRINTER).flow.direction[0], 2);
+    }
+
+    #[test]
+    fn ties_go_to_the_first_code() {
+        assert_eq!(map_of("8 9 8", 3, PRINTER).flow.direction, [0, 1, 0]);
+        assert_eq!(map_of("5 5 5 5 5 5 5 5 5", 3, PRINTER).flow.direction, [0, 0, 0, 0, 1, 0, 0, 0, 0]);
+    }
+
+    /// A second drop of 50 cm is half of the first, and not under 5 percent.
+    #[test]
+    fn cuts_at_their_bounds() {
+        assert_eq!(map_of("9 8 7.5", 3, cutoffs(0.5, 1.0)).length[1], 15_000);
+        assert_eq!(map_of("9 8 7.5", 3, cutoffs(1.0, 0.5)).length[1], 0);
+        assert_eq!(map_of("9 8 7.51", 3, cutoffs(1.0, 0.5)).length[1], 15_000);
+        assert_eq!(map_of("9 8 7 6", 4, cutoffs(0.0, 0.0)).length, [5_000, 15_000, 25_000, 0]);
+        assert_eq!(map_of("9 8 9 7.58", 2, cutoffs(1.0, 1.0)).length[3], 19_142);
+    }
+
+    /// A count equal to the bound is no channel's.
+    #[test]
+    fn channels_at_their_bounds() {
+        let cells = Settings { channel: Channel::Cells(2), ..cutoffs(1.0, 1.0) };
+        assert_eq!(map_of("9 8 7 5", 4, cells).length, [5_000, 15_000, 0, 0]);
+        let percentage = Settings { channel: Channel::Percentage(75.0), ..cells };
+        assert_eq!(map_of("9 8 7 5", 4, percentage).length, [5_000, 15_000, 25_000, 0]);
+    }
+
+    /// The map call tests 1, 2, 3, 4, 5 in that order.
+    #[test]
+    fn refusals_in_their_order() {
+        let bad = Settings { low: 2.0, ..PRINTER };
+        let refusal = |rows, columns, side, ground: &[i32], settings| {
+            let answer = map(Shape { rows, columns }, side, ground, settings).map(|_| ());
+            answer.map_err(|Refusal { number, place }| (number, place))
+        };
+        assert_eq!(refusal(0, 1, 0, &[], bad), Err((1, 0)));
+        assert_eq!(refusal(1, 1_025, 0, &[], bad), Err((1, 0)));
+        assert_eq!(refusal(1, 2, 0, &[1_000_000], bad), Err((2, 0)));
+        assert_eq!(refusal(1, 2, 0, &[0, 1_000_000], bad), Err((3, 0)));
+        assert_eq!(refusal(1, 2, 100_001, &[0, 1_000_000], bad), Err((3, 0)));
+        assert_eq!(refusal(1, 2, 1, &[0, 1_000_000], bad), Err((4, 1)));
+        assert_eq!(refusal(1, 2, 1, &[NODATA, 900_001], PRINTER), Err((5, 1)));
+        assert_eq!(refusal(1, 2, 1, &[NODATA, 900_000], PRINTER), Ok(()));
+    }
+}

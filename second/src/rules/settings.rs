@@ -1,0 +1,98 @@
+//! The settings record and its whole percentages. States docs/RULES.md, 7.1 Settings.
+
+use super::refusal::{self, refuse, Refusal};
+
+/// The channel rule is a percentage of the largest flow count, a number of cells, or none.
+#[derive(Clone, Copy)]
+pub enum Channel {
+    Percentage(f64),
+    Cells(u32),
+    None,
+}
+
+/// The settings record holds two cutoffs as 64-bit floats, one for slopes under 5 percent and one for the rest.
+#[derive(Clone, Copy)]
+pub struct Settings {
+    pub low: f64,
+    pub high: f64,
+    pub channel: Channel,
+}
+
+/// The printer's settings: cutoffs 0.5 and no channels.
+pub const PRINTER: Settings = Settings { low: 0.5, high: 0.5, channel: Channel::None };
+
+/// The channel rule with its percentage in tenths.
+#[derive(Clone, Copy)]
+pub enum Rule {
+    Tenths(u64),
+    Cells(u64),
+    None,
+}
+
+/// Accepted settings: cutoffs in whole percent and the channel rule.
+#[derive(Clone, Copy)]
+pub struct Percents {
+    pub low: i64,
+    pub high: i64,
+    pub rule: Rule,
+}
+
+/// The whole percentage n of a cutoff, accepted exactly if it equals the float quotient n / 100, n from 0 to 100.
+fn cutoff(x: f64) -> Option<i64> {
+    (0..=100).find(|&n| x == n as f64 / 100.0)
+}
+
+/// The percentage is a 64-bit float and must equal n / 10 for a whole n from 0 to 1,000.
+fn tenths(x: f64) -> Option<u64> {
+    (0..=1_000).find(|&n| x == n as f64 / 10.0)
+}
+
+/// The channel rule; any 32-bit number of cells is accepted.
+fn rule(channel: Channel) -> Option<Rule> {
+    match channel {
+        Channel::Percentage(x) => tenths(x).map(Rule::Tenths),
+        Channel::Cells(cells) => Some(Rule::Cells(u64::from(cells))),
+        Channel::None => Some(Rule::None),
+    }
+}
+
+/// 4, a setting not accepted: the first bad one of 1 low cutoff, 2 high, 3 channel.
+pub fn percents(settings: Settings) -> Result<Percents, Refusal> {
+    let Some(low) = cutoff(settings.low) else { return refuse(refusal::SETTING, 1) };
+    let Some(high) = cutoff(settings.high) else { return refuse(refusal::SETTING, 2) };
+    let Some(rule) = rule(settings.channel) else { return refuse(refusal::SETTING, 3) };
+    Ok(Percents { low, high, rule })
+}
+
+#[cfg(test)]
+mod tests {
+    use super::*;
+
+    /// The place of the refusal, if these settings are refused.
+    fn place(settings: Settings) -> Result<(), usize> {
+        percents(settings).map(|_| ()).map_err(|refusal| refusal.place)
+    }
+
+    /// A cutoff is accepted exactly if it equals the float quotient n / 100.
+    #[test]
+    fn cutoffs() {
+        assert_eq!([0.29, 1.0, -0.0, 0.07].map(cutoff), [Some(29), Some(100), Some(0), Some(7)]);
+        assert_eq!([0.295, 1.01, -0.01, f64::NAN, 0.1 + 0.2, f64::INFINITY].map(cutoff), [None; 6]);
+    }
+
+    #[test]
+    fn channels() {
+        let channel = |channel| place(Settings { channel, ..PRINTER });
+        assert_eq!([0.0, -0.0, 0.3, 1.0, 99.9, 100.0].map(|x| channel(Channel::Percentage(x))), [Ok(()); 6]);
+        assert_eq!([0.1 + 0.2, 100.1, -0.1, f64::NAN].map(|x| channel(Channel::Percentage(x))), [Err(3); 4]);
+        assert_eq!([0, u32::MAX].map(|cells| channel(Channel::Cells(cells))), [Ok(()); 2]);
+    }
+
+    #[test]
+    fn the_first_bad_one_decides() {
+        let channel = Channel::Percentage(0.05);
+        assert_eq!(place(Settings { low: 2.0, high: 2.0, channel }), Err(1));
+        assert_eq!(place(Settings { low: 0.5, high: 0.005, channel }), Err(2));
+        assert_eq!(place(Settings { low: 0.5, high: 0.5, channel }), Err(3));
+    }
+}

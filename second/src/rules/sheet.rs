@@ -1,0 +1,95 @@
+//! The printer's sheet of one text. States docs/RULES.md, 9 The printed sheet.
+
+use super::factor::{NO_FACTOR, TOO_LONG};
+use super::grid::{Shape, NODATA};
+use super::map::{map, Map};
+use super::refusal::{self, refuse, Refusal};
+use super::settings::PRINTER;
+use super::text::{read_grid, read_header, Header};
+
+/// A text of more bytes gets 11 at this place.
+pub const MOST_BYTES: usize = 32_768;
+
+/// After a good header, more cells get 11 at 0.
+pub const MOST_CELLS: usize = 2_048;
+
+/// The header and heights of a text within the printer's limits.
+pub fn read_small(text: &[u8]) -> Result<(Header, Vec<i32>), Refusal> {
+    if text.len() > MOST_BYTES {
+        return refuse(refusal::PRINTER, MOST_BYTES);
+    }
+    let cells = read_header(text)?.shape.cells();
+    if cells > MOST_CELLS {
+        return refuse(refusal::PRINTER, 0);
+    }
+    let mut ground = vec![0; cells];
+    let header = read_grid(text, &mut ground)?;
+    Ok((header, ground))
+}
+
+/// A cell's row, column, ground, filled, direction, count, length, LS.
+fn cell_line(shape: Shape, ground: &[i32], map: &Map, cell: usize) -> String {
+    let (row, column) = (shape.row(cell), shape.column(cell));
+    if ground[cell] == NODATA {
+        return format!("{row} {column} - - - - - -\n");
+    }
+    let factor = match map.factor[cell] {
+        TOO_LONG => "long".to_string(),
+        NO_FACTOR => unreachable!("a valid cell has a factor"),
+        factor => factor.to_string(),
+    };
+    let (ground, filled, direction) = (ground[cell], map.filled[cell], map.flow.direction[cell]);
+    let (count, length) = (map.count[cell], map.length[cell]);
+    format!("{row} {column} {ground} {filled} {direction} {count} {length} {factor}\n")
+}
+
+/// A line with rows, columns, side, valid cells and longest trail, then each cell's line.
+fn accepted(text: &[u8]) -> Result<String, Refusal> {
+    let (Header { shape, side, .. }, ground) = read_small(text)?;
+    let map = map(shape, side, &ground, PRINTER)?;
+    let first = format!("{} {} {} {} {}\n", shape.rows, shape.columns, side, map.valid, map.longest);
+    let lines = (0..shape.cells()).map(|cell| cell_line(shape, &ground, &map, cell));
+    Ok(std::iter::once(first).chain(lines).collect())
+}
+
+/// The sheet; a refusal prints `refused 7 at 52` and nothing else.
+pub fn sheet(text: &[u8]) -> String {
+    accepted(text).unwrap_or_else(|Refusal { number, place }| format!("refused {number} at {place}\n"))
+}
+
+#[cfg(test)]
+mod tests {
+    use super::*;
+    use crate::texts::cases::{Example, PIT};
+
+    /// docs/RULES.md, 9 The printed sheet.
+    #[test]
+    fn sheet_of_the_pit() {
+        let printed = "3 3 1000 9 2\n\
+            0 0 500 500 2 1 5000 33088\n\
+            0 1 500 500 4 1 5000 54379\n\
+            0 2 500 500 4 1 5000 54379\n\
+            1 0 500 500 1 1 5000 54379\n\
+            1 1 200 400 1 6 0 0\n\
+            1 2 400 400 0 9 5000 4810\n\
+            2 0 500 500 128 1 5000 33088\n\
+            2 1 500 500 64 1 5000 54379\n\
+            2 2 500 500 64 1 5000 54379\n";
+        assert_eq!(sheet(PIT.as_bytes()), printed);
+    }
+
+    #[test]
+    fn long_and_no_data_are_not_numbers() {
+        assert_eq!(sheet(&Example(1, 1, "609.60", "0").text()), "1 1 60960 1 0\n0 0 0 0 0 1 5000 10920\n");
+        assert_eq!(sheet(&Example(1, 1, "609.61", "0").text()), "1 1 60961 1 0\n0 0 0 0 0 1 5000 long\n");
+        assert_eq!(sheet(&Example(1, 1, "10", "-9999").text()), "1 1 1000 0 0\n0 0 - - - - - -\n");
+    }
+
+    #[test]
+    fn refusals_alone() {
+        assert_eq!(sheet(b""), "refused 9 at 0\n");
+        assert_eq!(sheet(&Example(1, 1, "10", "12,5").text()), "refused 7 at 52\n");
+        assert_eq!(sheet(&[b' '; MOST_BYTES + 1]), "refused 11 at 32768\n");
+        assert_eq!(sheet(&Example(64, 33, "10", "?").text()), "refused 11 at 0\n");
+    }
+}

@@ -1,0 +1,8 @@
+//! Fields, terrains and texts from a seed, good and hostile ones.
+
+pub mod cases;
+pub mod fields;
+pub mod hostile;
+pub mod seed;
+pub mod spelling;
+pub mod terrains;
