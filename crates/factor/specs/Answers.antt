@@ -1,4 +1,4 @@
--- RULES 3 and 7.2: what the map call answers, and what each lent grid holds afterwards. Assumes nothing.
+-- RULES 3 and 7.2 to 7.4: what the map call answers, and what each lent grid holds afterwards. Assumes nothing.
 use mathlib.Core.List.{List, [], _∷_}
 use mathlib.Core.Bool.{Bool, true, false}
 use Prim.Native.Nat.{ℕ, _*_}
