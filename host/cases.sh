@@ -2,25 +2,28 @@
 
 head='ncols 3 nrows 3 xllcorner 0 yllcorner 0 cellsize 10'
 
+# The printer's settings.
+printers='--channel none --low 0.5 --high 0.5'
+
 # Sheets that are known: the pit of docs/RULES.md 8; and of the real grids the sums that the second program's sheets have,
 # with its limits of a printer (2,048 cells, 32,768 bytes) lifted for volcano.
 sheets() {
     printf '%s\n5 5 5\n5 2 4\n5 5 5\n' "$head" >pit.asc
-    "$lsmap" pit.asc --channel none --grids grids >out
+    "$lsmap" pit.asc $printers --grids grids >out
     cmp out "$root/host/pit.txt" || fail "the pit's sheet"
-    "$lsmap" - --channel none <pit.asc | cmp - "$root/host/pit.txt" || fail "the pit from standard input"
+    "$lsmap" - $printers <pit.asc | cmp - "$root/host/pit.txt" || fail "the pit from standard input"
     cp pit.asc ./--low
-    "$lsmap" --channel none -- --low | cmp - "$root/host/pit.txt" || fail "a field behind --"
+    "$lsmap" $printers -- --low | cmp - "$root/host/pit.txt" || fail "a field behind --"
     [ "$(cat grids/length.txt)" = 'length rows 3 columns 3 type u64 side 1000' ] || fail "the description of a grid"
     [ "$(od -An -td4 -v grids/filled.bin | tr -s ' \n' ' ')" = ' 500 500 500 500 400 400 500 500 500 ' ] || fail "the filled heights on disk"
     [ "$(od -An -tu4 -v grids/ls.bin | tr -s ' \n' ' ')" = ' 33088 54379 54379 54379 0 4810 33088 54379 54379 ' ] || fail "LS on disk"
     printf 'ncols 2 nrows 1 xllcorner 0 yllcorner 0 cellsize 1000\n-5 -9999\n' >long.asc
     printf '1 2 100000 1 0\n0 0 -500 -500 0 1 5000 long\n0 1 - - - - - -\n' >wanted
-    "$lsmap" long.asc --channel none | cmp - wanted || fail "NoData and too long"
+    "$lsmap" long.asc $printers | cmp - wanted || fail "NoData and too long"
     data=${DATA:-$root/../shared/data}
     [ -d "$data" ] || { echo "host/check: no $data, the real grids are skipped"; return; }
     while read -r name sum; do
-        "$lsmap" "$data/$name.asc" --channel none >out
+        "$lsmap" "$data/$name.asc" $printers >out
         [ "$(cksum <out | cut -d' ' -f1)" = "$sum" ] || fail "the sheet of $name"
     done <"$root/host/sums.txt"
 }
@@ -60,7 +63,9 @@ lengths() {
 
 # The strips of docs/RULES.md 8, by which each flag shows that it reaches the library as the setting that it names.
 settings() {
-    [ "$(lengths '9 8 7 5' --channel none)" = ' 5000 15000 25000 0' ] || fail "cutoffs 0.5"
+    [ "$(lengths '9 8 7 5' --channel none)" = ' 5000 15000 25000 0' ] || fail "the default high cutoff, 0.5"
+    [ "$(lengths '9 8.6 8.44 8.4' --channel none)" = ' 5000 15000 0 0' ] || fail "the default low cutoff, 0.7"
+    [ "$(lengths '9 8.6 8.44 8.4' --channel none --low 0.5)" = ' 5000 0 0 0' ] || fail "the former low cutoff, 0.5"
     [ "$(lengths '9 8 7 5' --channel none --low 1.0 --high 1.0)" = ' 5000 15000 25000 35000' ] || fail "cutoffs 1.0"
     [ "$(lengths '9 7 6' --channel none --high 0.51)" = ' 5000 15000 0' ] || fail "the high cutoff"
     [ "$(lengths '9 8 7 5' --channel none --low 1.0)" = ' 5000 15000 25000 35000' ] || fail "the low cutoff"
@@ -82,8 +87,9 @@ flags() {
     stops 2 '' '--deep: no such flag; --low wants a value; -x: no such flag' --deep 3 pit.asc --low --high 0.5 -x
     stops 2 '' 'one field at a time' pit.asc pit.asc
     stops 2 '' 'no FIELD.asc is named'
-    "$lsmap" pit.asc --verbose 2>&1 >out | grep -qx 'lsmap: low 0.5, high 0.5, channel percent:1' || fail "the defaults"
-    "$lsmap" pit.asc --channel percent:1.0 --low 0.5 --high 0.5 | cmp - out || fail "the defaults as flags"
+    "$lsmap" pit.asc --verbose 2>&1 >out | grep -qx 'lsmap: low 0.7, high 0.5, channel percent:1' || fail "the defaults"
+    "$lsmap" pit.asc --channel percent:1.0 --low 0.7 --high 0.5 | cmp - out || fail "the defaults as flags"
+    "$lsmap" --help | grep -q 'default: low 0.7, high 0.5, channel percent:1;' || fail "the defaults in --help"
     "$lsmap" --help | grep -q 'Exit status' || fail "--help"
     "$lsmap" --version | grep -qx 'lsmap [^ ].*' || fail "--version"
     stops 2 '' 'cannot make pit.asc' pit.asc --grids pit.asc
@@ -91,7 +97,7 @@ flags() {
 
 # The sheet as a file: whole or not at all.
 output() {
-    "$lsmap" pit.asc --channel none --output sheet.txt >out 2>err
+    "$lsmap" pit.asc $printers --output sheet.txt >out 2>err
     cmp sheet.txt "$root/host/pit.txt" || fail "the sheet as a file"
     [ ! -s out ] && [ ! -s err ] || fail "--output prints"
     chmod 640 sheet.txt
@@ -148,7 +154,7 @@ pipes() {
     [ "$got" -eq 2 ] && grep -qx 'lsmap: cannot write sheet.txt: File too large' err || fail "a file that may not grow"
     [ "$(ls -A)" = "$before" ] && cmp sheet.txt before.txt || fail "half a sheet"
     command -v script >out || { echo "host/check: no script(1), the summary is skipped"; return; }
-    script -qec "'$lsmap' --channel none - <pit.asc >sheet.txt" /dev/null | tr -d '\r' >out
+    script -qec "'$lsmap' $printers - <pit.asc >sheet.txt" /dev/null | tr -d '\r' >out
     grep -qxE 'lsmap: 9 cells, 9 valid, longest trail 2, greatest LS 0\.54379, [0-9]+\.[0-9]{2} s' out || fail "the summary: $(cat out)"
     script -qec "'$lsmap' pit.asc 2>err" /dev/null >out
     [ ! -s err ] || fail "a summary for no terminal"

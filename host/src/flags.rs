@@ -127,7 +127,7 @@ pub fn read(words: impl Iterator<Item = OsString>, settings: Settings) -> Result
 mod tests {
     use super::*;
 
-    const DEFAULTS: Settings = Settings { low: 0.5, high: 0.5, kind: 2, cells: 0, percentage: 1.0 };
+    const DEFAULTS: Settings = Settings { low: 0.7, high: 0.5, kind: 2, cells: 0, percentage: 1.0 };
 
     fn asked(line: &str) -> Result<Asked, String> {
         read(line.split_whitespace().map(OsString::from), DEFAULTS)
@@ -151,7 +151,7 @@ mod tests {
     fn a_field_alone_has_the_defaults() {
         let (name, flags) = wanted("a.asc");
         assert_eq!(name, "a.asc");
-        assert_eq!((flags.settings.low, flags.settings.high), (0.5, 0.5));
+        assert_eq!((flags.settings.low, flags.settings.high), (0.7, 0.5));
         assert_eq!(channel_text(&flags.settings), "percent:1");
         assert_eq!((flags.output, flags.grids, flags.verbose), (None, None, false));
     }

@@ -2,26 +2,31 @@
 
 use crate::checks::{compare, full, selfcheck};
 use crate::rules::grid::MOST_ROWS;
+use crate::rules::program::Program;
 use crate::rules::sheet::sheet;
-use crate::texts::{cases, terrains};
+use crate::texts::{cases, telling, terrains};
 use std::io::{self, Read, Write};
 
-pub const USAGE: &str = "usage: second sheet < TEXT
-       second sheets < STREAM
+pub const USAGE: &str = "usage: second sheet [--program PROGRAM] < TEXT    PROGRAM: printer job; printer if not named
+       second sheets [--program PROGRAM] < STREAM
        second cases SEED N
+       second telling SEED N
+       second count-telling < STREAM
        second terrain NAME SIZE SEED     NAME: fractal noise flat plane pit spiral comb; SIZE: 1 to 1024
-       second compare SEED N PRINTER...
+       second compare [--program PROGRAM] SEED N PRINTER...
        second full SIZE PROGRAM...
        second selfcheck";
 
 /// A command with its words read; programs are given as their words.
 #[derive(Debug, PartialEq)]
 pub enum Command<'a> {
-    Sheet,
-    Sheets,
+    Sheet { program: Program },
+    Sheets { program: Program },
     Cases { seed: u64, number: usize },
+    Telling { seed: u64, number: usize },
+    CountTelling,
     Terrain { kind: usize, size: usize, seed: u64 },
-    Compare { seed: u64, number: usize, printer: &'a [&'a str] },
+    Compare { program: Program, seed: u64, number: usize, printer: &'a [&'a str] },
     Full { size: usize, program: &'a [&'a str] },
     Selfcheck,
 }
@@ -42,23 +47,49 @@ fn standard_input() -> io::Result<Vec<u8>> {
 }
 
 /// The sheets of a framed stream, each after a line with its case.
-fn sheets(stream: &[u8]) -> io::Result<String> {
+fn sheets(stream: &[u8], program: Program) -> io::Result<String> {
     let texts = cases::texts(stream)?;
-    Ok(texts.iter().enumerate().map(|(number, text)| format!("case {number}\n{}", sheet(text))).collect())
+    let numbered = |(number, text): (usize, &&[u8])| format!("case {number}\n{}", sheet(text, program.settings()));
+    Ok(texts.iter().enumerate().map(numbered).collect())
+}
+
+/// The number of telling texts in a framed stream.
+fn count_telling(stream: &[u8]) -> io::Result<usize> {
+    Ok(cases::texts(stream)?.iter().filter(|text| telling::is_telling(text)).count())
 }
 
 impl<'a> Command<'a> {
     /// The command of these words, if they are one.
     pub fn of(words: &'a [&'a str]) -> Option<Command<'a>> {
+        match words {
+            [name, "--program", program, words @ ..] => Command::for_program(Program::of(program)?, name, words),
+            [name, rest @ ..] => {
+                Command::for_program(Program::Printer, name, rest).or_else(|| Command::for_itself(words))
+            }
+            [] => None,
+        }
+    }
+
+    /// A command that prints or compares a program's sheets.
+    fn for_program(program: Program, name: &str, words: &'a [&'a str]) -> Option<Command<'a>> {
+        Some(match (name, words) {
+            ("sheet", []) => Command::Sheet { program },
+            ("sheets", []) => Command::Sheets { program },
+            ("compare", [seed, number, printer @ ..]) if !printer.is_empty() => {
+                Command::Compare { program, seed: whole(seed)?, number: whole(number)?, printer }
+            }
+            _ => return None,
+        })
+    }
+
+    /// Any other command.
+    fn for_itself(words: &'a [&'a str]) -> Option<Command<'a>> {
         Some(match words {
-            ["sheet"] => Command::Sheet,
-            ["sheets"] => Command::Sheets,
             ["cases", seed, number] => Command::Cases { seed: whole(seed)?, number: whole(number)? },
+            ["telling", seed, number] => Command::Telling { seed: whole(seed)?, number: whole(number)? },
+            ["count-telling"] => Command::CountTelling,
             ["terrain", name, rows, seed] => {
                 Command::Terrain { kind: terrains::kind(name)?, size: size(rows)?, seed: whole(seed)? }
-            }
-            ["compare", seed, number, printer @ ..] if !printer.is_empty() => {
-                Command::Compare { seed: whole(seed)?, number: whole(number)?, printer }
             }
             ["full", rows, program @ ..] if !program.is_empty() => Command::Full { size: size(rows)?, program },
             ["selfcheck"] => Command::Selfcheck,
@@ -70,11 +101,13 @@ impl<'a> Command<'a> {
     pub fn run(&self) -> io::Result<()> {
         let mut output = io::stdout();
         match *self {
-            Command::Sheet => output.write_all(sheet(&standard_input()?).as_bytes()),
-            Command::Sheets => output.write_all(sheets(&standard_input()?)?.as_bytes()),
-            Command::Cases { seed, number } => output.write_all(&cases::stream(seed, number)),
+            Command::Sheet { program } => output.write_all(sheet(&standard_input()?, program.settings()).as_bytes()),
+            Command::Sheets { program } => output.write_all(sheets(&standard_input()?, program)?.as_bytes()),
+            Command::Cases { seed, number } => output.write_all(&cases::stream(cases::case, seed, number)),
+            Command::Telling { seed, number } => output.write_all(&cases::stream(telling::text, seed, number)),
+            Command::CountTelling => writeln!(output, "{}", count_telling(&standard_input()?)?),
             Command::Terrain { kind, size, seed } => output.write_all(&terrains::terrain_text(kind, size, seed)),
-            Command::Compare { seed, number, printer } => compare::compare(seed, number, printer),
+            Command::Compare { program, seed, number, printer } => compare::compare(program, seed, number, printer),
             Command::Full { size, program } => full::compare(size, program),
             Command::Selfcheck => {
                 selfcheck::selfcheck();
@@ -90,8 +123,9 @@ mod tests {
 
     #[test]
     fn commands_have_their_words() {
-        assert_eq!(Command::of(&["sheet"]), Some(Command::Sheet));
         assert_eq!(Command::of(&["cases", "12", "160"]), Some(Command::Cases { seed: 12, number: 160 }));
+        assert_eq!(Command::of(&["telling", "7", "48"]), Some(Command::Telling { seed: 7, number: 48 }));
+        assert_eq!(Command::of(&["count-telling"]), Some(Command::CountTelling));
         let full = Command::Full { size: 1_024, program: &["valgrind", "lsmap"] };
         assert_eq!(Command::of(&["full", "1024", "valgrind", "lsmap"]), Some(full));
         for (kind, (name, ..)) in terrains::TERRAINS.iter().enumerate() {
@@ -100,11 +134,28 @@ mod tests {
         }
     }
 
+    /// The printer's, where no program is named.
+    #[test]
+    fn commands_for_a_program() {
+        let (printer, job) = (Program::Printer, Program::Job);
+        assert_eq!(Command::of(&["sheet"]), Some(Command::Sheet { program: printer }));
+        assert_eq!(Command::of(&["sheet", "--program", "printer"]), Some(Command::Sheet { program: printer }));
+        assert_eq!(Command::of(&["sheets"]), Some(Command::Sheets { program: printer }));
+        assert_eq!(Command::of(&["sheets", "--program", "job"]), Some(Command::Sheets { program: job }));
+        let compare = |program| Some(Command::Compare { program, seed: 1, number: 10, printer: &["valgrind", "job"] });
+        assert_eq!(Command::of(&["compare", "1", "10", "valgrind", "job"]), compare(printer));
+        assert_eq!(Command::of(&["compare", "--program", "job", "1", "10", "valgrind", "job"]), compare(job));
+    }
+
     #[test]
     fn other_words_are_a_usage_error() {
-        let wrong: [&[&str]; 12] = [
+        let wrong: [&[&str]; 20] = [
             &[],
             &["sheet", "field.asc"],
+            &["sheet", "--program"],
+            &["sheet", "--program", "lsmap"],
+            &["sheets", "--program", "job", "stream"],
+            &["--program", "job", "sheet"],
             &["--help"],
             &["cases", "12"],
             &["cases", "-1", "160"],
@@ -112,7 +163,11 @@ mod tests {
             &["terrain", "hills", "256", "1"],
             &["terrain", "pit", "0", "1"],
             &["terrain", "pit", "1025", "1"],
+            &["cases", "--program", "job", "12", "160"],
+            &["telling", "7"],
             &["compare", "1", "10"],
+            &["compare", "--program", "job", "1", "10"],
+            &["compare", "--program", "Job", "1", "10", "target/bin/job"],
             &["full", "256"],
             &["full", "big", "target/lsmap"],
         ];

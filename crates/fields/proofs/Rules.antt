@@ -48,6 +48,11 @@ edges =
     ∷
     measured 1 4 1000 (rules 50 100 Never) (pos 900 ∷ pos 800 ∷ pos 751 ∷ pos 702 ∷ []) (5000 ∷ 0 ∷ 10000 ∷ 0 ∷ [])
     ∷
+    -- gentle ground, 4 percent before 1.6: the library's low cutoff of 0.7 lets the length go on, the job's 0.5 cuts it
+    measured 1 4 1000 (rules 70 50 Never) (pos 900 ∷ pos 860 ∷ pos 844 ∷ pos 840 ∷ []) (5000 ∷ 15000 ∷ 0 ∷ 0 ∷ [])
+    ∷
+    measured 1 4 1000 (rules 50 50 Never) (pos 900 ∷ pos 860 ∷ pos 844 ∷ pos 840 ∷ []) (5000 ∷ 0 ∷ 0 ∷ 0 ∷ [])
+    ∷
     -- cutoff 0: every fall in slope is a cut, an equal slope is none
     measured 1 4 1000 (rules 0 0 Never) (pos 900 ∷ pos 800 ∷ pos 700 ∷ pos 601 ∷ []) (5000 ∷ 15000 ∷ 0 ∷ 0 ∷ [])
     ∷
@@ -98,4 +103,4 @@ edges =
 pub edges-hold : All edges
 unfolding edges groundDirections mapOf lengthFactor factorOf
 edges-hold =
-    (refl, (refl, (refl, (refl, (refl, (refl, (refl, (refl, (refl, (refl, (refl, (refl, (refl, (refl, (refl, (refl, (refl, (refl, (refl, (refl, (refl, (refl, (refl, (refl, (refl, (refl, (refl, (refl, (refl, (refl, (refl, (refl, (refl, tt)))))))))))))))))))))))))))))))))
+    (refl, (refl, (refl, (refl, (refl, (refl, (refl, (refl, (refl, (refl, (refl, (refl, (refl, (refl, (refl, (refl, (refl, (refl, (refl, (refl, (refl, (refl, (refl, (refl, (refl, (refl, (refl, (refl, (refl, (refl, (refl, (refl, (refl, (refl, (refl, tt)))))))))))))))))))))))))))))))))))

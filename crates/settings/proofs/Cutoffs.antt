@@ -254,7 +254,7 @@ pub settings-examples : All claims
 unfolding claims judgedOf ofBits
 settings-examples = (refl, (refl, (refl, (refl, (refl, (refl, (refl, (refl, (refl, (refl, (refl, (refl, (refl, (refl, (refl, (refl, (refl, (refl, (refl, (refl, (refl, (refl, (refl, (refl, (refl, (refl, (refl, tt)))))))))))))))))))))))))))
 
--- the defaults are accepted, and mean 50, 50 and 10 tenths of a percent
-pub default-means : judgedOf defaultSettings ≡ accepted 50 50 (Share 10)
+-- the defaults are accepted, and mean 70 percent, 50 percent and 10 tenths of a percent
+pub default-means : judgedOf defaultSettings ≡ accepted 70 50 (Share 10)
 unfolding judgedOf defaultSettings
 default-means = refl

@@ -66,7 +66,7 @@ unfoldable pub settingsTest : Settings → Test
 unfolding judgedOf
 settingsTest s = told (judgedOf s)
 
--- Library defaults: 0.5, 0.5, percentage 1.0
+-- the library's defaults: low cutoff 0.7, high cutoff 0.5, percentage 1.0
 unfoldable pub defaultSettings : Settings
 unfolding quotient
-defaultSettings = record { low = quotient 100 50; high = quotient 100 50; channel = Percentage (quotient 10 10) }
+defaultSettings = record { low = quotient 100 70; high = quotient 100 50; channel = Percentage (quotient 10 10) }

@@ -18,12 +18,12 @@ pub struct Settings {
 }
 
 impl Settings {
-    // The library's defaults.
+    // The library's defaults: for gentle ground, under 5 percent, a cutoff of 0.7.
     pub fn default() -> Settings
         ensures { λ r. ⌜ r ≡ defaultSettings ⌝ }
     {
         Settings {
-            low: 0.5,
+            low: 0.7,
             high: 0.5,
             channel: Channel::Percentage(1.0),
         }

@@ -1,7 +1,8 @@
-//! The comparison with another printer: one process for each text, its output against this program's sheet.
+//! The comparison with a program that prints sheets: a process for each text, its output against this program's sheet.
 
+use crate::rules::program::Program;
 use crate::rules::sheet::sheet;
-use crate::texts::cases::case;
+use crate::texts::{cases, telling};
 use std::io::{self, Write};
 use std::path::PathBuf;
 use std::process::{Command, Stdio};
@@ -40,11 +41,20 @@ fn report(number: usize, text: &[u8], printed: &[u8], expected: &str) -> io::Res
     Err(io::Error::other("a difference"))
 }
 
+/// The text of one case: of the stream of cases, and for the job of that and of its telling texts in turn.
+fn case(program: Program, seed: u64, number: usize) -> Vec<u8> {
+    match program {
+        Program::Printer => cases::case(seed, number),
+        Program::Job if number % 2 == 0 => cases::case(seed, number / 2),
+        Program::Job => telling::text(seed, number / 2),
+    }
+}
+
 /// Compares the first cases of a seed; stops at the first difference.
-pub fn compare(seed: u64, cases: usize, printer: &[&str]) -> io::Result<()> {
+pub fn compare(program: Program, seed: u64, cases: usize, printer: &[&str]) -> io::Result<()> {
     for number in 0..cases {
-        let text = case(seed, number);
-        let expected = sheet(&text);
+        let text = case(program, seed, number);
+        let expected = sheet(&text, program.settings());
         let printed = printed(printer, &text)?;
         if printed != expected.as_bytes() {
             return report(number, &text, &printed, &expected);

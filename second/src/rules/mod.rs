@@ -1,4 +1,4 @@
-//! The rules of docs/RULES.md read literally: the reader, the map and the printer's sheet.
+//! The rules of docs/RULES.md read literally: the reader, the map and the sheet.
 
 mod big;
 pub mod direction;
@@ -7,6 +7,7 @@ pub mod fill;
 pub mod grid;
 pub mod length;
 pub mod map;
+pub mod program;
 pub mod refusal;
 pub mod settings;
 pub mod sheet;

@@ -21,6 +21,9 @@ pub struct Settings {
 /// The printer's settings: cutoffs 0.5 and no channels.
 pub const PRINTER: Settings = Settings { low: 0.5, high: 0.5, channel: Channel::None };
 
+/// The job's settings: cutoffs 0.5 and channels from 1 percent of the largest flow count.
+pub const JOB: Settings = Settings { low: 0.5, high: 0.5, channel: Channel::Percentage(1.0) };
+
 /// The channel rule with its percentage in tenths.
 #[derive(Clone, Copy)]
 pub enum Rule {

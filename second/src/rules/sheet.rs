@@ -1,10 +1,10 @@
-//! The printer's sheet of one text. States docs/RULES.md, 9 The printed sheet.
+//! The sheet of one text. States docs/RULES.md, 9 The printed sheet.
 
 use super::factor::{NO_FACTOR, TOO_LONG};
 use super::grid::{Shape, NODATA};
 use super::map::{map, Map};
 use super::refusal::{self, refuse, Refusal};
-use super::settings::PRINTER;
+use super::settings::Settings;
 use super::text::{read_grid, read_header, Header};
 
 /// A text of more bytes gets 11 at this place.
@@ -13,7 +13,7 @@ pub const MOST_BYTES: usize = 32_768;
 /// After a good header, more cells get 11 at 0.
 pub const MOST_CELLS: usize = 2_048;
 
-/// The header and heights of a text within the printer's limits.
+/// The header and heights of a text within the limits of a sheet.
 pub fn read_small(text: &[u8]) -> Result<(Header, Vec<i32>), Refusal> {
     if text.len() > MOST_BYTES {
         return refuse(refusal::PRINTER, MOST_BYTES);
@@ -44,28 +44,34 @@ fn cell_line(shape: Shape, ground: &[i32], map: &Map, cell: usize) -> String {
 }
 
 /// A line with rows, columns, side, valid cells and longest trail, then each cell's line.
-fn accepted(text: &[u8]) -> Result<String, Refusal> {
+fn accepted(text: &[u8], settings: Settings) -> Result<String, Refusal> {
     let (Header { shape, side, .. }, ground) = read_small(text)?;
-    let map = map(shape, side, &ground, PRINTER)?;
+    let map = map(shape, side, &ground, settings)?;
     let first = format!("{} {} {} {} {}\n", shape.rows, shape.columns, side, map.valid, map.longest);
     let lines = (0..shape.cells()).map(|cell| cell_line(shape, &ground, &map, cell));
     Ok(std::iter::once(first).chain(lines).collect())
 }
 
-/// The sheet; a refusal prints `refused 7 at 52` and nothing else.
-pub fn sheet(text: &[u8]) -> String {
-    accepted(text).unwrap_or_else(|Refusal { number, place }| format!("refused {number} at {place}\n"))
+/// The sheet under these settings; a refusal prints `refused 7 at 52` and nothing else.
+pub fn sheet(text: &[u8], settings: Settings) -> String {
+    accepted(text, settings).unwrap_or_else(|Refusal { number, place }| format!("refused {number} at {place}\n"))
 }
 
 #[cfg(test)]
 mod tests {
     use super::*;
+    use crate::rules::settings::{JOB, PRINTER};
     use crate::texts::cases::{Example, PIT};
+
+    /// The printer's sheet.
+    fn printed(text: &[u8]) -> String {
+        sheet(text, PRINTER)
+    }
 
     /// docs/RULES.md, 9 The printed sheet.
     #[test]
     fn sheet_of_the_pit() {
-        let printed = "3 3 1000 9 2\n\
+        let lines = "3 3 1000 9 2\n\
             0 0 500 500 2 1 5000 33088\n\
             0 1 500 500 4 1 5000 54379\n\
             0 2 500 500 4 1 5000 54379\n\
@@ -75,21 +81,37 @@ mod tests {
             2 0 500 500 128 1 5000 33088\n\
             2 1 500 500 64 1 5000 54379\n\
             2 2 500 500 64 1 5000 54379\n";
-        assert_eq!(sheet(PIT.as_bytes()), printed);
+        assert_eq!(printed(PIT.as_bytes()), lines);
+    }
+
+    /// Of 9 cells each is a channel under 1 percent, so the job shows no length.
+    #[test]
+    fn sheet_of_the_pit_under_channels() {
+        let lines = "3 3 1000 9 2\n\
+            0 0 500 500 2 1 0 0\n\
+            0 1 500 500 4 1 0 0\n\
+            0 2 500 500 4 1 0 0\n\
+            1 0 500 500 1 1 0 0\n\
+            1 1 200 400 1 6 0 0\n\
+            1 2 400 400 0 9 0 0\n\
+            2 0 500 500 128 1 0 0\n\
+            2 1 500 500 64 1 0 0\n\
+            2 2 500 500 64 1 0 0\n";
+        assert_eq!(sheet(PIT.as_bytes(), JOB), lines);
     }
 
     #[test]
     fn long_and_no_data_are_not_numbers() {
-        assert_eq!(sheet(&Example(1, 1, "609.60", "0").text()), "1 1 60960 1 0\n0 0 0 0 0 1 5000 10920\n");
-        assert_eq!(sheet(&Example(1, 1, "609.61", "0").text()), "1 1 60961 1 0\n0 0 0 0 0 1 5000 long\n");
-        assert_eq!(sheet(&Example(1, 1, "10", "-9999").text()), "1 1 1000 0 0\n0 0 - - - - - -\n");
+        assert_eq!(printed(&Example(1, 1, "609.60", "0").text()), "1 1 60960 1 0\n0 0 0 0 0 1 5000 10920\n");
+        assert_eq!(printed(&Example(1, 1, "609.61", "0").text()), "1 1 60961 1 0\n0 0 0 0 0 1 5000 long\n");
+        assert_eq!(printed(&Example(1, 1, "10", "-9999").text()), "1 1 1000 0 0\n0 0 - - - - - -\n");
     }
 
     #[test]
     fn refusals_alone() {
-        assert_eq!(sheet(b""), "refused 9 at 0\n");
-        assert_eq!(sheet(&Example(1, 1, "10", "12,5").text()), "refused 7 at 52\n");
-        assert_eq!(sheet(&[b' '; MOST_BYTES + 1]), "refused 11 at 32768\n");
-        assert_eq!(sheet(&Example(64, 33, "10", "?").text()), "refused 11 at 0\n");
+        assert_eq!(printed(b""), "refused 9 at 0\n");
+        assert_eq!(printed(&Example(1, 1, "10", "12,5").text()), "refused 7 at 52\n");
+        assert_eq!(printed(&[b' '; MOST_BYTES + 1]), "refused 11 at 32768\n");
+        assert_eq!(printed(&Example(64, 33, "10", "?").text()), "refused 11 at 0\n");
     }
 }

@@ -4,8 +4,7 @@
 use super::fields;
 use super::hostile;
 use super::seed::Seed;
-use super::spelling::{text, Manner};
-use crate::rules::sheet::MOST_BYTES;
+use super::spelling::any_text;
 use std::io;
 
 /// The pit of docs/RULES.md, 9.3.
@@ -59,9 +58,7 @@ impl Example {
 fn good(seed: &mut Seed, kind: usize) -> Vec<u8> {
     let shape = fields::shape(seed);
     let field = fields::field(seed, kind, shape);
-    let manner = *seed.pick(&[Manner::Plain, Manner::Mixed]);
-    let bytes = text(seed, manner, &field).bytes;
-    if bytes.len() > MOST_BYTES { text(seed, Manner::Plain, &field).bytes } else { bytes }
+    any_text(seed, &field)
 }
 
 /// The text of one case of the stream.
@@ -81,10 +78,10 @@ pub fn case(seed: u64, number: usize) -> Vec<u8> {
     }
 }
 
-/// The framed stream of the first cases.
-pub fn stream(seed: u64, cases: usize) -> Vec<u8> {
+/// The framed stream of the first texts of a seed, each made from the seed and its number.
+pub fn stream(text: fn(u64, usize) -> Vec<u8>, seed: u64, texts: usize) -> Vec<u8> {
     let framed = |text: Vec<u8>| [format!("{}\n", text.len()).into_bytes(), text].concat();
-    (0..cases).flat_map(|number| framed(case(seed, number))).collect()
+    (0..texts).flat_map(|number| framed(text(seed, number))).collect()
 }
 
 /// The texts of a framed stream.
@@ -108,7 +105,7 @@ mod tests {
 
     #[test]
     fn framing_and_its_reading_agree() {
-        let stream = stream(1, 60);
+        let stream = stream(case, 1, 60);
         let texts = texts(&stream).expect("a stream is framed");
         assert!(texts.iter().enumerate().all(|(number, &text)| text == case(1, number)));
         assert_eq!(texts.len(), 60);

@@ -35,7 +35,7 @@ pub const RELIEFS: [(&str, Relief); 15] = [
 ];
 
 /// Heights by row and column.
-fn relief(shape: Shape, mut height: impl FnMut(i64, i64) -> i64) -> Vec<i64> {
+pub fn relief(shape: Shape, mut height: impl FnMut(i64, i64) -> i64) -> Vec<i64> {
     (0..shape.cells()).map(|cell| height(shape.row(cell) as i64, shape.column(cell) as i64)).collect()
 }
 
@@ -221,16 +221,21 @@ pub fn shape(seed: &mut Seed) -> Shape {
     }
 }
 
-/// A field of the given kind of relief and shape.
-pub fn field(seed: &mut Seed, kind: usize, shape: Shape) -> Field {
-    let ground = RELIEFS[kind].1(seed, shape);
-    let nodata = nodata(seed, &ground);
+/// The NoData number and the heights of a ground, some of its cells without data.
+pub fn with_holes(seed: &mut Seed, shape: Shape, ground: &[i64]) -> (Option<i64>, Vec<Option<i64>>) {
+    let nodata = nodata(seed, ground);
     let holes = holes(seed, shape);
     let number = nodata.unwrap_or(-999_900);
     let height = |(&ground, &hole): (&i64, &bool)| {
         let height = ground.clamp(LOWEST, HIGHEST);
         (!hole && height != number).then_some(height)
     };
-    let heights = ground.iter().zip(&holes).map(height).collect();
+    (nodata, ground.iter().zip(&holes).map(height).collect())
+}
+
+/// A field of the given kind of relief and shape.
+pub fn field(seed: &mut Seed, kind: usize, shape: Shape) -> Field {
+    let ground = RELIEFS[kind].1(seed, shape);
+    let (nodata, heights) = with_holes(seed, shape, &ground);
     Field { shape, side: side(seed), nodata, heights }
 }

@@ -2,7 +2,9 @@
 
 pub mod cases;
 pub mod fields;
+mod gentle;
 pub mod hostile;
 pub mod seed;
 pub mod spelling;
+pub mod telling;
 pub mod terrains;

@@ -2,6 +2,7 @@
 
 use super::fields::Field;
 use super::seed::Seed;
+use crate::rules::sheet::MOST_BYTES;
 
 /// How a text is written.
 #[derive(Clone, Copy, PartialEq, Eq)]
@@ -140,4 +141,11 @@ pub fn header_words(field: &Field) -> usize {
 pub fn text(seed: &mut Seed, manner: Manner, field: &Field) -> Text {
     let words = words(seed, manner, field);
     join(seed, manner, &words, header_words(field), field.shape.columns)
+}
+
+/// A field's text in any manner, in the plain one if it would have too many bytes for a sheet.
+pub fn any_text(seed: &mut Seed, field: &Field) -> Vec<u8> {
+    let manner = *seed.pick(&[Manner::Plain, Manner::Mixed]);
+    let bytes = text(seed, manner, field).bytes;
+    if bytes.len() > MOST_BYTES { text(seed, Manner::Plain, field).bytes } else { bytes }
 }

@@ -1,8 +1,8 @@
--- `printer::print` is safe: the sheet is a part of its room. Assumes nothing.
+-- `programs::print` is safe: the sheet is a part of its room. Assumes nothing.
 use Rattle.sheet.proofs.Rooms.{part-of-room}
 use borrow.Author.Needs.{needs}
-use Rattle.printer.proofs.print.Statement.{statement}
-use Rattle.printer.proofs.print.Tie as tie
+use Rattle.programs.proofs.print.Statement.{statement}
+use Rattle.programs.proofs.print.Tie as tie
 
 room-requires : tie.Need-room-requires
 room-requires c κs = search needs

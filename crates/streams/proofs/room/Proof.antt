@@ -1,9 +1,9 @@
--- `sheet_cases::room` meets its contract. Assumes nothing.
+-- `streams::room` meets its contract. Assumes nothing.
 use mathlib.Core.Path.{sym}
 use Prim.Native.Nat.{ℕ}
 use lib.ListN.{length-replicate}
-use Rattle.sheet_cases.proofs.room.Statement.{statement}
-use Rattle.sheet_cases.proofs.room.Tie as tie
+use Rattle.streams.proofs.room.Statement.{statement}
+use Rattle.streams.proofs.room.Tie as tie
 
 returns : tie.Need-returns
 returns c = sym (length-replicate {A = ℕ} 524288 0)

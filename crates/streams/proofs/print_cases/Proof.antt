@@ -1,20 +1,20 @@
--- `sheet_cases::print_cases` is safe and ends. The loop's invariant: the place is within the stream, and no case has fewer bytes than one. Assumes nothing.
+-- `streams::print_cases` is safe and ends. The loop's invariant: the place is within the stream, and no case has fewer bytes than one. Assumes nothing.
 use mathlib.Core.Path.{_≡_, refl, subst}
 use Prim.Native.Nat.{_≤_, _-_}
 use native.Mathlib.Omega.{arith}
 use lib.ListN.{length}
 use denote.Ref.{now}
 use borrow.Author.Needs.{needs}
-use Rattle.sheet_cases.specs.Frames.{Inside}
-use Rattle.sheet_cases.specs.declared.frames.Frame.the-variants.{Text}
-use Rattle.sheet_cases.proofs.print_cases.Statement.{statement}
-use Rattle.sheet_cases.proofs.print_cases.Tie as tie
+use Rattle.streams.specs.Frames.{Inside}
+use Rattle.streams.specs.declared.frames.Frame.the-variants.{Text}
+use Rattle.streams.proofs.print_cases.Statement.{statement}
+use Rattle.streams.proofs.print_cases.Tie as tie
 
 abbrev Inv-loop : tie.InvT-loop
-Inv-loop stream at₀ number₀ t6 at number = (at ≤ length stream) × (number ≤ at) × (10 ≡ length t6)
+Inv-loop stream rules at₀ number₀ t6 at number = (at ≤ length stream) × (number ≤ at) × (10 ≡ length t6)
 
 abbrev μ-loop : tie.MeasureT-loop
-μ-loop stream at₀ number₀ t6 at number = length stream - at
+μ-loop stream rules at₀ number₀ t6 at number = length stream - at
 
 -- the turn of a text, from its frame on
 abbrev turn : tie.After-start Inv-loop μ-loop → tie.At-loop Inv-loop μ-loop

@@ -1,8 +1,8 @@
--- `sheet_cases::print_case` is safe: the sheet is a part of its room. Assumes nothing.
+-- `streams::print_case` is safe: the sheet is a part of its room. Assumes nothing.
 use Rattle.sheet.proofs.Rooms.{part-of-room}
 use borrow.Author.Needs.{needs}
-use Rattle.sheet_cases.proofs.print_case.Statement.{statement}
-use Rattle.sheet_cases.proofs.print_case.Tie as tie
+use Rattle.streams.proofs.print_case.Statement.{statement}
+use Rattle.streams.proofs.print_case.Tie as tie
 
 room-requires : tie.Need-room-requires
 room-requires c κs = search needs

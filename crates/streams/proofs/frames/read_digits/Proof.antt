@@ -1,9 +1,9 @@
--- `sheet_cases::frames::read_digits` meets its contract. The loop's invariant is the contract itself. Assumes nothing.
+-- `streams::frames::read_digits` meets its contract. The loop's invariant is the contract itself. Assumes nothing.
 use Prim.Native.Nat.{_≤_, _-_}
 use native.Mathlib.Omega.{arith}
 use lib.ListN.{length}
-use Rattle.sheet_cases.proofs.frames.read_digits.Statement.{statement}
-use Rattle.sheet_cases.proofs.frames.read_digits.Tie as tie
+use Rattle.streams.proofs.frames.read_digits.Statement.{statement}
+use Rattle.streams.proofs.frames.read_digits.Tie as tie
 
 abbrev Inv-loop : tie.InvT-loop
 Inv-loop stream at value₀ i₀ value i = (at ≤ i) × (i ≤ length stream) × (value ≤ 10000009)

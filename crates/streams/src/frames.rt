@@ -1,7 +1,7 @@
 // The frames of a stream of texts: a text's length in bytes, in decimal digits, a line end, and the text.
 ghost use Prim.Native.Nat.{_≤_, _<_};
 ghost use lib.ListN.{length};
-ghost use Rattle.sheet_cases.specs.Frames.{Inside};
+ghost use Rattle.streams.specs.Frames.{Inside};
 
 // Where a text starts and ends, if its frame is whole.
 pub(crate) enum Frame {
