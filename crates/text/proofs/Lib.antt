@@ -5,6 +5,7 @@ pub mod Accepted
 pub mod InnerRuns
 pub mod InnerValues
 pub mod InnerForms
+pub mod InnerCommas
 pub mod InnerSteps
 pub mod InnerNames
 pub mod InnerFields
