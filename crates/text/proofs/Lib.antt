@@ -11,3 +11,4 @@ pub mod InnerNames
 pub mod InnerFields
 pub mod InnerGrids
 pub mod InnerTested
+pub mod InnerRight
