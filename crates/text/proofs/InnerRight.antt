@@ -6,13 +6,17 @@ use Prim.Native.Nat.{ℕ, zero, suc, _+_, _-_, _*_, _≤_, _<_}
 use native.Mathlib.Nat.{le-refl}
 use native.Mathlib.Decide.{decLt}
 use native.Mathlib.Omega.{arith}
-use borrow.Author.Tests.{eqb-true, eqb-false}
+use borrow.Author.Tests.{eqb-true, eqb-false, not-false}
 use lib.Dec.{eqb, ltb}
-use lib.ListN.{length, getD, take, drop, set, replicate, length-append, length-replicate, getD-replicate, take-append-drop, List·getD-append, List·getD-eq-default}
-use lib.Seq.{slice, length-slice, length-take-le, take-length, getD-take, getD-drop, getD-append-add}
-use Rattle.text.specs.Words.{run}
-use Rattle.text.specs.Numbers.{digit, Form, formed, malformed, Number, afterSign, value, decimals, wholeAndDecimals, numberAt, countFormAt, isFormed}
-use Rattle.text.specs.Right.{Digits, Sign, plain, minus, Decimals, none, point, RightNumber, RightCount, CanBegin, Breaks, there, short, BreaksAt}
+use lib.ListN.{length, getD, take, drop, set, replicate, length-set, length-append, length-replicate, getD-replicate, take-append-drop, List·getD-append, List·getD-eq-default}
+use lib.Seq.{slice, length-slice, length-take-le, take-length, getD-take, getD-drop, getD-append-add, getD-set-other, take-set-lt, drop-set-add}
+use Rattle.text.specs.Reader.{Step, got, refused, Reader, after}
+use Rattle.text.specs.Words.{solid, run, wordEnd}
+use Rattle.text.specs.Numbers.{digit, Form, formed, malformed, Number, value, decimals, wholeAndDecimals, numberAt, countFormAt, isFormed}
+use Rattle.text.specs.Numbers.{comma, firstComma, commaDecimal, formedOr, read}
+use Rattle.text.specs.Right.{Digits, Sign, plain, minus, Decimals, none, point, RightNumber, RightCount, CanBegin, Breaks, there, short, BreaksAt, CommaAt, Neither}
+use Rattle.text.proofs.Bytes.{digit-solid}
+use Rattle.text.proofs.Ends.{byte-within, end-byte, end-lower, end-upper}
 use Rattle.text.proofs.InnerRuns.{run-lower, run-upper, run-fails, run-passes}
 
 -- a run of at most n digits from i on ends at j
@@ -90,6 +94,14 @@ past u w m i n j k r s l d f =
       | yes o ↦ absurd (true≢false (sym (d .each j (r .from) o) ∙ ap digit (s .same j l) ∙ r .stops (omega arith)))
       | no o ↦ omega arith
     ]
+
+-- a word that breaks is not right
+broken : (Right : List ℕ → Type 0) (w : List ℕ) (k : ℕ) → BreaksAt Right w k → Right w → ⊥
+broken Right w k h r = go (h .here)
+  where
+    go : Breaks Right w k → ⊥
+    go (there l n) = n (record { rest = drop (k + 1) w; right = subst Right (sym (take-append-drop (k + 1) w)) r })
+    go (short e n) = n r
 
 -- ---- counts
 
@@ -372,3 +384,101 @@ module _ (t : List ℕ) (a e : ℕ) (l : a < e) (h : e ≤ length t) (stop : dig
         go : (q : Bool) → eqb (getD t a 0) 45 ≡ q → Says RightNumber w a (wholeAndDecimals t e (ltb a (cond q (a + 1) a)) (cond q (a + 1) a) (run digit t (cond q (a + 1) a) 9))
         go true z = after-sign (a + 1) 1 refl (omega arith) (minus (first ∙ eqb-true (getD t a 0) 45 z)) (λ o. absurd (omega arith)) (ltb a (a + 1))
         go false z = after-sign a 0 (omega arith) (omega arith) plain (λ o y. eqb-false (getD t a 0) 45 z (sym first ∙ y)) (ltb a a)
+
+-- ---- the same word with a point for its first comma, which stands at c
+
+module _ (s : List ℕ) (a e : ℕ) (l : a < e) (h : e ≤ length s) (stop : digit (getD s e 0) ≡ false) (end : getD s e 0 ≡ 46 → ⊥) where
+  module _ (c : ℕ) (from : a ≤ c) (u : c < e) where
+    slice-set : slice a e (set s c 46) ≡ set (slice a e s) (c - a) 46
+    slice-set =
+        let q : c ≡ a + (c - a) = omega arith in
+        ap (drop a) (take-set-lt e s c 46 u ∙ ap (λ (x : ℕ). set (take e s) x 46) q) ∙ drop-set-add a (take e s) (c - a) 46
+
+    set-right : isFormed (numberAt (set s c 46) a e) ≡ true → RightNumber (set (slice a e s) (c - a) 46)
+    set-right q =
+        let o : getD (set s c 46) e 0 ≡ getD s e 0 = getD-set-other s c e 46 0 (λ y. omega arith) in
+        subst RightNumber slice-set
+        (says-right RightNumber (slice a e (set s c 46)) a (numberAt (set s c 46) a e) q
+        (number-says (set s c 46) a e l (omega (arith, length-set s c 46)) (ap digit o ∙ stop) (λ y. end (sym o ∙ y))))
+
+  pub comma-in : firstComma s a e < e → isFormed (numberAt (set s (firstComma s a e) 46) a e) ≡ true
+      → (a ≤ firstComma s a e) × CommaAt RightNumber (slice a e s) (firstComma s a e - a)
+  unfolding firstComma
+  comma-in u q =
+      let p : ℕ → Bool = λ b. not (comma b) in
+      let c = firstComma s a e in
+      let low : a ≤ c = run-lower p s a (e - a) in
+      (low,
+      record {
+        inside = omega (arith, word-length s a e l h stop);
+        comma = byte-at s a e l h stop c low u ∙ eqb-true (getD s c 0) 44 (not-false (comma (getD s c 0)) (run-fails p s a (e - a) (omega arith)));
+        first = λ j k z. true≢false
+          (sym (run-passes p s a (e - a) (a + j) (omega arith) (omega arith)) ∙ ap p (sym (word-byte s a e l h stop j (omega arith)) ∙ z));
+        right = set-right c low u q;
+      })
+
+-- ---- a text's word
+
+module _ (s : List ℕ) (a : ℕ) (h : a < length s) (first : solid (getD s a 0) ≡ true) where
+  pub word-some : a < wordEnd s a
+  word-some = omega (arith, end-byte s a h first, end-lower s (a + 1))
+
+  pub word-in : wordEnd s a ≤ length s
+  word-in = end-upper s a (omega arith)
+
+  -- where a word ends no other byte stands
+  end-bare : solid (getD s (wordEnd s a) 0) ≡ true → (getD s (wordEnd s a) 0 ≡ 0 → ⊥) → ⊥
+  unfolding wordEnd
+  end-bare y z = true≢false (sym y ∙ run-fails solid s a (length s - a) (omega (arith, byte-within s (run solid s a (length s - a)) z)))
+
+  pub end-digit : digit (getD s (wordEnd s a) 0) ≡ false
+  end-digit = go (digit (getD s (wordEnd s a) 0)) refl
+    where
+      go : (q : Bool) → digit (getD s (wordEnd s a) 0) ≡ q → q ≡ false
+      go false y = refl
+      go true y = absurd (end-bare (digit-solid (getD s (wordEnd s a) 0) y) (λ z. true≢false (sym y ∙ ap digit z)))
+
+  pub end-point : getD s (wordEnd s a) 0 ≡ 46 → ⊥
+  end-point y = end-bare (ap solid y) (λ z. omega arith)
+
+-- ---- a word of either form as it is read, and a reader f after it that refuses with neither 7 nor 12
+
+module _ {A : Type 0} (form : List ℕ → ℕ → ℕ → Form A) (s : List ℕ) (a e : ℕ) where
+  pub data Judged : Step A → Type 0 where
+    right : (x : A) → form s a e ≡ formed x → Judged (got x e)
+    decimal : (p : ℕ) → form s a e ≡ malformed p → commaDecimal form s a e ≡ true → Judged (refused 12 (firstComma s a e))
+    off : (p : ℕ) → form s a e ≡ malformed p → Judged (refused 7 p)
+
+  pub judged : Judged (read form (record { start = a; end = e }) s e)
+  unfolding read
+  judged = go (form s a e) refl (commaDecimal form s a e) refl
+    where
+      go : (r : Form A) → form s a e ≡ r → (q : Bool) → commaDecimal form s a e ≡ q → Judged (formedOr q (firstComma s a e) r s e)
+      go (formed x) y q z = right x y
+      go (malformed p) y true z = decimal p y z
+      go (malformed p) y false z = off p y
+
+  module _ {B : Type 0} (f : A → Reader B) (n : (x : A) → Neither (f x s e)) where
+    module _ (Right : List ℕ → Type 0) (w : List ℕ) (says : Says Right w a (form s a e)) where
+      pub told-7 : (p : ℕ) {r : Step A} → Judged r → after r f s ≡ refused 7 p → (a ≤ p) × BreaksAt Right w (p - a)
+      told-7 p (right x y) z = absurd (subst Neither z (n x) .0 refl)
+      told-7 p (decimal c y u) z = let q : _≡_ {A = ℕ} 12 7 = cc in absurd (omega arith)
+      told-7 p (off c y) z = let q : c ≡ p = cc in subst (Says Right w a) (y ∙ ap malformed q) says
+
+      pub told-neither : {r : Step A} → Judged r → Neither (after r f s) → Right w
+      told-neither (right x y) z = subst (Says Right w a) y says
+      told-neither (decimal c y u) z = absurd (z .1 refl)
+      told-neither (off c y) z = absurd (z .0 refl)
+
+      wrong : (p : ℕ) → form s a e ≡ malformed p → Right w → ⊥
+      wrong p y z = broken Right w (p - a) (subst (Says Right w a) y says .1) z
+
+      pub told-right : {r : Step A} → Judged r → Right w → Neither (after r f s)
+      told-right (right x y) z = n x
+      told-right (decimal c y u) z = absurd (wrong c y z)
+      told-right (off c y) z = absurd (wrong c y z)
+
+    pub told-12 : (p : ℕ) {r : Step A} → Judged r → after r f s ≡ refused 12 p → (commaDecimal form s a e ≡ true) × (firstComma s a e ≡ p)
+    told-12 p (right x y) z = absurd (subst Neither z (n x) .1 refl)
+    told-12 p (decimal c y u) z = (u, cc)
+    told-12 p (off c y) z = let q : _≡_ {A = ℕ} 7 12 = cc in absurd (omega arith)

@@ -12,3 +12,4 @@ pub mod InnerFields
 pub mod InnerGrids
 pub mod InnerTested
 pub mod InnerRight
+pub mod Right
