@@ -10,13 +10,13 @@ use borrow.Author.Tests.{eqb-true, eqb-false, not-false}
 use lib.Dec.{eqb, ltb}
 use lib.ListN.{length, getD, take, drop, set, replicate, length-set, length-append, length-replicate, getD-replicate, take-append-drop, List·getD-append, List·getD-eq-default}
 use lib.Seq.{slice, length-slice, length-take-le, take-length, getD-take, getD-drop, getD-append-add, getD-set-other, take-set-lt, drop-set-add}
-use Rattle.text.specs.Reader.{Step, got, refused, Reader, after}
-use Rattle.text.specs.Words.{solid, run, wordEnd}
+use Rattle.text.specs.Reader.{Step, got, refused, Reader, after, _>>=_}
+use Rattle.text.specs.Words.{solid, run, wordStart, wordEnd, word}
 use Rattle.text.specs.Numbers.{digit, Form, formed, malformed, Number, value, decimals, wholeAndDecimals, numberAt, countFormAt, isFormed}
 use Rattle.text.specs.Numbers.{comma, firstComma, commaDecimal, formedOr, read}
-use Rattle.text.specs.Right.{Digits, Sign, plain, minus, Decimals, none, point, RightNumber, RightCount, CanBegin, Breaks, there, short, BreaksAt, CommaAt, Neither}
+use Rattle.text.specs.Right.{Digits, Sign, plain, minus, Decimals, none, point, RightNumber, RightCount, CanBegin, Breaks, there, short, BreaksAt, CommaAt, wordAt, Neither}
 use Rattle.text.proofs.Bytes.{digit-solid}
-use Rattle.text.proofs.Ends.{byte-within, end-byte, end-lower, end-upper}
+use Rattle.text.proofs.Ends.{byte-within, end-byte, end-lower, end-upper, first-solid, word-found, word-none}
 use Rattle.text.proofs.InnerRuns.{run-lower, run-upper, run-fails, run-passes}
 
 -- a run of at most n digits from i on ends at j
@@ -441,44 +441,63 @@ module _ (s : List ℕ) (a : ℕ) (h : a < length s) (first : solid (getD s a 0)
   pub end-point : getD s (wordEnd s a) 0 ≡ 46 → ⊥
   end-point y = end-bare (ap solid y) (λ z. omega arith)
 
--- ---- a word of either form as it is read, and a reader f after it that refuses with neither 7 nor 12
+-- ---- the next word from the place i, read in a form, and what a reader says of it
 
-module _ {A : Type 0} (form : List ℕ → ℕ → ℕ → Form A) (s : List ℕ) (a e : ℕ) where
-  pub data Judged : Step A → Type 0 where
-    right : (x : A) → form s a e ≡ formed x → Judged (got x e)
-    decimal : (p : ℕ) → form s a e ≡ malformed p → commaDecimal form s a e ≡ true → Judged (refused 12 (firstComma s a e))
-    off : (p : ℕ) → form s a e ≡ malformed p → Judged (refused 7 p)
+pub record Told {A B : Type 0} (form : List ℕ → ℕ → ℕ → Form A) (Right : List ℕ → Type 0) (s : List ℕ) (a : ℕ) (m : Step B) : Type 0 where
+  pub seven : (p : ℕ) → m ≡ refused 7 p → (a ≤ p) × BreaksAt Right (wordAt s a) (p - a)
+  pub twelve : (p : ℕ) → m ≡ refused 12 p → (a < length s) × (commaDecimal form s a (wordEnd s a) ≡ true) × (firstComma s a (wordEnd s a) ≡ p)
+  pub neither : a < length s → Neither m → Right (wordAt s a)
+  pub right : a < length s → Right (wordAt s a) → Neither m
 
-  pub judged : Judged (read form (record { start = a; end = e }) s e)
+-- the reader goes on by g, with the place of the word, and g refuses with neither 7 nor 12
+module _ {A B : Type 0} (form : List ℕ → ℕ → ℕ → Form A) (Right : List ℕ → Type 0) (s : List ℕ) (g : ℕ → A → Reader B)
+    (n : (a e : ℕ) (x : A) → Neither (g a x s e)) where
+  module _ (a : ℕ) (h : a < length s) where
+    abbrev ended : ℕ
+    ended = wordEnd s a
+
+    -- the word's form and whether it is a comma decimal decide
+    told-word : (r : Form A) → form s a ended ≡ r → (q : Bool) → commaDecimal form s a ended ≡ q → Says Right (wordAt s a) a r
+        → Told form Right s a (after (formedOr q (firstComma s a ended) r s ended) (g a) s)
+    told-word (formed x) y q z t =
+        record {
+          seven = λ p o. absurd (subst Neither o (n a ended x) .0 refl);
+          twelve = λ p o. absurd (subst Neither o (n a ended x) .1 refl);
+          neither = λ l o. t;
+          right = λ l o. n a ended x;
+        }
+    told-word (malformed k) y true z t =
+        record {
+          seven = λ p o. let v : _≡_ {A = ℕ} 12 7 = cc in absurd (omega arith);
+          twelve = λ p o. (h, z, cc);
+          neither = λ l o. absurd (o .1 refl);
+          right = λ l o. absurd (broken Right (wordAt s a) (k - a) (t .1) o);
+        }
+    told-word (malformed k) y false z t =
+        record {
+          seven = λ p o. let v : k ≡ p = cc in subst (Says {A = A} Right (wordAt s a) a) (ap malformed v) t;
+          twelve = λ p o. let v : _≡_ {A = ℕ} 7 12 = cc in absurd (omega arith);
+          neither = λ l o. absurd (o .0 refl);
+          right = λ l o. absurd (broken Right (wordAt s a) (k - a) (t .1) o);
+        }
+
+  -- the text has no more words
+  told-none : (a : ℕ) → length s ≤ a → Told {B = B} form Right s a (refused 9 (length s))
+  told-none a h =
+      record {
+        seven = λ p o. let v : _≡_ {A = ℕ} 9 7 = cc in absurd (omega arith);
+        twelve = λ p o. let v : _≡_ {A = ℕ} 9 12 = cc in absurd (omega arith);
+        neither = λ l o. absurd (omega arith);
+        right = λ l o. absurd (omega arith);
+      }
+
+  pub told : (i : ℕ) → ((a : ℕ) → a < length s → solid (getD s a 0) ≡ true → Says Right (wordAt s a) a (form s a (wordEnd s a)))
+      → Told form Right s (wordStart s i) ((word >>= (λ w. read form w >>= g (w .start))) s i)
   unfolding read
-  judged = go (form s a e) refl (commaDecimal form s a e) refl
-    where
-      go : (r : Form A) → form s a e ≡ r → (q : Bool) → commaDecimal form s a e ≡ q → Judged (formedOr q (firstComma s a e) r s e)
-      go (formed x) y q z = right x y
-      go (malformed p) y true z = decimal p y z
-      go (malformed p) y false z = off p y
-
-  module _ {B : Type 0} (f : A → Reader B) (n : (x : A) → Neither (f x s e)) where
-    module _ (Right : List ℕ → Type 0) (w : List ℕ) (says : Says Right w a (form s a e)) where
-      pub told-7 : (p : ℕ) {r : Step A} → Judged r → after r f s ≡ refused 7 p → (a ≤ p) × BreaksAt Right w (p - a)
-      told-7 p (right x y) z = absurd (subst Neither z (n x) .0 refl)
-      told-7 p (decimal c y u) z = let q : _≡_ {A = ℕ} 12 7 = cc in absurd (omega arith)
-      told-7 p (off c y) z = let q : c ≡ p = cc in subst (Says Right w a) (y ∙ ap malformed q) says
-
-      pub told-neither : {r : Step A} → Judged r → Neither (after r f s) → Right w
-      told-neither (right x y) z = subst (Says Right w a) y says
-      told-neither (decimal c y u) z = absurd (z .1 refl)
-      told-neither (off c y) z = absurd (z .0 refl)
-
-      wrong : (p : ℕ) → form s a e ≡ malformed p → Right w → ⊥
-      wrong p y z = broken Right w (p - a) (subst (Says Right w a) y says .1) z
-
-      pub told-right : {r : Step A} → Judged r → Right w → Neither (after r f s)
-      told-right (right x y) z = n x
-      told-right (decimal c y u) z = absurd (wrong c y z)
-      told-right (off c y) z = absurd (wrong c y z)
-
-    pub told-12 : (p : ℕ) {r : Step A} → Judged r → after r f s ≡ refused 12 p → (commaDecimal form s a e ≡ true) × (firstComma s a e ≡ p)
-    told-12 p (right x y) z = absurd (subst Neither z (n x) .1 refl)
-    told-12 p (decimal c y u) z = (u, cc)
-    told-12 p (off c y) z = let q : _≡_ {A = ℕ} 7 12 = cc in absurd (omega arith)
+  told i says =
+      let a = wordStart s i in
+      elim (decLt a (length s)) [
+        | yes h ↦ rw (word-found s i a refl h)
+          (told-word a h (form s a (wordEnd s a)) refl (commaDecimal form s a (wordEnd s a)) refl (says a h (first-solid s i a refl h)))
+        | no h ↦ rw (word-none s i a refl (omega arith)) (told-none a (omega arith))
+      ]

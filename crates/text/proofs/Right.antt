@@ -1,21 +1,20 @@
 -- RULES 2.3: which words are right, and where refusals 7 and 12 stand in a word that is not. Assumes nothing.
-use mathlib.Core.Path.{_≡_, refl, sym, ap, _∙_, subst}
-use mathlib.Core.Bool.{Bool, true, false, cond}
+use mathlib.Core.Path.{_≡_, refl, subst}
+use mathlib.Core.Bool.{Bool, true, false}
 use mathlib.Core.List.{List}
 use Prim.Native.Nat.{ℕ, _-_, _≤_, _<_}
-use native.Mathlib.Decide.{decLt}
 use native.Mathlib.Omega.{arith}
 use borrow.Author.Tests.{ltb-true}
 use lib.Dec.{ltb}
 use lib.ListN.{length, getD, set}
 use Rattle.laws.proofs.Tests.{and-both}
 use Rattle.text.specs.Quantities.{extentIn}
-use Rattle.text.specs.Reader.{Step, got, refused, Reader, after, give, check, _>>_}
+use Rattle.text.specs.Reader.{refused, check, give, _>>_}
 use Rattle.text.specs.Words.{solid, wordStart, wordEnd}
-use Rattle.text.specs.Numbers.{formed, malformed, Number, numberAt, countFormAt, isFormed, firstComma, commaDecimal, read, count, Placed, number}
+use Rattle.text.specs.Numbers.{formed, malformed, Number, numberAt, countFormAt, isFormed, firstComma, commaDecimal, count, number}
 use Rattle.text.specs.Right.{RightNumber, RightCount, BreaksAt, CommaAt, wordAt, Neither}
-use Rattle.text.proofs.Ends.{first-solid, word-found, word-none}
-use Rattle.text.proofs.InnerRight.{Says, number-says, count-says, comma-in, word-some, word-in, end-digit, end-point, judged, told-7, told-12, told-neither, told-right}
+use Rattle.text.proofs.Ends.{first-solid}
+use Rattle.text.proofs.InnerRight.{Says, number-says, count-says, comma-in, word-some, word-in, end-digit, end-point, Told, told}
 
 -- ---- a word that begins at a
 
@@ -52,71 +51,48 @@ module _ (s : List ℕ) (a : ℕ) (h : a < length s) (first : solid (getD s a 0)
       let t = and-both (ltb c e) (isFormed (numberAt (set s c 46) a e)) q in
       comma-in s a e (word-some s a h first) (word-in s a h first) (end-digit s a h first) (end-point s a h first) (ltb-true c e (t .0)) (t .1)
 
--- ---- the next word from the place i as a number
+-- ---- the next word from the place i, as a number and as a count
 
 module _ (s : List ℕ) (i : ℕ) where
-  abbrev a : ℕ
-  a = wordStart s i
-
-  abbrev e : ℕ
-  e = wordEnd s a
-
-  abbrev placed : Number → Reader (Placed Number)
-  placed x = give (record { place = a; is = x })
-
-  number-is : a < length s → after (read numberAt (record { start = a; end = e }) s e) placed s ≡ number s i
+  number-told : Told numberAt RightNumber s (wordStart s i) (number s i)
   unfolding number
-  number-is h = rw (word-found s i a refl h)
+  number-told = told numberAt RightNumber s (λ a x. give (record { place = a; is = x })) (λ a e x. tt) i (number-form s)
 
-  number-none : length s ≤ a → refused 9 (length s) ≡ number s i
-  unfolding number
-  number-none h = rw (word-none s i a refl h)
-
-  -- refusal 7 stands where the word breaks
+  -- refusal 7 of a number stands where the word breaks
   pub number-7 : (p : ℕ) → number s i ≡ refused 7 p → (wordStart s i ≤ p) × BreaksAt RightNumber (wordAt s (wordStart s i)) (p - wordStart s i)
-  number-7 p q =
-      elim (decLt a (length s)) [
-        | yes h ↦ told-7 numberAt s a e placed (λ x. tt) RightNumber (wordAt s a) (number-form s a h (first-solid s i a refl h)) p (judged numberAt s a e) (number-is h ∙ q)
-        | no h ↦ let z : _≡_ {A = ℕ} 9 7 = cc (number-none (omega arith)) in absurd (omega arith)
-      ]
+  number-7 = number-told .seven
 
-  -- refusal 12 stands at the word's first comma, and with a point there the word is right
+  -- refusal 12 of a number stands at the word's first comma, and with a point there the word is right
   pub number-12 : (p : ℕ) → number s i ≡ refused 12 p → (wordStart s i ≤ p) × CommaAt RightNumber (wordAt s (wordStart s i)) (p - wordStart s i)
   number-12 p q =
-      elim (decLt a (length s)) [
-        | yes h ↦ let t = told-12 numberAt s a e placed (λ x. tt) p (judged numberAt s a e) (number-is h ∙ q) in
-          subst (λ (c : ℕ). (a ≤ c) × CommaAt RightNumber (wordAt s a) (c - a)) (t .1) (comma-at s a h (first-solid s i a refl h) (t .0))
-        | no h ↦ let z : _≡_ {A = ℕ} 9 12 = cc (number-none (omega arith)) in absurd (omega arith)
-      ]
+      let a = wordStart s i in
+      let t = number-told .twelve p q in
+      subst (λ (c : ℕ). (a ≤ c) × CommaAt RightNumber (wordAt s a) (c - a)) (t .2) (comma-at s a (t .0) (first-solid s i a refl (t .0)) (t .1))
 
-  module _ (h : wordStart s i < length s) where
-    -- a word that gets neither is a right number
-    pub number-neither : Neither (number s i) → RightNumber (wordAt s (wordStart s i))
-    number-neither n =
-        told-neither numberAt s a e placed (λ x. tt) RightNumber (wordAt s a) (number-form s a h (first-solid s i a refl h)) (judged numberAt s a e) (rw (number-is h) n)
+  -- a word that gets neither as a number is a right number
+  pub number-neither : wordStart s i < length s → Neither (number s i) → RightNumber (wordAt s (wordStart s i))
+  number-neither = number-told .neither
 
-    -- and a right number gets neither
-    pub number-right : RightNumber (wordAt s (wordStart s i)) → Neither (number s i)
-    number-right r =
-        rw (← number-is h) (told-right numberAt s a e placed (λ x. tt) RightNumber (wordAt s a) (number-form s a h (first-solid s i a refl h)) (judged numberAt s a e) r)
+  -- and a right number gets neither
+  pub number-right : wordStart s i < length s → RightNumber (wordAt s (wordStart s i)) → Neither (number s i)
+  number-right = number-told .right
 
--- ---- and as a count, which may still get refusal 1
-
-module _ (s : List ℕ) (i : ℕ) where
-  abbrev ranged : ℕ → Reader ℕ
-  ranged n = check (extentIn n) 1 (a s i) >> give n
-
-  ranged-neither : (n : ℕ) → Neither (ranged n s (e s i))
-  ranged-neither n = go (extentIn n)
+  count-told : Told countFormAt RightCount s (wordStart s i) (count s i)
+  unfolding count
+  count-told = told countFormAt RightCount s (λ a n. check (extentIn n) 1 a >> give n) (λ a e n. go a e n (extentIn n)) i (count-form s)
     where
-      go : (ok : Bool) → Neither ((check ok 1 (a s i) >> give n) s (e s i))
-      go true = tt
-      go false = (λ z. omega arith, λ z. omega arith)
+      go : (a e n : ℕ) (ok : Bool) → Neither ((check ok 1 a >> give n) s e)
+      go a e n true = tt
+      go a e n false = (λ z. omega arith, λ z. omega arith)
 
-  count-is : a s i < length s → after (read countFormAt (record { start = a s i; end = e s i }) s (e s i)) ranged s ≡ count s i
-  unfolding count
-  count-is h = rw (word-found s i (a s i) refl h)
+  -- refusal 7 of a count stands where the word breaks
+  pub count-7 : (p : ℕ) → count s i ≡ refused 7 p → (wordStart s i ≤ p) × BreaksAt RightCount (wordAt s (wordStart s i)) (p - wordStart s i)
+  count-7 = count-told .seven
 
-  count-none : length s ≤ a s i → refused 9 (length s) ≡ count s i
-  unfolding count
-  count-none h = rw (word-none s i (a s i) refl h)
+  -- a word that gets neither as a count is a right count
+  pub count-neither : wordStart s i < length s → Neither (count s i) → RightCount (wordAt s (wordStart s i))
+  count-neither = count-told .neither
+
+  -- and a right count gets neither, though it may get refusal 1
+  pub count-right : wordStart s i < length s → RightCount (wordAt s (wordStart s i)) → Neither (count s i)
+  count-right = count-told .right
