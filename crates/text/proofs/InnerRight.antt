@@ -1,65 +1,51 @@
 -- Right words by the runs of digits in them. Assumes nothing.
 use mathlib.Core.Path.{_≡_, refl, sym, ap, _∙_, subst}
 use mathlib.Core.Bool.{Bool, true, false, not, cond, true≢false}
-use mathlib.Core.List.{List, [], _∷_, _++_, append-nil}
-use Prim.Native.Nat.{ℕ, zero, suc, _+_, _-_, _*_, _≤_, _<_}
+use mathlib.Core.List.{List, _++_, append-nil}
+use Prim.Native.Nat.{ℕ, zero, suc, _+_, _-_, _≤_, _<_}
 use native.Mathlib.Nat.{le-refl}
 use native.Mathlib.Decide.{decLt}
 use native.Mathlib.Omega.{arith}
 use borrow.Author.Tests.{eqb-true, eqb-false, not-false}
 use lib.Dec.{eqb, ltb}
-use lib.ListN.{length, getD, take, drop, set, replicate, length-set, length-append, length-replicate, getD-replicate, take-append-drop, List·getD-append, List·getD-eq-default}
+use lib.ListN.{length, getD, take, drop, set, replicate, length-set, length-append, length-replicate, getD-replicate, take-append-drop}
+use lib.ListN.{List·getD-append, List·getD-eq-default}
 use lib.Seq.{slice, length-slice, length-take-le, take-length, getD-take, getD-drop, getD-append-add, getD-set-other, take-set-lt, drop-set-add}
-use Rattle.text.specs.Reader.{Step, got, refused, Reader, after, _>>=_}
+use Rattle.text.specs.Reader.{Step, refused, Reader, after, _>>=_}
 use Rattle.text.specs.Words.{solid, run, wordStart, wordEnd, word}
 use Rattle.text.specs.Numbers.{digit, Form, formed, malformed, Number, value, decimals, wholeAndDecimals, numberAt, countFormAt, isFormed}
 use Rattle.text.specs.Numbers.{comma, firstComma, commaDecimal, formedOr, read}
-use Rattle.text.specs.Right.{Digits, Sign, plain, minus, Decimals, none, point, RightNumber, RightCount, CanBegin, Breaks, there, short, BreaksAt, CommaAt, wordAt, Neither}
+use Rattle.text.specs.Right.{Digits, Sign, plain, minus, Decimals, none, point, RightNumber, RightCount, CanBegin}
+use Rattle.text.specs.Right.{Breaks, there, short, BreaksAt, CommaAt, wordAt, Neither}
 use Rattle.text.proofs.Bytes.{digit-solid}
 use Rattle.text.proofs.Ends.{byte-within, end-byte, end-lower, end-upper, first-solid, word-found, word-none}
 use Rattle.text.proofs.InnerRuns.{run-lower, run-upper, run-fails, run-passes}
 
 -- a run of at most n digits from i on ends at j
-pub record Ran (w : List ℕ) (i n j : ℕ) : Type 0 where
+record Ran (w : List ℕ) (i n j : ℕ) : Type 0 where
   pub from : i ≤ j
   pub few : j ≤ i + n
   pub each : (k : ℕ) → i ≤ k → k < j → digit (getD w k 0) ≡ true
   pub stops : j < i + n → digit (getD w j 0) ≡ false
   pub within : j ≤ length w
 
--- u begins with the first m bytes of w
-pub record Begins (u w : List ℕ) (m : ℕ) : Type 0 where
+-- u begins with the first m bytes of w,
+record Begins (u w : List ℕ) (m : ℕ) : Type 0 where
   pub same : (k : ℕ) → k < m → getD u k 0 ≡ getD w k 0
   pub long : m ≤ length u
 
--- and these are more than p, or u is w, of p bytes
-pub record Reaches (u w : List ℕ) (p m : ℕ) : Type 0 where
+-- and these are more than p; or both lists have p bytes
+record Reaches (u w : List ℕ) (p m : ℕ) : Type 0 where
   pub far : p ≤ m
   pub end : p ≡ m → (p ≡ length w) × (p ≡ length u)
 
 -- ---- the first j bytes of w with more after them, or with n zeros
 
-module _ (w : List ℕ) (j : ℕ) (h : j ≤ length w) where
-  begins : (rest : List ℕ) → Begins (take j w ++ rest) w j
-  begins rest =
-      record {
-        same = λ k l. List·getD-append (take j w) rest 0 k (omega (arith, length-take-le j w h)) ∙ getD-take j w k 0 l;
-        long = omega (arith, length-append (take j w) rest, length-take-le j w h);
-      }
-
--- where a word breaks, for either form
-breaks : (Right : List ℕ → Type 0) (w : List ℕ) (p : ℕ) → 0 < length w → p ≤ length w → ((j : ℕ) → j ≤ p → CanBegin Right (take j w))
-    → ((u : List ℕ) (m : ℕ) → Begins u w m → 0 < m → Reaches u w p m → Right u → ⊥) → BreaksAt Right w p
-breaks Right w p some h before not =
+begins : (w : List ℕ) (j : ℕ) → j ≤ length w → (rest : List ℕ) → Begins (take j w ++ rest) w j
+begins w j h rest =
     record {
-      before = before;
-      here =
-        elim (decLt p (length w)) [
-          | yes l ↦ there l (λ c. not (take (p + 1) w ++ c .rest) (p + 1) (begins w (p + 1) (omega arith) (c .rest)) (omega arith)
-            (record { far = omega arith; end = λ e. absurd (omega arith) }) (c .right))
-          | no l ↦ let e : p ≡ length w = omega arith in short e (not w (length w) (record { same = λ k o. refl; long = le-refl (length w) }) some
-            (record { far = h; end = λ o. (e, e) }))
-        ];
+      same = λ k l. List·getD-append (take j w) rest 0 k (omega (arith, length-take-le j w h)) ∙ getD-take j w k 0 l;
+      long = omega (arith, length-append (take j w) rest, length-take-le j w h);
     }
 
 abbrev begun : List ℕ → ℕ → ℕ → List ℕ
@@ -95,6 +81,23 @@ past u w m i n j k r s l d f =
       | no o ↦ omega arith
     ]
 
+-- ---- words that break, in either form
+
+-- a word breaks at p, if no right word reaches past p with its bytes
+breaks : (Right : List ℕ → Type 0) (w : List ℕ) (p : ℕ) → 0 < length w → p ≤ length w → ((j : ℕ) → j ≤ p → CanBegin Right (take j w))
+    → ((u : List ℕ) (m : ℕ) → Begins u w m → 0 < m → Reaches u w p m → Right u → ⊥) → BreaksAt Right w p
+breaks Right w p some h before wrong =
+    record {
+      before = before;
+      here =
+        elim (decLt p (length w)) [
+          | yes l ↦ there l (λ c. wrong (take (p + 1) w ++ c .rest) (p + 1) (begins w (p + 1) (omega arith) (c .rest)) (omega arith)
+            (record { far = omega arith; end = λ e. absurd (omega arith) }) (c .right))
+          | no l ↦ let e : p ≡ length w = omega arith in
+            short e (wrong w (length w) (record { same = λ k o. refl; long = le-refl (length w) }) some (record { far = h; end = λ o. (e, e) }))
+        ];
+    }
+
 -- a word that breaks is not right
 broken : (Right : List ℕ → Type 0) (w : List ℕ) (k : ℕ) → BreaksAt Right w k → Right w → ⊥
 broken Right w k h r = go (h .here)
@@ -118,10 +121,10 @@ module _ (w : List ℕ) (d : ℕ) (r : Ran w 0 9 d) where
         | no l ↦ record { rest = replicate 1 48; right = count-begun j 1 h (omega arith) (omega arith) }
       ]
 
-  pub count-all : 0 < d → d ≡ length w → RightCount w
+  count-all : 0 < d → d ≡ length w → RightCount w
   count-all l e = subst RightCount (begun-all w) (count-begun (length w) 0 (omega arith) (omega arith) (omega (arith, r .few)))
 
-  pub count-off : d < length w → BreaksAt RightCount w d
+  count-off : d < length w → BreaksAt RightCount w d
   count-off l =
       breaks RightCount w d (omega arith) (r .within) count-can
       (λ u m s k h c. elim (decLt d m) [
@@ -145,6 +148,17 @@ same-sign s l (minus e) h (minus z) g = refl
 same-sign s l plain h (minus z) g = absurd (h refl (sym (s .same 0 l) ∙ z))
 same-sign s l (minus e) h plain g = absurd (true≢false (sym (g .each 0 (omega arith) (g .some)) ∙ ap digit (s .same 0 l ∙ e)))
 
+alone : (w : List ℕ) → RightNumber (begun w 0 1)
+alone w =
+    record {
+      b = 0;
+      d = length (begun w 0 1);
+      sign = plain;
+      whole = begun-digits w 0 1 (omega arith) 0 (omega arith) (λ x y z. absurd (omega arith));
+      few = omega (arith, begun-length w 0 1 (omega arith));
+      decimals = none refl;
+    }
+
 module _ (w : List ℕ) (b d : ℕ) (sign : Sign w b) (unsigned : b ≡ 0 → getD w 0 0 ≡ 45 → ⊥) (whole : Ran w b 9 d) where
   whole-begun : (j n : ℕ) → 0 < j → j ≤ d → b < j + n → j + n ≤ b + 9 → RightNumber (begun w j n)
   whole-begun j n l h s f =
@@ -158,26 +172,15 @@ module _ (w : List ℕ) (b d : ℕ) (sign : Sign w b) (unsigned : b ≡ 0 → ge
         decimals = none refl;
       }
 
-  alone : RightNumber (begun w 0 1)
-  alone =
-      record {
-        b = 0;
-        d = length (begun w 0 1);
-        sign = plain;
-        whole = begun-digits w 0 1 (omega arith) 0 (omega arith) (λ x y z. absurd (omega arith));
-        few = omega (arith, begun-length w 0 1 (omega arith));
-        decimals = none refl;
-      }
-
   whole-can : (j : ℕ) → j ≤ d → CanBegin RightNumber (take j w)
-  whole-can zero h = record { rest = replicate 1 48; right = alone }
+  whole-can zero h = record { rest = replicate 1 48; right = alone w }
   whole-can (suc i) h =
       elim (decLt b (suc i)) [
         | yes l ↦ record { rest = replicate 0 48; right = whole-begun (suc i) 0 (omega arith) h (omega arith) (omega (arith, whole .few)) }
         | no l ↦ record { rest = replicate 1 48; right = whole-begun (suc i) 1 (omega arith) h (omega (arith, sign-short sign)) (omega arith) }
       ]
 
-  pub number-whole : b < d → d ≡ length w → RightNumber w
+  number-whole : b < d → d ≡ length w → RightNumber w
   number-whole l e = subst RightNumber (begun-all w) (whole-begun (length w) 0 (omega arith) (omega arith) (omega arith) (omega (arith, whole .few)))
 
   -- a right number that begins with the first m bytes of w
@@ -233,10 +236,10 @@ module _ (w : List ℕ) (b d : ℕ) (sign : Sign w b) (unsigned : b ≡ 0 → ge
             ]
 
   module _ (some : 0 < length w) where
-    pub number-none : d ≡ b → BreaksAt RightNumber w d
+    number-none : d ≡ b → BreaksAt RightNumber w d
     number-none e = breaks RightNumber w d some (whole .within) whole-can (λ u m s l h r. no-digit u m s l r e h)
 
-    pub number-off : (getD w d 0 ≡ 46 → ⊥) → d < length w → BreaksAt RightNumber w d
+    number-off : (getD w d 0 ≡ 46 → ⊥) → d < length w → BreaksAt RightNumber w d
     number-off z k =
         breaks RightNumber w d some (whole .within) whole-can
         (λ u m s l h r. elim (decLt d m) [ yes o ↦ no-point u m s l r z o | no o ↦ omega (arith, h .end (omega (arith, h .far)) .0) ])
@@ -266,10 +269,10 @@ module _ (w : List ℕ) (b d : ℕ) (sign : Sign w b) (unsigned : b ≡ 0 → ge
           | no l ↦ whole-can j (omega arith)
         ]
 
-    pub number-fraction : d + 1 < f → f ≡ length w → RightNumber w
+    number-fraction : d + 1 < f → f ≡ length w → RightNumber w
     number-fraction l e = subst RightNumber (begun-all w) (point-begun (length w) 0 (omega arith) (omega arith) (omega arith) (omega (arith, tail .few)))
 
-    pub number-cut : (f ≡ length w → f ≡ d + 1) → BreaksAt RightNumber w f
+    number-cut : (f ≡ length w → f ≡ d + 1) → BreaksAt RightNumber w f
     number-cut n = breaks RightNumber w f (omega (arith, tail .within, tail .from)) (tail .within) point-can (λ u m s l h r. no-decimals u m s l r f tail n h)
 
 -- ---- the word of a text t from a up to e, where neither a digit nor a point stands
@@ -279,22 +282,23 @@ abbrev pub Says : {A : Type 0} → (List ℕ → Type 0) → List ℕ → ℕ �
 Says Right w a (formed x) = Right w
 Says Right w a (malformed p) = (a ≤ p) × BreaksAt Right w (p - a)
 
-pub says-right : {A : Type 0} (Right : List ℕ → Type 0) (w : List ℕ) (a : ℕ) (r : Form A) → isFormed r ≡ true → Says Right w a r → Right w
+says-right : {A : Type 0} (Right : List ℕ → Type 0) (w : List ℕ) (a : ℕ) (r : Form A) → isFormed r ≡ true → Says Right w a r → Right w
 says-right Right w a (formed x) e h = h
 says-right Right w a (malformed p) e h = absurd (true≢false (sym e))
+
+module _ (t : List ℕ) (a e : ℕ) where
+  word-byte : (k : ℕ) → a + k < e → getD (slice a e t) k 0 ≡ getD t (a + k) 0
+  word-byte k u = getD-drop a (take e t) k 0 ∙ getD-take e t (a + k) 0 u
+
+  byte-at : (k : ℕ) → a ≤ k → k < e → getD (slice a e t) (k - a) 0 ≡ getD t k 0
+  byte-at k y z = let q : a + (k - a) ≡ k = omega arith in word-byte (k - a) (omega arith) ∙ ap (λ (x : ℕ). getD t x 0) q
 
 module _ (t : List ℕ) (a e : ℕ) (l : a < e) (h : e ≤ length t) (stop : digit (getD t e 0) ≡ false) where
   abbrev w : List ℕ
   w = slice a e t
 
-  pub word-length : length w ≡ e - a
+  word-length : length w ≡ e - a
   word-length = length-slice a e t h
-
-  pub word-byte : (k : ℕ) → k < e - a → getD w k 0 ≡ getD t (a + k) 0
-  word-byte k u = getD-drop a (take e t) k 0 ∙ getD-take e t (a + k) 0 (omega arith)
-
-  byte-at : (k : ℕ) → a ≤ k → k < e → getD w (k - a) 0 ≡ getD t k 0
-  byte-at k y z = let q : a + (k - a) ≡ k = omega arith in word-byte (k - a) (omega arith) ∙ ap (λ (x : ℕ). getD t x 0) q
 
   run-in : (i n : ℕ) → i ≤ e → run digit t i n ≤ e
   run-in i n u =
@@ -305,9 +309,9 @@ module _ (t : List ℕ) (a e : ℕ) (l : a < e) (h : e ≤ length t) (stop : dig
       record {
         from = omega (arith, run-lower digit t k n);
         few = omega (arith, run-upper digit t k n);
-        each = λ x y z. ap digit (word-byte x (omega (arith, run-in k n u))) ∙ run-passes digit t k n (a + x) (omega arith) (omega arith);
+        each = λ x y z. ap digit (word-byte t a e x (omega (arith, run-in k n u))) ∙ run-passes digit t k n (a + x) (omega arith) (omega arith);
         stops = λ y. elim (decLt (run digit t k n) e) [
-          | yes z ↦ ap digit (byte-at (run digit t k n) (omega (arith, run-lower digit t k n)) z) ∙ run-fails digit t k n (omega (arith, run-lower digit t k n))
+          | yes z ↦ let o = run-lower digit t k n in ap digit (byte-at t a e (run digit t k n) (omega arith) z) ∙ run-fails digit t k n (omega arith)
           | no z ↦ ap digit (List·getD-eq-default w 0 {n = run digit t k n - a} (omega (arith, word-length)))
         ];
         within = omega (arith, run-in k n u, word-length);
@@ -332,42 +336,42 @@ module _ (t : List ℕ) (a e : ℕ) (l : a < e) (h : e ≤ length t) (stop : dig
       point-in : d < e
       point-in = elim (decLt d e) [ yes y ↦ y | no y ↦ let q : d ≡ e = omega arith in absurd (end (subst (λ (x : ℕ). getD t x 0 ≡ 46) q here)) ]
 
-      module _ (f : ℕ) (under : f ≤ e) (tail : Ran w (d - a + 1) 6 (f - a)) (x : Number) where
+      module _ (f : ℕ) (tail : Ran w (d - a + 1) 6 (f - a)) (x : Number) where
         cut : (f ≡ e → f ≡ d + 1) → Says {A = Number} RightNumber w a (malformed f)
         cut n =
             (omega (arith, tail .from),
-            number-cut w (b - a) (d - a) sign unsigned whole (omega arith) (byte-at d (omega arith) point-in ∙ here) (f - a) tail
+            number-cut w (b - a) (d - a) sign unsigned whole (omega arith) (byte-at t a e d (omega arith) point-in ∙ here) (f - a) tail
               (λ q. omega (arith, n (omega (arith, word-length, tail .from)))))
 
         decimals-at : (p q : Bool) → eqb f (d + 1) ≡ p → eqb f e ≡ q → Says RightNumber w a (cond p (malformed f) (cond q (formed x) (malformed f)))
         decimals-at true q y z = cut (λ o. eqb-true f (d + 1) y)
         decimals-at false false y z = cut (λ o. absurd (eqb-false f e z o))
         decimals-at false true y z =
-            number-fraction w (b - a) (d - a) sign unsigned whole (omega arith) (byte-at d (omega arith) point-in ∙ here) (f - a) tail
+            number-fraction w (b - a) (d - a) sign unsigned whole (omega arith) (byte-at t a e d (omega arith) point-in ∙ here) (f - a) tail
             (omega (arith, tail .from, eqb-false f (d + 1) y)) (omega (arith, word-length, eqb-true f e z))
 
       decimals-says : (m : Bool) (size : ℕ) → Says RightNumber w a (decimals t e m size (d + 1))
       unfolding decimals
       decimals-says m size =
           let f = run digit t (d + 1) 6 in
-          decimals-at f (run-in (d + 1) 6 (omega (arith, point-in))) (ran (d - a + 1) (d + 1) 6 (omega arith) (omega (arith, point-in))) _ (eqb f (d + 1)) (eqb f e) refl refl
+          decimals-at f (ran (d - a + 1) (d + 1) 6 (omega arith) (omega (arith, point-in))) _ (eqb f (d + 1)) (eqb f e) refl refl
 
     module _ (m : Bool) (size : ℕ) (x : Number) where
       whole-at : (p q r : Bool) → eqb d b ≡ p → eqb (getD t d 0) 46 ≡ q → eqb d e ≡ r
           → Says RightNumber w a (cond p (malformed d) (cond q (decimals t e m size (d + 1)) (cond r (formed x) (malformed d))))
-      whole-at true q r x y z =
-          (omega arith, number-none w (b - a) (d - a) sign unsigned whole (omega (arith, word-length)) (omega (arith, eqb-true d b x)))
-      whole-at false true r x y z = decimals-says (omega (arith, eqb-false d b x)) (eqb-true (getD t d 0) 46 y) m size
-      whole-at false false true x y z =
-          number-whole w (b - a) (d - a) sign unsigned whole (omega (arith, eqb-false d b x)) (omega (arith, word-length, eqb-true d e z))
-      whole-at false false false x y z =
+      whole-at true q r v y z =
+          (omega arith, number-none w (b - a) (d - a) sign unsigned whole (omega (arith, word-length)) (omega (arith, eqb-true d b v)))
+      whole-at false true r v y z = decimals-says (omega (arith, eqb-false d b v)) (eqb-true (getD t d 0) 46 y) m size
+      whole-at false false true v y z =
+          number-whole w (b - a) (d - a) sign unsigned whole (omega (arith, eqb-false d b v)) (omega (arith, word-length, eqb-true d e z))
+      whole-at false false false v y z =
           let o : d < e = omega (arith, eqb-false d e z) in
           (omega arith,
           number-off w (b - a) (d - a) sign unsigned whole (omega (arith, word-length))
-            (λ v. eqb-false (getD t d 0) 46 y (sym (byte-at d (omega arith) o) ∙ v)) (omega (arith, word-length)))
+            (λ g. eqb-false (getD t d 0) 46 y (sym (byte-at t a e d (omega arith) o) ∙ g)) (omega (arith, word-length)))
 
   module _ (end : getD t e 0 ≡ 46 → ⊥) where
-    after-sign : (b : ℕ) (i : ℕ) → b ≡ a + i → b ≤ e → Sign w i → (i ≡ 0 → getD w 0 0 ≡ 45 → ⊥) → (m : Bool)
+    after-sign : (b i : ℕ) → b ≡ a + i → b ≤ e → Sign w i → (i ≡ 0 → getD w 0 0 ≡ 45 → ⊥) → (m : Bool)
         → Says RightNumber w a (wholeAndDecimals t e m b (run digit t b 9))
     after-sign b i q u g n m =
         let d = run digit t b 9 in
@@ -380,8 +384,9 @@ module _ (t : List ℕ) (a e : ℕ) (l : a < e) (h : e ≤ length t) (stop : dig
     number-says = go (eqb (getD t a 0) 45) refl
       where
         first : getD w 0 0 ≡ getD t a 0
-        first = let q : a + 0 ≡ a = omega arith in word-byte 0 (omega arith) ∙ ap (λ (x : ℕ). getD t x 0) q
-        go : (q : Bool) → eqb (getD t a 0) 45 ≡ q → Says RightNumber w a (wholeAndDecimals t e (ltb a (cond q (a + 1) a)) (cond q (a + 1) a) (run digit t (cond q (a + 1) a) 9))
+        first = let q : a + 0 ≡ a = omega arith in word-byte t a e 0 (omega arith) ∙ ap (λ (x : ℕ). getD t x 0) q
+        go : (q : Bool) → eqb (getD t a 0) 45 ≡ q
+            → Says RightNumber w a (wholeAndDecimals t e (ltb a (cond q (a + 1) a)) (cond q (a + 1) a) (run digit t (cond q (a + 1) a) 9))
         go true z = after-sign (a + 1) 1 refl (omega arith) (minus (first ∙ eqb-true (getD t a 0) 45 z)) (λ o. absurd (omega arith)) (ltb a (a + 1))
         go false z = after-sign a 0 (omega arith) (omega arith) plain (λ o y. eqb-false (getD t a 0) 45 z (sym first ∙ y)) (ltb a a)
 
@@ -411,13 +416,13 @@ module _ (s : List ℕ) (a e : ℕ) (l : a < e) (h : e ≤ length s) (stop : dig
       (low,
       record {
         inside = omega (arith, word-length s a e l h stop);
-        comma = byte-at s a e l h stop c low u ∙ eqb-true (getD s c 0) 44 (not-false (comma (getD s c 0)) (run-fails p s a (e - a) (omega arith)));
+        comma = byte-at s a e c low u ∙ eqb-true (getD s c 0) 44 (not-false (comma (getD s c 0)) (run-fails p s a (e - a) (omega arith)));
         first = λ j k z. true≢false
-          (sym (run-passes p s a (e - a) (a + j) (omega arith) (omega arith)) ∙ ap p (sym (word-byte s a e l h stop j (omega arith)) ∙ z));
+          (sym (run-passes p s a (e - a) (a + j) (omega arith) (omega arith)) ∙ ap p (sym (word-byte s a e j (omega arith)) ∙ z));
         right = set-right c low u q;
       })
 
--- ---- a text's word
+-- ---- the end of a text's word
 
 module _ (s : List ℕ) (a : ℕ) (h : a < length s) (first : solid (getD s a 0) ≡ true) where
   pub word-some : a < wordEnd s a
@@ -457,23 +462,23 @@ module _ {A B : Type 0} (form : List ℕ → ℕ → ℕ → Form A) (Right : Li
     ended = wordEnd s a
 
     -- the word's form and whether it is a comma decimal decide
-    told-word : (r : Form A) → form s a ended ≡ r → (q : Bool) → commaDecimal form s a ended ≡ q → Says Right (wordAt s a) a r
+    told-word : (r : Form A) (q : Bool) → commaDecimal form s a ended ≡ q → Says Right (wordAt s a) a r
         → Told form Right s a (after (formedOr q (firstComma s a ended) r s ended) (g a) s)
-    told-word (formed x) y q z t =
+    told-word (formed x) q z t =
         record {
           seven = λ p o. absurd (subst Neither o (n a ended x) .0 refl);
           twelve = λ p o. absurd (subst Neither o (n a ended x) .1 refl);
           neither = λ l o. t;
           right = λ l o. n a ended x;
         }
-    told-word (malformed k) y true z t =
+    told-word (malformed k) true z t =
         record {
           seven = λ p o. let v : _≡_ {A = ℕ} 12 7 = cc in absurd (omega arith);
           twelve = λ p o. (h, z, cc);
           neither = λ l o. absurd (o .1 refl);
           right = λ l o. absurd (broken Right (wordAt s a) (k - a) (t .1) o);
         }
-    told-word (malformed k) y false z t =
+    told-word (malformed k) false z t =
         record {
           seven = λ p o. let v : k ≡ p = cc in subst (Says {A = A} Right (wordAt s a) a) (ap malformed v) t;
           twelve = λ p o. let v : _≡_ {A = ℕ} 7 12 = cc in absurd (omega arith);
@@ -498,6 +503,6 @@ module _ {A B : Type 0} (form : List ℕ → ℕ → ℕ → Form A) (Right : Li
       let a = wordStart s i in
       elim (decLt a (length s)) [
         | yes h ↦ rw (word-found s i a refl h)
-          (told-word a h (form s a (wordEnd s a)) refl (commaDecimal form s a (wordEnd s a)) refl (says a h (first-solid s i a refl h)))
+          (told-word a h (form s a (wordEnd s a)) (commaDecimal form s a (wordEnd s a)) refl (says a h (first-solid s i a refl h)))
         | no h ↦ rw (word-none s i a refl (omega arith)) (told-none a (omega arith))
       ]
