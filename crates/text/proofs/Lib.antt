@@ -13,3 +13,4 @@ pub mod InnerGrids
 pub mod InnerTested
 pub mod InnerRight
 pub mod Right
+pub mod Calls

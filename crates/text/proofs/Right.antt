@@ -1,6 +1,6 @@
 -- RULES 2.3: which words are right, and where refusals 7 and 12 stand in a word that is not. Assumes nothing.
-use mathlib.Core.Path.{_≡_, refl, subst}
-use mathlib.Core.Bool.{Bool, true, false}
+use mathlib.Core.Path.{_≡_, refl, sym, subst, _∙_}
+use mathlib.Core.Bool.{Bool, true, false, true≢false}
 use mathlib.Core.List.{List}
 use Prim.Native.Nat.{ℕ, _-_, _≤_, _<_}
 use native.Mathlib.Omega.{arith}
@@ -13,7 +13,8 @@ use Rattle.text.specs.Reader.{refused, check, give, _>>_}
 use Rattle.text.specs.Words.{solid, wordStart, wordEnd}
 use Rattle.text.specs.Numbers.{formed, malformed, Number, numberAt, countFormAt, isFormed, firstComma, commaDecimal, count, number}
 use Rattle.text.specs.Right.{RightNumber, RightCount, BreaksAt, CommaAt, wordAt, Neither}
-use Rattle.text.proofs.Ends.{first-solid}
+use Rattle.text.proofs.Ends.{first-solid, end-lower}
+use Rattle.text.proofs.InnerCommas.{count-no-comma}
 use Rattle.text.proofs.InnerRight.{Says, number-says, count-says, comma-in, word-some, word-in, end-digit, end-point, Told, told}
 
 -- ---- a word that begins at a
@@ -88,6 +89,12 @@ module _ (s : List ℕ) (i : ℕ) where
   -- refusal 7 of a count stands where the word breaks
   pub count-7 : (p : ℕ) → count s i ≡ refused 7 p → (wordStart s i ≤ p) × BreaksAt RightCount (wordAt s (wordStart s i)) (p - wordStart s i)
   count-7 = count-told .seven
+
+  -- no count gets 12
+  pub count-12 : (p : ℕ) → count s i ≡ refused 12 p → ⊥
+  count-12 p q =
+      let a = wordStart s i in
+      true≢false (sym (count-told .twelve p q .1) ∙ count-no-comma s a (wordEnd s a) (end-lower s a))
 
   -- a word that gets neither as a count is a right count
   pub count-neither : wordStart s i < length s → Neither (count s i) → RightCount (wordAt s (wordStart s i))

@@ -1,13 +1,13 @@
 -- RULES 2.3: right words, what can begin one, and where a word that is not right breaks: as the laws of proofs/Right.antt state the places of
 -- refusals 7 and 12. A word is the list of its bytes, w. Assumes nothing.
-use Prim.Native.Nat.{ℕ, _+_, _≤_, _<_}
+use Prim.Native.Nat.{ℕ, _+_, _-_, _≤_, _<_}
 use mathlib.Core.Path.{_≡_}
 use mathlib.Core.Bool.{true}
 use mathlib.Core.List.{List, _++_}
 use lib.ListN.{length, getD, take, set}
 use lib.Seq.{slice}
 use Rattle.text.specs.Reader.{Step, got, refused}
-use Rattle.text.specs.Words.{wordEnd}
+use Rattle.text.specs.Words.{wordStart, wordEnd}
 use Rattle.text.specs.Numbers.{digit}
 
 -- one or more digits, from the place i up to j
@@ -69,3 +69,16 @@ wordAt s a = slice a (wordEnd s a) s
 abbrev pub Neither : {A : Type 0} → Step A → Type 0
 Neither (got x i) = Unit
 Neither (refused n p) = (n ≡ 7 → ⊥) × (n ≡ 12 → ⊥)
+
+-- ---- the same of a whole text: of its next word from some place i on
+
+-- a number or a count breaks at the place p
+pub data BreaksIn (s : List ℕ) (p : ℕ) : Type 0 where
+  number : (i : ℕ) → wordStart s i ≤ p → BreaksAt RightNumber (wordAt s (wordStart s i)) (p - wordStart s i) → BreaksIn s p
+  count : (i : ℕ) → wordStart s i ≤ p → BreaksAt RightCount (wordAt s (wordStart s i)) (p - wordStart s i) → BreaksIn s p
+
+-- a comma decimal has its comma at the place p
+pub record CommaIn (s : List ℕ) (p : ℕ) : Type 0 where
+  pub i : ℕ
+  pub from : wordStart s i ≤ p
+  pub comma : CommaAt RightNumber (wordAt s (wordStart s i)) (p - wordStart s i)
