@@ -59,6 +59,7 @@ module _ {A B : Type 0} {r : Reader A} {f : A → Reader B} (first : Sound r) (t
       go7 : (s : List ℕ) (i p : ℕ) (x : Step A) → r s i ≡ x → after x f s ≡ refused 7 p → BreaksIn s p
       go7 s i p (got a j) q e = then a .seven s j p e
       go7 s i p (refused n z) q e = first .seven s i p (moved q e)
+
       go12 : (s : List ℕ) (i p : ℕ) (x : Step A) → r s i ≡ x → after x f s ≡ refused 12 p → CommaIn s p
       go12 s i p (got a j) q e = then a .twelve s j p e
       go12 s i p (refused n z) q e = first .twelve s i p (moved q e)
@@ -72,8 +73,10 @@ checked false n p x y = other (record { seven = λ s i e. x e; twelve = λ s i e
 word-sound : Sound word
 unfolding word
 word-sound =
-    other (record { seven = λ s i e. go s i (ltb (wordStart s i) (length s)) 7 e (λ z. omega arith) (λ z. omega arith);
-      twelve = λ s i e. go s i (ltb (wordStart s i) (length s)) 12 e (λ z. omega arith) (λ z. omega arith) })
+    other (record {
+      seven = λ s i e. go s i (ltb (wordStart s i) (length s)) 7 e (λ z. omega arith) (λ z. omega arith);
+      twelve = λ s i e. go s i (ltb (wordStart s i) (length s)) 12 e (λ z. omega arith) (λ z. omega arith);
+    })
   where
     go : (s : List ℕ) (i : ℕ) (b : Bool) (n : ℕ)
         → numberOf {A = Word} (cond b (got (record { start = wordStart s i; end = wordEnd s (wordStart s i) }) (wordEnd s (wordStart s i))) (refused 9 (length s))) ≡ n
@@ -95,8 +98,8 @@ measure-sound : Sound measure
 unfolding measure
 measure-sound =
     joined number-sound (λ x.
-      joined (checked (not (x .is .fine)) 8 (x .place) (λ z. omega arith) (λ z. omega arith)) (λ u.
-        given (record { place = x .place; is = centimetres (x .is .minus) (x .is .size) })))
+    joined (checked (not (x .is .fine)) 8 (x .place) (λ z. omega arith) (λ z. omega arith)) (λ u.
+    given (record { place = x .place; is = centimetres (x .is .minus) (x .is .size) })))
 
 -- ---- the header
 
@@ -104,8 +107,8 @@ name-sound : (n : List ℕ) → Sound (name n)
 unfolding name
 name-sound n =
     joined word-sound (λ w.
-      joined (other {r = isNamed n w} (record { seven = λ s i e. omega arith; twelve = λ s i e. omega arith })) (λ ok.
-        checked ok 6 (w .start) (λ z. omega arith) (λ z. omega arith)))
+    joined (other {r = isNamed n w} (record { seven = λ s i e. omega arith; twelve = λ s i e. omega arith })) (λ ok.
+    checked ok 6 (w .start) (λ z. omega arith) (λ z. omega arith)))
 
 field-sound : {A : Type 0} (n : List ℕ) {r : Reader A} → Sound r → Sound (field n r)
 unfolding field
@@ -130,6 +133,7 @@ no-data-sound = record { seven = λ s i p e. go7 s i p (letterNext s i) e; twelv
     go7 : (s : List ℕ) (i p : ℕ) (b : Bool) → _≡_ {A = Step ℤ} (elim b [ true ↦ field (bytes "nodata_value") anyMeasure s i | false ↦ got absentNoData i ]) (refused 7 p) → BreaksIn s p
     go7 s i p true e = field-sound (bytes "nodata_value") any-sound .seven s i p e
     go7 s i p false e = given absentNoData .seven s i p e
+
     go12 : (s : List ℕ) (i p : ℕ) (b : Bool) → _≡_ {A = Step ℤ} (elim b [ true ↦ field (bytes "nodata_value") anyMeasure s i | false ↦ got absentNoData i ]) (refused 12 p) → CommaIn s p
     go12 s i p true e = field-sound (bytes "nodata_value") any-sound .twelve s i p e
     go12 s i p false e = given absentNoData .twelve s i p e
@@ -147,7 +151,7 @@ last-sound : (e : Extent) → Sound (sideAndNoData e)
 unfolding sideAndNoData
 last-sound e =
     joined (field-sound (bytes "cellsize") side-sound) (λ m.
-      joined no-data-sound (λ n. given (record { rows = e .rows; columns = e .columns; side = m; noData = n })))
+    joined no-data-sound (λ n. given (record { rows = e .rows; columns = e .columns; side = m; noData = n })))
 
 header-sound : Sound header
 unfolding header
@@ -159,8 +163,8 @@ height-sound : (n : ℤ) → Sound (height n)
 unfolding height
 height-sound n =
     joined measure-sound (λ m.
-      joined (checked (same (m .is) n || heightIn (m .is)) 5 (m .place) (λ z. omega arith) (λ z. omega arith)) (λ u.
-        given (cond (same (m .is) n) noDataHeight (m .is))))
+    joined (checked (same (m .is) n || heightIn (m .is)) 5 (m .place) (λ z. omega arith) (λ z. omega arith)) (λ u.
+    given (cond (same (m .is) n) noDataHeight (m .is))))
 
 heights-sound : (n : ℤ) (k : ℕ) → Sound (heights n k)
 unfolding heights
@@ -180,7 +184,7 @@ body-sound : (h : Header) (k : ℕ) → Sound (body h k)
 unfolding body
 body-sound h k =
     joined (checked (eqb k (h .rows * h .columns)) 2 0 (λ z. omega arith) (λ z. omega arith)) (λ u.
-      joined (heights-sound (h .noData) k) (λ hs. joined end-sound (λ v. given hs)))
+    joined (heights-sound (h .noData) k) (λ hs. joined end-sound (λ v. given hs)))
 
 grid-sound : (k : ℕ) → Sound (grid k)
 unfolding grid

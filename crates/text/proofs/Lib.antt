@@ -12,5 +12,6 @@ pub mod InnerFields
 pub mod InnerGrids
 pub mod InnerTested
 pub mod InnerRight
+pub mod InnerSaid
 pub mod Right
 pub mod Calls

@@ -15,7 +15,7 @@ use Rattle.text.specs.Numbers.{formed, malformed, Number, numberAt, coun
 use Rattle.text.specs.Right.{RightNumber, RightCount, BreaksAt, CommaAt, wordAt, Neither}
 use Rattle.text.proofs.Ends.{first-solid, end-lower}
 use Rattle.text.proofs.InnerCommas.{count-no-comma}
-use Rattle.text.proofs.InnerRight.{Says, number-says, count-says, comma-in, word-some, word-in, end-digit, end-point, Told, told}
+use Rattle.text.proofs.InnerSaid.{Says, number-says, count-says, comma-in, word-some, word-in, end-digit, end-point, Told, told}
 
 -- ---- a word that begins at a
 
