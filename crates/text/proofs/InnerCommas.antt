@@ -13,8 +13,6 @@ use lib.Seq.{getD-set-same, getD-set-other}
 use Rattle.laws.proofs.Tests.{two, and-false-left, and-false-right, and-true-left}
 use Rattle.text.specs.Words.{solid, run, wordEnd}
 use Rattle.text.specs.Numbers.{Form, formed, malformed, Number, digit, value, afterSign, decimals, wholeAndDecimals, numberAt, countFormAt, isFormed, comma, firstComma, commaDecimal}
-use Rattle.text.specs.InnerNumbers.{DigitsFrom, Parsed, formOf}
-use Rattle.text.specs.declared.numbers.Form as F
 use Rattle.text.proofs.Bytes.{digit-range}
 use Rattle.text.proofs.InnerRuns.{run-stop, run-lower, run-upper, run-fails, run-passes, run-after}
 use Rattle.text.proofs.Ends.{byte-within, end-byte, end-digits, end-lower}
@@ -94,14 +92,17 @@ count-no-comma s a e h =
 
 -- ---- whether decimals, or a number's word, are right: by the digits' ends and the byte after the whole ones alone
 
-decimals-same : (s t : List ℕ) (e p : ℕ) (m n : Bool) (x y : ℕ) → run digit t p 6 ≡ run digit s p 6 → isFormed (decimals t e m x p) ≡ isFormed (decimals s e n y p)
+decimals-formed : (s : List ℕ) (e p : ℕ) (m : Bool) (x f : ℕ) → f ≡ run digit s p 6 → isFormed (decimals s e m x p) ≡ cond (eqb f p) false (eqb f e)
 unfolding decimals
-decimals-same s t e p m n x y h = go (eqb (run digit s p 6) p) (eqb (run digit s p 6) e) refl refl
+decimals-formed s e p m x f h = go (eqb f p) (eqb f e) refl refl
   where
-    go : (i j : Bool) → eqb (run digit s p 6) p ≡ i → eqb (run digit s p 6) e ≡ j → isFormed (decimals t e m x p) ≡ isFormed (decimals s e n y p)
-    go true j u v = rw (h, u)
-    go false true u v = rw (h, u, v)
-    go false false u v = rw (h, u, v)
+    go : (i j : Bool) → eqb f p ≡ i → eqb f e ≡ j → isFormed (decimals s e m x p) ≡ cond (eqb f p) false (eqb f e)
+    go true j u v = rw (← h, u)
+    go false true u v = rw (← h, u, v)
+    go false false u v = rw (← h, u, v)
+
+decimals-same : (s t : List ℕ) (e p : ℕ) (m : Bool) (x y : ℕ) → run digit t p 6 ≡ run digit s p 6 → isFormed (decimals t e m x p) ≡ isFormed (decimals s e m y p)
+decimals-same s t e p m x y h = decimals-formed t e p m x (run digit s p 6) (sym h) ∙ sym (decimals-formed s e p m y (run digit s p 6) refl)
 
 whole-same : (s t : List ℕ) (e : ℕ) (m : Bool) (b d : ℕ) → getD t d 0 ≡ getD s d 0 → run digit t (d + 1) 6 ≡ run digit s (d + 1) 6
     → isFormed (wholeAndDecimals t e m b d) ≡ isFormed (wholeAndDecimals s e m b d)
@@ -109,7 +110,7 @@ whole-same s t e m b d q r = go (eqb d b) (eqb (getD s d 0) 46) (eqb d e) refl r
   where
     go : (i j k : Bool) → eqb d b ≡ i → eqb (getD s d 0) 46 ≡ j → eqb d e ≡ k → isFormed (wholeAndDecimals t e m b d) ≡ isFormed (wholeAndDecimals s e m b d)
     go true j k x y z = rw x
-    go false true k x y z = rw (q, x, y) (decimals-same s t e (d + 1) m m _ _ r)
+    go false true k x y z = rw (q, x, y) (decimals-same s t e (d + 1) m _ _ r)
     go false false true x y z = rw (q, x, y, z)
     go false false false x y z = rw (q, x, y, z)
 
@@ -195,17 +196,27 @@ module _ (s : List ℕ) (a b : ℕ) (h : a < length s) (first : solid (getD s a 
       ap isFormed (at-point l) ∙ whole-same s _ e (ltb a b) b d (other-byte s a e e-from l d apart) (same-digits s a e e-from l (d + 1) 6)
       ∙ sym (ap isFormed at) ∙ f)
 
-  -- decimals follow the comma, or not
-  pub comma-on : (d ≡ b → ⊥) → getD s d 0 ≡ 44 → (f : F.Form) → Parsed (wordEnd s (d + 1)) (decimals s (wordEnd s (d + 1)) false 0 (d + 1)) f
-      → isFormed (formOf f) ≡ commaDecimal numberAt s a e
-  unfolding commaDecimal
-  comma-on some z f m =
-      let c = comma-here z in
-      let l : firstComma s a e < e = omega (arith, comma-inside z) in
-      let point : getD (set s (firstComma s a e) 46) d 0 ≡ 46 = subst (λ (j : ℕ). getD (set s (firstComma s a e) 46) j 0 ≡ 46) c (point-byte s a e e-from l) in
-      let is : isFormed (decimals s e false 0 (d + 1)) ≡ isFormed (numberAt (set s (firstComma s a e) 46) a e) =
-      sym (ap isFormed (at-point l) ∙ rw (ne-eqb d b some, eq-eqb _ 46 point) (decimals-same s _ e (d + 1) (ltb a b) false _ 0 (same-digits s a e e-from l (d + 1) 6))) in
-      ap isFormed (m .is) ∙ ap (λ (j : ℕ). isFormed (decimals s j false 0 (d + 1))) (sym (comma-end z)) ∙ is ∙ and-true-left (ltb (firstComma s a e) e) _ (lt-ltb _ _ l)
+  -- a comma there, and digits up to f behind it
+  module _ (some : d ≡ b → ⊥) (z : getD s d 0 ≡ 44) (f : ℕ) (tail : f ≡ run digit s (d + 1) 6) where
+    comma-is : cond (eqb f (d + 1)) false (eqb f e) ≡ commaDecimal numberAt s a e
+    unfolding commaDecimal
+    comma-is =
+        let c = comma-here z in
+        let l : firstComma s a e < e = omega (arith, comma-inside z) in
+        let point : getD (set s (firstComma s a e) 46) d 0 ≡ 46 = subst (λ (j : ℕ). getD (set s (firstComma s a e) 46) j 0 ≡ 46) c (point-byte s a e e-from l) in
+        let end : f ≡ run digit (set s (firstComma s a e) 46) (d + 1) 6 = tail ∙ sym (same-digits s a e e-from l (d + 1) 6) in
+        let is : isFormed (numberAt (set s (firstComma s a e) 46) a e) ≡ cond (eqb f (d + 1)) false (eqb f e) =
+        ap isFormed (at-point l) ∙ rw (ne-eqb d b some, eq-eqb _ 46 point) (decimals-formed _ e (d + 1) (ltb a b) _ f end) in
+        sym is ∙ and-true-left (ltb (firstComma s a e) e) _ (lt-ltb _ _ l)
+
+    -- no digit, or so many that the word ends there or goes on
+    pub comma-short : f ≡ d + 1 → false ≡ commaDecimal numberAt s a e
+    comma-short q = subst (λ (x : Bool). cond x false (eqb f e) ≡ commaDecimal numberAt s a e) (eq-eqb f (d + 1) q) comma-is
+
+    pub comma-on : (f ≡ d + 1 → ⊥) → (r : Bool) → r ≡ eqb f (wordEnd s f) → r ≡ commaDecimal numberAt s a e
+    comma-on n r q =
+        let ends : e ≡ wordEnd s f = comma-end z ∙ end-digits s (d + 1) 6 f (comma-next s d z) tail in
+        q ∙ ap (eqb f) (sym ends) ∙ subst (λ (x : Bool). cond x false (eqb f e) ≡ commaDecimal numberAt s a e) (ne-eqb f (d + 1) n) comma-is
 
   -- the number breaks at the comma
   pub comma-place : (p : ℕ) → numberAt s a e ≡ malformed p → true ≡ commaDecimal numberAt s a e → firstComma s a e ≡ p

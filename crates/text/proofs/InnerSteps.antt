@@ -1,6 +1,6 @@
 -- The readers of words and numbers, by the answers of the functions that read them. Assumes nothing.
 use mathlib.Core.Path.{_≡_, refl, sym, ap, _∙_, subst}
-use mathlib.Core.Bool.{Bool, true, false}
+use mathlib.Core.Bool.{Bool, true, false, cond, _&&_}
 use mathlib.Core.List.{List}
 use Prim.Native.Nat.{ℕ, _+_, _≤_, _<_}
 use native.Mathlib.Omega.{arith}
@@ -41,13 +41,22 @@ module _ (s : List ℕ) (at a : ℕ) (p : a ≡ wordStart s at) where
       broken : numberAt s a (wordEnd s a) ≡ malformed b
       broken = sym (m .is) ∙ ap formOf e
 
-      pub number-comma : true ≡ commaDecimal numberAt s a (wordEnd s a) → refused 12 b ≡ number s at
+      number-comma : true ≡ commaDecimal numberAt s a (wordEnd s a) → refused 12 b ≡ number s at
       unfolding number read
       number-comma t = rw (word-found s at a p h, broken, ← t, comma-place s a _ h (first-solid s at a p h) refl _ refl b broken t)
 
-      pub number-bad : false ≡ commaDecimal numberAt s a (wordEnd s a) → refused 7 b ≡ number s at
+      number-malformed : false ≡ commaDecimal numberAt s a (wordEnd s a) → refused 7 b ≡ number s at
       unfolding number read
-      number-bad t = rw (word-found s at a p h, broken, ← t)
+      number-malformed t = rw (word-found s at a p h, broken, ← t)
+
+      -- the refusal by its number and place
+      pub number-bad : (f : Refusal) → (f .number ≡ cond (true && commaDecimal numberAt s a (wordEnd s a)) 12 7) × (f .place ≡ b)
+          → refused (f .number) (f .place) ≡ number s at
+      number-bad f q = rw (q .0, q .1) (go (commaDecimal numberAt s a (wordEnd s a)) refl)
+        where
+          go : (t : Bool) → t ≡ commaDecimal numberAt s a (wordEnd s a) → refused (cond t 12 7) b ≡ number s at
+          go true z = number-comma z
+          go false z = number-malformed z
 
     pub number-on : (minus : Bool) (size : ℕ) (fine : Bool) (end : ℕ) → r ≡ F.Number minus size fine end
         → (numberedOf (Number (record { start = a; minus = minus; size = size; fine = fine; rest = record { at = end } })) ≡ number s at) × (size < 200000000000)

@@ -1,6 +1,6 @@
 // Numbers, read from their first byte in one pass: a sign, whole digits, a point, decimals, and the word's end.
 ghost use mathlib.Core.Path.{_≡_};
-ghost use mathlib.Core.Bool.{true, false};
+ghost use mathlib.Core.Bool.{true, false, cond, _&&_};
 ghost use Prim.Native.Nat.{_+_, _-_, _*_, _≤_, _<_};
 ghost use lib.Dec.{eqb};
 ghost use lib.ListN.{length, getD};
@@ -239,16 +239,25 @@ fn is_comma_decimal(s: &[u8], a: usize) -> bool
     if byte_at(s, d) != 44 {
         return false;
     }
-    let f = read_decimals(s, false, 0, d + 1);
-    match f {
-        Form::Malformed { at: _ } => false,
-        Form::Number {
-            minus: _,
-            size: _,
-            fine: _,
-            end: _,
-        } => true,
+    let t = read_digits(s, d + 1, 6);
+    let f = t.end;
+    if f == d + 1 {
+        return false;
     }
+    ends(s, f)
+}
+
+// The refusal of the word that begins at `a` and breaks at `place`. `point` says whether its position allows a point.
+fn refuse(s: &[u8], a: usize, place: usize, point: bool) -> Refusal
+    requires { ⌜ (a < length (now s)) × (solid (getD (now s) a 0) ≡ true) × (point ≡ true → isFormed (numberAt (now s) a (wordEnd (now s) a)) ≡ false) ⌝ }
+    ensures { λ r. ⌜ (r .number ≡ cond (point && commaDecimal numberAt (now (s .entry)) a (wordEnd (now (s .entry)) a)) 12 7) × (r .place ≡ place) ⌝ }
+{
+    let number = if point {
+        if is_comma_decimal(s, a) { 12 } else { 7 }
+    } else {
+        7
+    };
+    Refusal { number, place }
 }
 
 // A number with the place of its word and the cursor after it.
@@ -280,10 +289,7 @@ impl Cursor {
         }
         let f = read_form(s, a);
         match f {
-            Form::Malformed { at: place } => {
-                let number = if is_comma_decimal(s, a) { 12 } else { 7 };
-                Numbered::NoNumber(Refusal { number, place })
-            }
+            Form::Malformed { at: place } => Numbered::NoNumber(refuse(s, a, place, true)),
             Form::Number {
                 minus,
                 size,
@@ -360,10 +366,11 @@ pub(crate) enum Counted {
 }
 
 // A count has no point, so a comma in it is like any other byte.
-fn malformed_count(place: usize) -> Counted
+fn malformed_count(s: &[u8], a: usize, place: usize) -> Counted
+    requires { ⌜ (a < length (now s)) × (solid (getD (now s) a 0) ≡ true) ⌝ }
     ensures { λ r. ⌜ (countedOf r ≡ refused 7 place) × CountFits r ⌝ }
 {
-    Counted::NoCount(Refusal { number: 7, place })
+    Counted::NoCount(refuse(s, a, place, false))
 }
 
 // The next count.
@@ -381,10 +388,10 @@ pub(crate) fn read_count(s: &[u8], k: Cursor) -> Counted
     let d = read_digits(s, a, 9);
     let e = d.end;
     if e == a {
-        return malformed_count(e);
+        return malformed_count(s, a, e);
     }
     if !ends(s, e) {
-        return malformed_count(e);
+        return malformed_count(s, a, e);
     }
     let n = d.value;
     if n < 1 {

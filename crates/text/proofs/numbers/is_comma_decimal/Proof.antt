@@ -1,19 +1,14 @@
 -- `text::numbers::is_comma_decimal` meets its contract. Assumes nothing.
-use mathlib.Core.Path.{_≡_, sym, ap, _∙_}
+use mathlib.Core.Path.{sym, _∙_}
 use native.Mathlib.Omega.{arith}
 use denote.Ref.{now}
-use Rattle.text.specs.Numbers.{isFormed}
-use Rattle.text.specs.InnerNumbers.{formOf}
 use Rattle.text.proofs.InnerForms.{sign-within}
-use Rattle.text.proofs.InnerCommas.{comma-next, comma-none, comma-off, comma-on}
+use Rattle.text.proofs.InnerCommas.{comma-next, comma-none, comma-off, comma-short, comma-on}
 use borrow.Author.Needs.{needs}
 use Rattle.text.proofs.numbers.is_comma_decimal.Statement.{statement}
 use Rattle.text.proofs.numbers.is_comma_decimal.Tie as tie
 
--- the digits' reading and the byte after them, from the decimals' reading on; and the arguments
-abbrev byte-read : tie.After-read-decimals → tie.After-byte-at
-byte-read c = c .before .before
-
+-- the digits' reading, from the byte after them on; and the arguments
 abbrev digits-read : tie.After-byte-at → tie.After-read-digits
 digits-read c = c .before .before
 
@@ -42,38 +37,35 @@ returns-2 c =
     let p = start d .pre in
     comma-off _ _ _ (p .0) (p .1) (d .before .after-sign .ensures) _ (d .read-digits .ensures .ends) (λ z. c .if2 .taken (c .before .byte-at .ensures ∙ z)) (p .2)
 
-add-read-decimals : tie.Need-add-read-decimals
-add-read-decimals c = search needs
+add-read-digits : tie.Need-add-read-digits
+add-read-digits c = search needs
 
-read-decimals-requires : tie.Need-read-decimals-requires
-read-decimals-requires c κs =
-    (comma-next (now (start (digits-read (c .before)) .args .s)) _ (sym (c .before .byte-at .ensures) ∙ c .if2 .left), omega arith)
+read-digits-requires-2 : tie.Need-read-digits-requires-2
+read-digits-requires-2 c κs = (comma-next (now (start (digits-read (c .before)) .args .s)) _ (sym (c .before .byte-at .ensures) ∙ c .if2 .left), omega arith)
 
-enum-told : tie.Need-enum-told
-enum-told c = search needs
-
-enum-told-2 : tie.Need-enum-told-2
-enum-told-2 c = search needs
+add-if3 : tie.Need-add-if3
+add-if3 c = search needs
 
 returns-3 : tie.Need-returns-3
 returns-3 c =
-    let m = c .before .before in
-    let y = byte-read m in
+    let t = c .before in
+    let y = t .before .before in
     let d = digits-read y in
     let p = start d .pre in
-    ap (λ f. isFormed (formOf f)) (sym (c .enum-told .given .1))
-    ∙ comma-on _ _ _ (p .0) (p .1) (d .before .after-sign .ensures) _ (d .read-digits .ensures .ends) (y .before .if1 .left)
-    (sym (y .byte-at .ensures) ∙ m .before .if2 .left) _ (m .read-decimals .ensures)
+    comma-short _ _ _ (p .0) (p .1) (d .before .after-sign .ensures) _ (d .read-digits .ensures .ends) (y .before .if1 .left)
+    (sym (y .byte-at .ensures) ∙ t .before .if2 .left) _ (t .read-digits2 .ensures .ends) (c .if3 .taken)
+
+ends-requires : tie.Need-ends-requires
+ends-requires c κs = search needs
 
 returns-4 : tie.Need-returns-4
 returns-4 c =
-    let m = c .before .before in
-    let y = byte-read m in
+    let t = c .before .before in
+    let y = t .before .before in
     let d = digits-read y in
     let p = start d .pre in
-    ap (λ f. isFormed (formOf f)) (sym (c .enum-told2 .given .1))
-    ∙ comma-on _ _ _ (p .0) (p .1) (d .before .after-sign .ensures) _ (d .read-digits .ensures .ends) (y .before .if1 .left)
-    (sym (y .byte-at .ensures) ∙ m .before .if2 .left) _ (m .read-decimals .ensures)
+    comma-on _ _ _ (p .0) (p .1) (d .before .after-sign .ensures) _ (d .read-digits .ensures .ends) (y .before .if1 .left)
+    (sym (y .byte-at .ensures) ∙ t .before .if2 .left) _ (t .read-digits2 .ensures .ends) (c .before .if3 .left) _ (c .ends .ensures)
 
 pub is-comma-decimal-spec : {M : Type 1} → statement M
 is-comma-decimal-spec =
@@ -84,9 +76,9 @@ is-comma-decimal-spec =
     returns
     byte-at-requires
     returns-2
-    add-read-decimals
-    read-decimals-requires
-    enum-told
-    enum-told-2
+    add-read-digits
+    read-digits-requires-2
+    add-if3
     returns-3
+    ends-requires
     returns-4)

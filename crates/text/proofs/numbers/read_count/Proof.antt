@@ -1,6 +1,7 @@
 -- `text::numbers::read_count` meets its contract. Assumes nothing.
 use mathlib.Core.Path.{sym, _∙_}
 use borrow.Author.Tests.{not-true, not-false}
+use Rattle.text.proofs.Ends.{first-solid}
 use Rattle.text.proofs.InnerSteps.{count-none, count-empty, count-off, count-low, count-high, count-on}
 use borrow.Author.Needs.{needs}
 use Rattle.text.proofs.numbers.read_count.Statement.{statement}
@@ -16,7 +17,9 @@ read-digits-requires : tie.Need-read-digits-requires
 read-digits-requires c κs = search needs
 
 malformed-count-requires : tie.Need-malformed-count-requires
-malformed-count-requires c κs = search needs
+malformed-count-requires c κs =
+    let w = c .before .before in
+    (w .if1 .left, first-solid _ _ _ (w .before .word-start .ensures) (w .if1 .left))
 
 returns-2 : tie.Need-returns-2
 returns-2 c =
@@ -29,7 +32,9 @@ ends-requires : tie.Need-ends-requires
 ends-requires c κs = search needs
 
 malformed-count-requires-2 : tie.Need-malformed-count-requires-2
-malformed-count-requires-2 c κs = search needs
+malformed-count-requires-2 c κs =
+    let w = c .before .before .before .before in
+    (w .if1 .left, first-solid _ _ _ (w .before .word-start .ensures) (w .if1 .left))
 
 returns-3 : tie.Need-returns-3
 returns-3 c =
