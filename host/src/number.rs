@@ -72,11 +72,16 @@ impl<'a> Word<'a> {
         }
     }
 
-    /// Why the word is a comma decimal: its comma is at the place.
+    /// Why the word is a comma decimal: its comma is at the place. Before three digits it may part thousands as well.
     pub fn comma(&self) -> String {
         let decimals = self.bytes.get(self.place + 1..).unwrap_or_default();
         let pointed = [self.beginning(), b".", decimals].concat();
-        format!("a comma stands where a point belongs: write `{}`", pointed.escape_ascii())
+        let said = format!("a comma stands where a point belongs: write `{}`", pointed.escape_ascii());
+        if decimals.len() != 3 {
+            return said;
+        }
+        let thousands = [self.beginning(), decimals].concat();
+        format!("{said}, or `{}` if it parts thousands", thousands.escape_ascii())
     }
 }
 
@@ -155,9 +160,14 @@ mod tests {
 
     #[test]
     fn a_comma_decimal_is_shown_with_a_point() {
-        for (word, comma, pointed) in [("12,5", 2, "12.5"), ("-0,505", 2, "-0.505"), ("1,234", 1, "1.234")] {
+        for (word, comma, pointed) in [
+            ("12,5", 2, "`12.5`"),
+            ("-0,05", 2, "`-0.05`"),
+            ("1,230", 1, "`1.230`, or `1230` if it parts thousands"),
+            ("1,2345", 1, "`1.2345`"),
+        ] {
             let said = Word::around(format!("{HEADER}2 {word}").as_bytes(), HEADER.len() + 2 + comma).comma();
-            assert_eq!(said, format!("a comma stands where a point belongs: write `{pointed}`"));
+            assert_eq!(said, format!("a comma stands where a point belongs: write {pointed}"));
         }
     }
 }
