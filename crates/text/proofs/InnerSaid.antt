@@ -5,7 +5,7 @@ use mathlib.Core.List.{List}
 use Prim.Native.Nat.{ℕ, _+_, _-_, _≤_, _<_}
 use native.Mathlib.Decide.{decLt}
 use native.Mathlib.Omega.{arith}
-use borrow.Author.Tests.{eqb-true, eqb-false, not-false}
+use borrow.Author.Tests.{eqb-true, eqb-false}
 use lib.Dec.{eqb, ltb}
 use lib.ListN.{length, getD, take, drop, set, length-set, List·getD-eq-default}
 use lib.Seq.{slice, length-slice, getD-take, getD-drop, getD-set-other, take-set-lt, drop-set-add}
@@ -17,6 +17,7 @@ use Rattle.text.specs.Right.{Sign, plain, minus, RightNumber, RightCount
 use Rattle.text.proofs.Bytes.{digit-solid}
 use Rattle.text.proofs.Ends.{byte-within, end-byte, end-lower, end-upper, first-solid, word-found, word-none}
 use Rattle.text.proofs.InnerRuns.{run-lower, run-upper, run-fails, run-passes}
+use Rattle.text.proofs.InnerCommas.{comma-from, comma-byte}
 use Rattle.text.proofs.InnerRight.{Ran, broken, count-all, count-off, number-none, number-whole, number-off, number-fraction, number-cut}
 
 -- ---- the word of a text t from a up to e, where neither a digit nor a point stands
@@ -159,11 +160,11 @@ module _ (s : List ℕ) (a e : ℕ) (l : a < e) (h : e ≤ length s) (stop : dig
   comma-in u q =
       let p : ℕ → Bool = λ b. not (comma b) in
       let c = firstComma s a e in
-      let low : a ≤ c = run-lower p s a (e - a) in (
+      let low = comma-from s a e (omega arith) u in (
         low,
         record {
           inside = omega (arith, word-length s a e l h stop);
-          comma = byte-at s a e c low u ∙ eqb-true (getD s c 0) 44 (not-false (comma (getD s c 0)) (run-fails p s a (e - a) (omega arith)));
+          comma = byte-at s a e c low u ∙ comma-byte s a e (omega arith) u;
           first = λ j k z. true≢false
               (sym (run-passes p s a (e - a) (a + j) (omega arith) (omega arith)) ∙ ap p (sym (word-byte s a e j (omega arith)) ∙ z));
           right = set-right c low u q;
