@@ -31,11 +31,18 @@ sheets() {
 # Files that are no field.
 files() {
     printf '%s\n12,5 5 5\n5 2 4\n5 5 5\n' "$head" >comma.asc
-    stops 1 'refused 7 at 52' 'comma.asc: refused 7 at 52 (line 2, column 1, at `12,5`): expected a number' comma.asc
-    stops 1 'refused 7 at 52' 'decimals take a point and no comma' comma.asc
-    stops 1 'refused 7 at 52' 'standard input: refused 7 at 52 (line 2, column 1, at `12,5`)' - <comma.asc
+    stops 1 'refused 12 at 54' 'comma.asc: refused 12 at 54 (line 2, column 3, at `12,5`): a comma stands where a point belongs' comma.asc
+    stops 1 'refused 12 at 54' 'write `12.5`' comma.asc
+    stops 1 'refused 12 at 54' 'standard input: refused 12 at 54 (line 2, column 3, at `12,5`)' - <comma.asc
+    printf '%s\n1e3 5 5\n5 2 4\n5 5 5\n' "$head" >letter.asc
+    stops 1 'refused 7 at 53' 'letter.asc: refused 7 at 53 (line 2, column 2, at `1e3`): expected a digit, a point or the end of the word, not `e`' letter.asc
+    printf '%s\n5 5 5\n5 2 4\n5 5 5.' "$head" >cut.asc
+    stops 1 'refused 7 at 70' '(line 4, column 7, after `5.`, at the end of the text): the word stops too soon: expected a digit' cut.asc
+    printf 'ncols 3,0\n' >count.asc
+    stops 1 'refused 7 at 7' '(line 1, column 8, at `3,0`): expected a digit or the end of the word, not `,`; ncols and nrows take' count.asc
     printf 'ncols 1\nnrows 1\nxllcorner 478000.000000000000\n' >gdal.asc
-    stops 1 'refused 7 at 26' 'at most six digits may stand behind the point: docs/FROM-GIS.md' gdal.asc
+    stops 1 'refused 7 at 39' '(line 3, column 24, at `478000.000000000000`): expected the end of the word, not `0`' gdal.asc
+    stops 1 'refused 7 at 39' 'at most six digits may stand behind the point: docs/FROM-GIS.md' gdal.asc
     printf '%s\n5 5 5\n5 2 4\n' "$head" >short.asc
     stops 1 'refused 9 at 64' '(line 4, column 1, at the end of the text): the text ends too early' short.asc
     stops 1 'refused 9 at 64' 'the header asks for 3 rows of 3 heights' short.asc
@@ -108,7 +115,7 @@ output() {
     ! ls -A | grep '^\.lsmap' || fail "a sheet's part is left"
     [ -L link.txt ] && [ "$(stat -c %a sheet.txt)" = 640 ] && ! cmp -s sheet.txt "$root/host/pit.txt" || fail "--output over a link"
     cp sheet.txt before.txt
-    stops 1 'refused 7 at 52' 'comma.asc: refused 7' comma.asc --output sheet.txt
+    stops 1 'refused 12 at 54' 'comma.asc: refused 12' comma.asc --output sheet.txt
     stops 2 '' 'cannot make pit.asc' pit.asc --grids pit.asc --output sheet.txt
     cmp sheet.txt before.txt || fail "a run that failed changed a sheet"
     stops 2 '' 'cannot write gone/sheet.txt: No such file or directory' pit.asc --output gone/sheet.txt

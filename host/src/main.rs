@@ -5,6 +5,7 @@ mod flags;
 mod grids;
 mod library;
 mod messages;
+mod number;
 mod output;
 mod sheet;
 mod summary;

@@ -1,21 +1,18 @@
 //! A refusal in words: where it stands in the text, what stands there, and what was expected.
 
 use crate::library::{Header, Refusal};
+use crate::number::Word;
 
 const HEADER: &str = "expected the header's next word: ncols, nrows, xllcorner, yllcorner, cellsize, \
     then nodata_value or the heights";
 
-const NUMBER: &str = "expected a number: an optional minus, 1 to 9 digits, then optionally a point and 1 to 6 digits; \
-    ncols and nrows have digits only";
-
-/// What refusals 1 to 10 of the text's calls expect, as docs/RULES.md 3 has them.
+/// What refusals 1 to 10 of the text's calls expect, as docs/RULES.md 3 has them; of 7 and 12 the word itself tells it.
 fn expected(number: u32) -> &'static str {
     match number {
         1 => "the number of rows and the number of columns are each from 1 to 1024",
         3 => "the cell side is from 0.01 to 1000 m",
         5 => "a height is from -500 to 9000 m, or equals the NoData number",
         6 => HEADER,
-        7 => NUMBER,
         8 => "a number is whole in cm: a digit after the second decimal has to be 0",
         9 => "the text ends too early: a word is missing here",
         10 => "nothing may follow the last height",
@@ -31,21 +28,19 @@ fn line_and_column(text: &[u8], place: usize) -> (usize, usize) {
     (line, column)
 }
 
-/// The bytes from a place up to the next blank.
-fn word_at(text: &[u8], place: usize) -> &[u8] {
-    let rest = &text[place.min(text.len())..];
-    let length = rest.iter().take_while(|b| !b" \t\r\n".contains(b)).count();
-    &rest[..length]
-}
-
-/// The start of the word at a place, as it may be shown.
-fn shown(text: &[u8], place: usize) -> String {
-    let word = word_at(text, place);
-    if word.is_empty() {
-        return "the end of the text".to_string();
+/// How the place lies to the word that is refused, and the start of that word as it may be shown.
+fn shown(text: &[u8], refusal: Refusal) -> String {
+    if refusal.number == 9 {
+        return "at the end of the text".to_string();
     }
-    let more = if word.len() > 24 { ".." } else { "" };
-    format!("`{}{more}`", word[..word.len().min(24)].escape_ascii())
+    let word = Word::around(text, refusal.place);
+    let more = if word.bytes.len() > 24 { ".." } else { "" };
+    let bytes = word.bytes[..word.bytes.len().min(24)].escape_ascii();
+    match word.byte() {
+        Some(_) => format!("at `{bytes}{more}`"),
+        None if refusal.place == text.len() => format!("after `{bytes}{more}`, at the end of the text"),
+        None => format!("after `{bytes}{more}`"),
+    }
 }
 
 /// Whether a text begins with a byte order mark, of UTF-8 or of UTF-16.
@@ -54,29 +49,11 @@ fn is_marked(text: &[u8]) -> bool {
     marks.iter().any(|mark| text.starts_with(mark))
 }
 
-/// Whether a word would be a number if it had fewer digits behind its point.
-fn has_too_many_decimals(word: &[u8]) -> bool {
-    let mut parts = word.strip_prefix(b"-").unwrap_or(word).split(|b| *b == b'.');
-    let are_digits = |part: &[u8]| !part.is_empty() && part.iter().all(u8::is_ascii_digit);
-    match (parts.next(), parts.next(), parts.next()) {
-        (Some(whole), Some(decimals), None) => {
-            are_digits(whole) && whole.len() <= 9 && are_digits(decimals) && decimals.len() > 6
-        }
-        _ => false,
-    }
-}
-
 /// What is likely behind a refusal, where its number and the bytes there tell.
 fn hint(text: &[u8], refusal: Refusal, header: Option<Header>) -> String {
-    let word = word_at(text, refusal.place);
     match (refusal.number, header) {
         (6, _) if refusal.place == 0 && is_marked(text) => {
             "; the text begins with a byte order mark: save it as plain text without one".to_string()
-        }
-        (7, _) if word.contains(&b',') => "; decimals take a point and no comma".to_string(),
-        (7, _) if has_too_many_decimals(word) => {
-            "; at most six digits may stand behind the point: docs/FROM-GIS.md has a command that shortens them"
-                .to_string()
         }
         (9 | 10, Some(h)) => format!("; the header asks for {} rows of {} heights", h.rows, h.columns),
         (9, None) if text.is_empty() => "; the text is empty".to_string(),
@@ -91,12 +68,12 @@ pub fn of_text(text: &[u8], refusal: Refusal, header: Option<Header>) -> String 
         return format!("refused {number} at {place}: {}", expected(number));
     }
     let (line, column) = line_and_column(text, place);
-    format!(
-        "refused {number} at {place} (line {line}, column {column}, at {}): {}{}",
-        shown(text, place),
-        expected(number),
-        hint(text, refusal, header)
-    )
+    let why = match number {
+        7 => Word::around(text, place).fault(),
+        12 => Word::around(text, place).comma(),
+        _ => format!("{}{}", expected(number), hint(text, refusal, header)),
+    };
+    format!("refused {number} at {place} (line {line}, column {column}, {}): {why}", shown(text, refusal))
 }
 
 /// The message for a refusal of the map call, whose place is a setting or a cell.
@@ -123,16 +100,11 @@ mod tests {
         of_text(text, Refusal { number, place }, None)
     }
 
-    /// The message for refusal 7 at the first height.
-    fn malformed(word: &str) -> String {
-        message(format!("{HEADER_LINE}{word} 2 3\n").as_bytes(), 7, HEADER_LINE.len())
-    }
-
     #[test]
     fn a_place_is_told_as_line_and_column() {
         assert!(
             message(b"ncols 3\nnrows x\n", 7, 14)
-                .starts_with("refused 7 at 14 (line 2, column 7, at `x`): expected a number")
+                .starts_with("refused 7 at 14 (line 2, column 7, at `x`): expected a digit, not `x`; ncols and nrows")
         );
         assert!(
             message(b"", 9, 0)
@@ -148,21 +120,22 @@ mod tests {
     }
 
     #[test]
-    fn decimals_behind_a_comma_get_a_hint() {
-        assert!(malformed("12,5").ends_with("; decimals take a point and no comma"));
-        assert!(malformed("12,0000000").ends_with("; decimals take a point and no comma"));
+    fn a_comma_decimal_says_what_to_write() {
+        let text = format!("{HEADER_LINE}12,5 2 3\n");
+        let said = "refused 12 at 54 (line 2, column 3, at `12,5`): a comma stands where a point belongs: write `12.5`";
+        assert_eq!(message(text.as_bytes(), 12, 54), said);
     }
 
     #[test]
-    fn too_many_decimals_get_a_hint() {
-        for word in ["10.000000000000", "-0.1234567", "123456789.0000000"] {
-            let said = malformed(word);
-            assert!(said.contains("; at most six digits may stand behind the point: docs/FROM-GIS.md"), "{said}");
-        }
-        for word in ["10.000000", "1e-7", "1.2.3456789", ".0000000", "1.000000x", "--1.0000000", "1234567890.0000000"] {
-            let said = malformed(word);
-            assert!(said.ends_with("ncols and nrows have digits only"), "{said}");
-        }
+    fn the_whole_word_is_shown_where_it_breaks() {
+        let said = |heights: &str, place| message(format!("{HEADER_LINE}{heights}").as_bytes(), 7, place);
+        assert!(
+            said("1e3 2 3\n", 53)
+                .starts_with("refused 7 at 53 (line 2, column 2, at `1e3`): expected a digit, a point or the end of")
+        );
+        assert!(said("5.\n2 3\n", 54).contains("(line 2, column 3, after `5.`): the word stops too soon: expected a"));
+        assert!(said("1 2 -", 57).contains("(line 2, column 6, after `-`, at the end of the text): the word stops"));
+        assert!(said(&"7".repeat(1000), 61).contains("column 10, at `777777777777777777777777..`): expected a point"));
     }
 
     #[test]

@@ -4,7 +4,7 @@ use mathlib.Core.List.{List, [], _∷_, map}
 use Prim.Native.String.{String}
 use Rattle.text.specs.Bytes.{bytes}
 use Rattle.text.specs.Words.{run, wordStart, wordEnd, word}
-use Rattle.text.specs.Numbers.{value, countFormAt, decimals, numberAt, count, number, measure}
+use Rattle.text.specs.Numbers.{value, countFormAt, decimals, numberAt, firstComma, commaDecimal, read, count, number, measure}
 use Rattle.text.specs.Headers.{named, name, corner, side, field, anyMeasure, noData, extent, corners, sideAndNoData, header}
 use Rattle.text.specs.Heights.{height, heights, end, body, grid}
 use Rattle.text.specs.Ranges.{sizeTest, lengthTest, sideTest, heightTest}
@@ -35,12 +35,13 @@ examples =
     -- "too long shows `long`"
     record { text = "ncols 1 nrows 1 xllcorner 0 yllcorner 0 cellsize 1000\n5"; sheet = "1 1 100000 1 0\n0 0 500 500 0 1 5000 long\n" } ∷
     -- "A refusal prints `refused 7 at 52` and nothing else."
-    record { text = "ncols 1 nrows 1 xllcorner 0 yllcorner 0 cellsize 10\n1,5\n"; sheet = "refused 7 at 52\n" } ∷
+    record { text = "ncols 1 nrows 1 xllcorner 0 yllcorner 0 cellsize 10\n,5\n"; sheet = "refused 7 at 52\n" } ∷
+    record { text = "ncols 1 nrows 1 xllcorner 0 yllcorner 0 cellsize 10\n12,5\n"; sheet = "refused 12 at 54\n" } ∷
     -- "after a good header, more than 2,048 cells (place 0)": 3,072 cells, and 2,048 of them, whose heights are then missing
     record { text = "ncols 1024 nrows 3 xllcorner 0 yllcorner 0 cellsize 10"; sheet = "refused 11 at 0\n" } ∷
     record { text = "ncols 1024 nrows 2 xllcorner 0 yllcorner 0 cellsize 10"; sheet = "refused 9 at 54\n" } ∷
     record { text = "ncols 1024 nrows 3 xllcorner 0 yllcorner 0 cellsize 0"; sheet = "refused 3 at 52\n" } ∷ []
 
 pub examples-hold : map (λ (x : Example). sheetOf (bytes (x .text)) half) examples ≡ map (λ (x : Example). bytes (x .sheet)) examples
-unfolding examples sheetOf bytes half run wordStart wordEnd word value countFormAt decimals numberAt count number measure named name corner side field anyMeasure noData extent corners sideAndNoData header height heights end body grid sizeTest lengthTest sideTest settingsTest heightTest
+unfolding examples sheetOf bytes half run wordStart wordEnd word value countFormAt decimals numberAt firstComma commaDecimal read count number measure named name corner side field anyMeasure noData extent corners sideAndNoData header height heights end body grid sizeTest lengthTest sideTest settingsTest heightTest
 examples-hold = refl

@@ -1,14 +1,14 @@
 -- The rules' examples of the text, computed from the definitions. Assumes nothing.
 use mathlib.Core.Path.{_≡_, refl}
-use mathlib.Core.List.{List, [], _∷_, map}
-use Prim.Native.Nat.{ℕ}
+use mathlib.Core.List.{List, [], _∷_, _++_, map}
+use Prim.Native.Nat.{ℕ, _+_}
 use Prim.Native.String.{String}
 use lib.IntN.{ℤ, pos, negℤ}
-use lib.ListN.{replicate}
+use lib.ListN.{length, replicate}
 use Rattle.text.specs.Bytes.{bytes}
 use Rattle.text.specs.Reader.{Step, got, refused}
 use Rattle.text.specs.Words.{run, wordStart, wordEnd, word}
-use Rattle.text.specs.Numbers.{Placed, value, countFormAt, decimals, numberAt, count, number, measure}
+use Rattle.text.specs.Numbers.{Placed, value, countFormAt, decimals, numberAt, firstComma, commaDecimal, read, count, number, measure}
 use Rattle.text.specs.Headers.{named, name, corner, side, field, anyMeasure, noData, extent, corners, sideAndNoData, header}
 use Rattle.text.specs.Heights.{height, heights, end, body, grid}
 use Rattle.text.specs.Answers.{GridOutcome, headerAnswer, gridAnswer}
@@ -32,21 +32,21 @@ singles =
     record { text = "12.5000"; gives = cm (pos 1250) } ∷
     record { text = "-0"; gives = cm (pos 0) } ∷
     record { text = "12.505"; gives = wrong 8 0 } ∷
-    record { text = "12,5"; gives = wrong 7 0 } ∷
+    record { text = "12,5"; gives = wrong 12 2 } ∷
     record { text = ".5"; gives = wrong 7 0 } ∷
-    record { text = "5."; gives = wrong 7 0 } ∷
+    record { text = "5."; gives = wrong 7 2 } ∷
     record { text = "+5"; gives = wrong 7 0 } ∷
     record { text = ""; gives = wrong 9 0 } ∷
     record { text = " -9999 "; gives = cm (negℤ (pos 999900)) } ∷
-    record { text = "-"; gives = wrong 7 0 } ∷
-    record { text = "1234567890"; gives = wrong 7 0 } ∷
-    record { text = "1.1234567"; gives = wrong 7 0 } ∷
+    record { text = "-"; gives = wrong 7 1 } ∷
+    record { text = "1234567890"; gives = wrong 7 9 } ∷
+    record { text = "1.1234567"; gives = wrong 7 8 } ∷
     record { text = "0.001"; gives = wrong 8 0 } ∷
     record { text = "-0.070000"; gives = cm (negℤ (pos 7)) } ∷
     record { text = "999999999.99"; gives = cm (pos 99999999999) } ∷ []
 
 pub singles-hold : map (λ (x : Single). readOf (measure (bytes (x .text)) 0)) singles ≡ map (λ (x : Single). x .gives) singles
-unfolding singles bytes run wordStart wordEnd word value decimals numberAt number measure
+unfolding singles bytes run wordStart wordEnd word value decimals numberAt firstComma commaDecimal read number measure
 singles-hold = refl
 
 -- ---- whole texts, with so many heights lent, each 77 beforehand
@@ -83,7 +83,7 @@ wholes =
     record { lent = 2; text = "ncols 2 nrows 1 xllcorner 0 yllcorner 0 cellsize 0 1 2"; number = 3; place = 49; heights = markers 2 } ∷
     record { lent = 2; text = "ncols 2 nrows 1 xllcorner 0 yllcorner 0 cellsize 10 1 9000.01"; number = 5; place = 54; heights = markers 2 } ∷
     record { lent = 2; text = "ncols 2 nrows 1 xllcorner 0 yllcorner 0 cellsize 10 data 1"; number = 6; place = 52; heights = markers 2 } ∷
-    record { lent = 2; text = "ncols 2 nrows 1 xllcorner 0 yllcorner 0 cellsize 10 12,5 2"; number = 7; place = 52; heights = markers 2 } ∷
+    record { lent = 2; text = "ncols 2 nrows 1 xllcorner 0 yllcorner 0 cellsize 10 12,5 2"; number = 12; place = 54; heights = markers 2 } ∷
     record { lent = 2; text = "ncols 2 nrows 1 xllcorner 0 yllcorner 0 cellsize 10 1 12.505"; number = 8; place = 54; heights = markers 2 } ∷
     record { lent = 2; text = "ncols 2 nrows 1 xllcorner 0 yllcorner 0 cellsize 10 1 "; number = 9; place = 54; heights = markers 2 } ∷
     record { lent = 2; text = "ncols 2 nrows 1 xllcorner 0 yllcorner 0 cellsize 10 1 2 3"; number = 10; place = 56; heights = markers 2 } ∷ []
@@ -98,17 +98,83 @@ toldOf r = record { number = r .answer .number; place = r .answer .place; height
 
 pub wholes-hold : map (λ (x : Whole). toldOf (gridAnswer (markers (x .lent)) (bytes (x .text)))) wholes
     ≡ map (λ (x : Whole). record { number = x .number; place = x .place; heights = x .heights }) wholes
-unfolding wholes bytes run wordStart wordEnd word value countFormAt decimals numberAt count number measure named name corner side field anyMeasure noData extent corners sideAndNoData header height heights end body grid
+unfolding wholes bytes run wordStart wordEnd word value countFormAt decimals numberAt firstComma commaDecimal read count number measure named name corner side field anyMeasure noData extent corners sideAndNoData header height heights end body grid
 wholes-hold = refl
+
+-- ---- words that are not right: number, and place from the word's first byte
+
+pub record Broken : Type 0 where
+  pub text : String
+  pub number : ℕ
+  pub place : ℕ
+
+-- where a number is wanted
+unfoldable pub numbers : List Broken
+numbers =
+    record { text = "12,5"; number = 12; place = 2 } ∷
+    record { text = "12,505"; number = 12; place = 2 } ∷
+    record { text = "-1,234 7"; number = 12; place = 2 } ∷
+    record { text = ".5"; number = 7; place = 0 } ∷
+    record { text = "+5"; number = 7; place = 0 } ∷
+    record { text = "x"; number = 7; place = 0 } ∷
+    record { text = ",5"; number = 7; place = 0 } ∷
+    record { text = "5."; number = 7; place = 2 } ∷
+    record { text = "5. 7"; number = 7; place = 2 } ∷
+    record { text = "-"; number = 7; place = 1 } ∷
+    record { text = "-5."; number = 7; place = 3 } ∷
+    record { text = "1234567890"; number = 7; place = 9 } ∷
+    record { text = "1.1234567"; number = 7; place = 8 } ∷
+    record { text = "12,1234567"; number = 7; place = 2 } ∷
+    record { text = "5,"; number = 7; place = 1 } ∷
+    record { text = "1234567890,5"; number = 7; place = 9 } ∷
+    record { text = "1,2,3"; number = 7; place = 1 } ∷
+    record { text = "1.5,3"; number = 7; place = 3 } ∷ []
+
+-- where a count is wanted
+unfoldable pub counts : List Broken
+counts =
+    record { text = "5.0"; number = 7; place = 1 } ∷
+    record { text = "1,5"; number = 7; place = 1 } ∷
+    record { text = "5,"; number = 7; place = 1 } ∷
+    record { text = "-5"; number = 7; place = 0 } ∷
+    record { text = ",5 7"; number = 7; place = 0 } ∷
+    record { text = "1234567890"; number = 7; place = 9 } ∷ []
+
+-- what comes before a corner, the cell side, the NoData number and a height
+unfoldable pub beforeNumbers : List String
+beforeNumbers =
+    "ncols 1 nrows 1 xllcorner " ∷
+    "ncols 1 nrows 1 xllcorner 0 yllcorner " ∷
+    "ncols 1 nrows 1 xllcorner 0 yllcorner 0 cellsize " ∷
+    "ncols 1 nrows 1 xllcorner 0 yllcorner 0 cellsize 10 nodata_value " ∷
+    "ncols 1 nrows 1 xllcorner 0 yllcorner 0 cellsize 10 nodata_value 0 " ∷ []
+
+unfoldable pub beforeCounts : List String
+beforeCounts = "ncols " ∷ "ncols 1 nrows " ∷ []
+
+-- number and place in a text, and those that are claimed
+abbrev pub found : String → Broken → ℕ × ℕ
+found before x = let r = gridAnswer (markers 1) (bytes before ++ bytes (x .text)) .answer in (r .number, r .place)
+
+abbrev pub claimed : String → Broken → ℕ × ℕ
+claimed before x = (x .number, length (bytes before) + x .place)
+
+pub numbers-break : map (λ (b : String). map (found b) numbers) beforeNumbers ≡ map (λ (b : String). map (claimed b) numbers) beforeNumbers
+unfolding numbers beforeNumbers bytes run wordStart wordEnd word value countFormAt decimals numberAt firstComma commaDecimal read count number measure named name corner side field anyMeasure noData extent corners sideAndNoData header height heights end body grid
+numbers-break = refl
+
+pub counts-break : map (λ (b : String). map (found b) counts) beforeCounts ≡ map (λ (b : String). map (claimed b) counts) beforeCounts
+unfolding counts beforeCounts bytes run wordStart wordEnd word value countFormAt decimals numberAt firstComma commaDecimal read count number measure named name corner side field anyMeasure noData extent corners sideAndNoData header height heights end body grid
+counts-break = refl
 
 -- ---- the header call: it judges nothing after the header, but the eleventh word belongs to it
 
 pub header-alone : headerAnswer (bytes "ncols 2 nrows 1 xllcorner 0 yllcorner 0 cellsize 12.5 1,0")
     ≡ record { number = 0; place = 0; rows = 1; columns = 2; side = pos 1250; noData = negℤ (pos 999900) }
-unfolding bytes run wordStart wordEnd word value countFormAt decimals numberAt count number measure named name corner side field anyMeasure noData extent corners sideAndNoData header
+unfolding bytes run wordStart wordEnd word value countFormAt decimals numberAt firstComma commaDecimal read count number measure named name corner side field anyMeasure noData extent corners sideAndNoData header
 header-alone = refl
 
 pub eleventh-word : headerAnswer (bytes "ncols 2 nrows 1 xllcorner 0 yllcorner 0 cellsize 12.5 nan")
     ≡ record { number = 6; place = 54; rows = 0; columns = 0; side = pos 0; noData = pos 0 }
-unfolding bytes run wordStart wordEnd word value countFormAt decimals numberAt count number measure named name corner side field anyMeasure noData extent corners sideAndNoData header
+unfolding bytes run wordStart wordEnd word value countFormAt decimals numberAt firstComma commaDecimal read count number measure named name corner side field anyMeasure noData extent corners sideAndNoData header
 eleventh-word = refl

@@ -123,7 +123,7 @@ module _ (s : List ℕ) (a b : ℕ) (h : a < length s) (first : solid (getD s a 
       go true = omega arith
       go false = omega arith
 
-  sign-end : wordEnd s a ≡ wordEnd s b
+  pub sign-end : wordEnd s a ≡ wordEnd s b
   sign-end = go (eqb (getD s a 0) 45) sign
     where
       go : (t : Bool) → b ≡ cond t (a + 1) a → wordEnd s a ≡ wordEnd s b

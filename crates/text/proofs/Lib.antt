@@ -5,8 +5,13 @@ pub mod Accepted
 pub mod InnerRuns
 pub mod InnerValues
 pub mod InnerForms
+pub mod InnerCommas
 pub mod InnerSteps
 pub mod InnerNames
 pub mod InnerFields
 pub mod InnerGrids
 pub mod InnerTested
+pub mod InnerRight
+pub mod InnerSaid
+pub mod Right
+pub mod Calls

@@ -36,7 +36,7 @@ corner = do
   x ← number
   give (tt {0})
 
--- 9, 7, 8, then 3: cell side out of range
+-- 9, 12, 7, 8, then 3: cell side out of range
 unfoldable pub side : Reader ℤ
 side = do
   m ← measure

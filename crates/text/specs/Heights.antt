@@ -15,7 +15,7 @@ abbrev pub same : ℤ → ℤ → Bool
 same a b = leZ a b && leZ b a
 
 -- A height equal to the NoData number n is NoData and becomes -999,900; that test precedes the range.
--- 9, 7, 8, then 5: height out of range and not NoData
+-- 9, 12, 7, 8, then 5: height out of range and not NoData
 unfoldable pub height : ℤ → Reader ℤ
 height n = do
   m ← measure

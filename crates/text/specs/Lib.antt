@@ -4,6 +4,7 @@ pub mod Quantities
 pub mod Reader
 pub mod Words
 pub mod Numbers
+pub mod Right
 pub mod Headers
 pub mod Heights
 pub mod Answers

@@ -1,10 +1,10 @@
 -- RULES 2.3: numbers. A number's word begins at a and ends before e. Assumes nothing.
 use Prim.Native.Nat.{ℕ, zero as zeroᴺ, suc, _+_, _-_, _*_}
-use mathlib.Core.Bool.{Bool, false, not, cond, _&&_}
+use mathlib.Core.Bool.{Bool, true, false, not, cond, _&&_}
 use mathlib.Core.List.{List}
 use lib.IntN.{ℤ, pos, negℤ}
 use lib.Dec.{leb, ltb, eqb}
-use lib.ListN.{getD}
+use lib.ListN.{getD, set}
 use Rattle.text.specs.Quantities.{extentIn}
 use Rattle.text.specs.Reader.{Reader, got, refused, _>>=_, _>>_, give, check}
 use Rattle.text.specs.Words.{run, Word, word}
@@ -71,16 +71,33 @@ wholeAndDecimals s e minus b d =
 unfoldable pub numberAt : List ℕ → ℕ → ℕ → Form Number
 numberAt s a e = let b = afterSign s a in wholeAndDecimals s e (ltb a b) b (run digit s b 9)
 
--- 7: number malformed, a comma included
-abbrev pub formedOr : {A : Type 0} → Word → Form A → Reader A
-formedOr w (formed x) s i = got x i
-formedOr w (malformed p) s i = refused 7 (w .start)
+abbrev pub isFormed : {A : Type 0} → Form A → Bool
+isFormed (formed x) = true
+isFormed (malformed p) = false
+
+abbrev pub comma : ℕ → Bool
+comma b = eqb b 44
+
+-- the word's first comma; e where it has none
+unfoldable pub firstComma : List ℕ → ℕ → ℕ → ℕ
+firstComma s a e = run (λ b. not (comma b)) s a (e - a)
+
+-- The word would be right, of the form that its position allows, if its first comma were a point.
+unfoldable pub commaDecimal : {A : Type 0} → (List ℕ → ℕ → ℕ → Form A) → List ℕ → ℕ → ℕ → Bool
+unfolding firstComma
+commaDecimal form s a e = let c = firstComma s a e in ltb c e && isFormed (form (set s c 46) a e)
+
+-- 12: comma decimal; place: the comma. 7: number malformed; place: where the word stops being of the form
+abbrev pub formedOr : {A : Type 0} → Bool → ℕ → Form A → Reader A
+formedOr decimal c (formed x) s i = got x i
+formedOr decimal c (malformed p) s i = cond decimal (refused 12 c) (refused 7 p)
 
 -- a word of the form that its position allows
-abbrev pub read : {A : Type 0} → (List ℕ → ℕ → ℕ → Form A) → Word → Reader A
-read form w s i = formedOr w (form s (w .start) (w .end)) s i
+unfoldable pub read : {A : Type 0} → (List ℕ → ℕ → ℕ → Form A) → Word → Reader A
+unfolding firstComma commaDecimal
+read form w s i = formedOr (commaDecimal form s (w .start) (w .end)) (firstComma s (w .start) (w .end)) (form s (w .start) (w .end)) s i
 
--- 9, 7, then 1: rows or columns 0 or above 1,024
+-- 9, 12, 7, then 1: rows or columns 0 or above 1,024
 unfoldable pub count : Reader ℕ
 count = do
   w ← word
@@ -93,7 +110,7 @@ pub record Placed (A : Type 0) : Type 0 where
   pub place : ℕ
   pub is : A
 
--- 9, then 7
+-- 9, 12, then 7
 unfoldable pub number : Reader (Placed Number)
 number = do
   w ← word
@@ -103,7 +120,7 @@ number = do
 abbrev pub centimetres : Bool → ℕ → ℤ
 centimetres minus size = cond minus (negℤ (pos size)) (pos size)
 
--- Cell side, NoData and heights become cm exactly; a nonzero digit past the second decimal is too fine. 9, 7, then 8
+-- Cell side, NoData and heights become cm exactly; a nonzero digit past the second decimal is too fine. 9, 12, 7, then 8
 unfoldable pub measure : Reader (Placed ℤ)
 measure = do
   x ← number

@@ -1,11 +1,12 @@
 // Numbers, read from their first byte in one pass: a sign, whole digits, a point, decimals, and the word's end.
 ghost use mathlib.Core.Path.{_≡_};
-ghost use mathlib.Core.Bool.{true};
+ghost use mathlib.Core.Bool.{true, false, cond, _&&_};
 ghost use Prim.Native.Nat.{_+_, _-_, _*_, _≤_, _<_};
 ghost use lib.Dec.{eqb};
 ghost use lib.ListN.{length, getD};
+ghost use Rattle.text.specs.Reader.{refused};
 ghost use Rattle.text.specs.Words.{run, solid, wordEnd};
-ghost use Rattle.text.specs.Numbers.{digit, digitOf, zero, afterSign, value, numberAt, decimals, centimetres, number};
+ghost use Rattle.text.specs.Numbers.{digit, digitOf, zero, afterSign, value, numberAt, decimals, isFormed, commaDecimal, centimetres, number};
 ghost use Rattle.text.specs.Numbers as D;
 ghost use Rattle.text.specs.InnerNumbers.{Limit, DigitsFrom, HundredthsFrom, TailFrom, Parsed, numberedOf, SizeFits, measuredOf, countedOf, CountFits};
 use crate::Refusal;
@@ -223,6 +224,42 @@ fn read_form(s: &[u8], a: usize) -> Form
     Form::Malformed { at: d }
 }
 
+// Whether the word that begins at `a`, which is no number, would be one if its first comma were a point. Only then do its whole
+// digits end at that comma.
+fn is_comma_decimal(s: &[u8], a: usize) -> bool
+    requires { ⌜ (a < length (now s)) × (solid (getD (now s) a 0) ≡ true) × (isFormed (numberAt (now s) a (wordEnd (now s) a)) ≡ false) ⌝ }
+    ensures { λ r. ⌜ r ≡ commaDecimal numberAt (now (s .entry)) a (wordEnd (now (s .entry)) a) ⌝ }
+{
+    let b = after_sign(s, a);
+    let w = read_digits(s, b, 9);
+    let d = w.end;
+    if d == b {
+        return false;
+    }
+    if byte_at(s, d) != 44 {
+        return false;
+    }
+    let t = read_digits(s, d + 1, 6);
+    let f = t.end;
+    if f == d + 1 {
+        return false;
+    }
+    ends(s, f)
+}
+
+// The refusal of the word that begins at `a` and breaks at `place`. `point` says whether its position allows a point.
+fn refuse(s: &[u8], a: usize, place: usize, point: bool) -> Refusal
+    requires { ⌜ (a < length (now s)) × (solid (getD (now s) a 0) ≡ true) × (point ≡ true → isFormed (numberAt (now s) a (wordEnd (now s) a)) ≡ false) ⌝ }
+    ensures { λ r. ⌜ (r .number ≡ cond (point && commaDecimal numberAt (now (s .entry)) a (wordEnd (now (s .entry)) a)) 12 7) × (r .place ≡ place) ⌝ }
+{
+    let number = if point {
+        if is_comma_decimal(s, a) { 12 } else { 7 }
+    } else {
+        7
+    };
+    Refusal { number, place }
+}
+
 // A number with the place of its word and the cursor after it.
 pub(crate) struct Number {
     pub(crate) start: usize,
@@ -252,10 +289,7 @@ impl Cursor {
         }
         let f = read_form(s, a);
         match f {
-            Form::Malformed { at: _ } => Numbered::NoNumber(Refusal {
-                number: 7,
-                place: a,
-            }),
+            Form::Malformed { at: place } => Numbered::NoNumber(refuse(s, a, place, true)),
             Form::Number {
                 minus,
                 size,
@@ -331,6 +365,14 @@ pub(crate) enum Counted {
     NoCount(Refusal),
 }
 
+// A count has no point, so a comma in it is like any other byte.
+fn malformed_count(s: &[u8], a: usize, place: usize) -> Counted
+    requires { ⌜ (a < length (now s)) × (solid (getD (now s) a 0) ≡ true) ⌝ }
+    ensures { λ r. ⌜ (countedOf r ≡ refused 7 place) × CountFits r ⌝ }
+{
+    Counted::NoCount(refuse(s, a, place, false))
+}
+
 // The next count.
 pub(crate) fn read_count(s: &[u8], k: Cursor) -> Counted
     ensures { λ r. ⌜ (countedOf r ≡ D.count (now (s .entry)) (k .at)) × CountFits r ⌝ }
@@ -346,16 +388,10 @@ pub(crate) fn read_count(s: &[u8], k: Cursor) -> Counted
     let d = read_digits(s, a, 9);
     let e = d.end;
     if e == a {
-        return Counted::NoCount(Refusal {
-            number: 7,
-            place: a,
-        });
+        return malformed_count(s, a, e);
     }
     if !ends(s, e) {
-        return Counted::NoCount(Refusal {
-            number: 7,
-            place: a,
-        });
+        return malformed_count(s, a, e);
     }
     let n = d.value;
     if n < 1 {

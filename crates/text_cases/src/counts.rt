@@ -55,4 +55,14 @@ fn digits() {
         b"rows 5.0\n\
         ncols 2 nrows 5.0 xllcorner 0 yllcorner 0 cellsize 10\n1 2\n",
     );
+    case(
+        2,
+        b"columns 1,5\n\
+        ncols 1,5 nrows 1 xllcorner 0 yllcorner 0 cellsize 10\n1 2\n",
+    );
+    case(
+        2,
+        b"rows 1,\n\
+        ncols 2 nrows 1, xllcorner 0 yllcorner 0 cellsize 10\n1 2\n",
+    );
 }

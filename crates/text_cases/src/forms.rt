@@ -5,6 +5,7 @@ pub(crate) fn run() {
     header_numbers();
     first_height();
     later_height();
+    commas();
 }
 
 fn header_numbers() {
@@ -73,5 +74,48 @@ fn later_height() {
         2,
         b"later height of ten digits\n\
         ncols 2 nrows 1 xllcorner 0 yllcorner 0 cellsize 10\n1 0000000005\n",
+    );
+}
+
+fn commas() {
+    case(
+        2,
+        b"xllcorner 1,5\n\
+        ncols 2 nrows 1 xllcorner 1,5 yllcorner 0 cellsize 10\n1 2\n",
+    );
+    case(
+        2,
+        b"yllcorner 1,2,3\n\
+        ncols 2 nrows 1 xllcorner 0 yllcorner 1,2,3 cellsize 10\n1 2\n",
+    );
+    case(
+        2,
+        b"side -2,5\n\
+        ncols 2 nrows 1 xllcorner 0 yllcorner 0 cellsize -2,5\n1 2\n",
+    );
+    case(
+        2,
+        b"NoData number -9999,00\n\
+        ncols 2 nrows 1 xllcorner 0 yllcorner 0 cellsize 10\nnodata_value -9999,00\n1 2\n",
+    );
+    case(
+        2,
+        b"later height 12,505, which is too fine too\n\
+        ncols 2 nrows 1 xllcorner 0 yllcorner 0 cellsize 10\n1 12,505\n",
+    );
+    case(
+        2,
+        b"later height 5,\n\
+        ncols 2 nrows 1 xllcorner 0 yllcorner 0 cellsize 10\n1 5,\n",
+    );
+    case(
+        2,
+        b"later height 1.5,3\n\
+        ncols 2 nrows 1 xllcorner 0 yllcorner 0 cellsize 10\n1 1.5,3\n",
+    );
+    case(
+        2,
+        b"later height 12,1234567\n\
+        ncols 2 nrows 1 xllcorner 0 yllcorner 0 cellsize 10\n1 12,1234567\n",
     );
 }

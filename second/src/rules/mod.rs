@@ -7,6 +7,7 @@ pub mod fill;
 pub mod grid;
 pub mod length;
 pub mod map;
+mod number;
 pub mod program;
 pub mod refusal;
 pub mod settings;

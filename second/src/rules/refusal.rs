@@ -23,3 +23,4 @@ pub const FINE: u32 = 8;
 pub const ENDS: u32 = 9;
 pub const AFTER: u32 = 10;
 pub const PRINTER: u32 = 11;
+pub const COMMA: u32 = 12;

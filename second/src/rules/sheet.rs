@@ -110,7 +110,7 @@ mod tests {
     #[test]
     fn refusals_alone() {
         assert_eq!(printed(b""), "refused 9 at 0\n");
-        assert_eq!(printed(&Example(1, 1, "10", "12,5").text()), "refused 7 at 52\n");
+        assert_eq!(printed(&Example(1, 1, "10", "12,5").text()), "refused 12 at 54\n");
         assert_eq!(printed(&[b' '; MOST_BYTES + 1]), "refused 11 at 32768\n");
         assert_eq!(printed(&Example(64, 33, "10", "?").text()), "refused 11 at 0\n");
     }

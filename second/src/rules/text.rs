@@ -1,6 +1,7 @@
-//! The reader of text grids: words, header, numbers and their refusals. States docs/RULES.md, 2 The text.
+//! The reader of text grids: words, header, heights and their refusals. States docs/RULES.md, 2 The text.
 
 use super::grid::{Shape, HIGHEST, LARGEST_SIDE, LOWEST, MOST_ROWS, NODATA};
+use super::number::{judge, value, Form, Number};
 use super::refusal::{self, refuse, Refusal};
 
 /// What a reader call answers: rows and columns, side and NoData number in cm.
@@ -61,12 +62,15 @@ impl<'a> Words<'a> {
         refuse(refusal::NAME, word.place)
     }
 
-    /// The two counts have 1 to 9 digits only; 1, rows or columns 0 or above 1,024.
-    fn count(&mut self) -> Result<usize, Refusal> {
+    /// The next word in the form that its position wants.
+    fn right(&mut self, form: Form) -> Result<Word<'a>, Refusal> {
         let word = self.wanted()?;
-        if !digits(word.bytes, 9) {
-            return refuse(refusal::FORM, word.place);
-        }
+        judge(word.place, word.bytes, form).map(|()| word)
+    }
+
+    /// 1, rows or columns 0 or above 1,024.
+    fn count(&mut self) -> Result<usize, Refusal> {
+        let word = self.right(Form::Count)?;
         let count = value(word.bytes) as usize;
         if count == 0 || count > MOST_ROWS {
             return refuse(refusal::SHAPE, word.place);
@@ -76,14 +80,13 @@ impl<'a> Words<'a> {
 
     /// Corner numbers are checked for form only.
     fn corner(&mut self) -> Result<(), Refusal> {
-        let word = self.wanted()?;
-        number(&word).map(|_| ())
+        self.right(Form::Number).map(|_| ())
     }
 
     /// Cell side, NoData and heights become cm exactly: form, then fineness. Place and cm.
     fn centimetres(&mut self) -> Result<(usize, i64), Refusal> {
-        let word = self.wanted()?;
-        let cm = number(&word)?.centimetres();
+        let word = self.right(Form::Number)?;
+        let cm = Number::of(word.bytes).centimetres();
         cm.map_or(refuse(refusal::FINE, word.place), |cm| Ok((word.place, cm)))
     }
 
@@ -135,48 +138,6 @@ impl<'a> Words<'a> {
     }
 }
 
-/// Whether these are 1 to `most` digits and nothing else.
-fn digits(bytes: &[u8], most: usize) -> bool {
-    !bytes.is_empty() && bytes.len() <= most && bytes.iter().all(u8::is_ascii_digit)
-}
-
-/// The whole number that digits stand for.
-fn value(digits: &[u8]) -> i64 {
-    digits.iter().fold(0, |value, digit| 10 * value + i64::from(digit - b'0'))
-}
-
-/// The parts of a number: an optional minus, 1 to 9 digits, then optionally a point and 1 to 6 digits.
-struct Number<'a> {
-    minus: bool,
-    whole: &'a [u8],
-    decimals: &'a [u8],
-}
-
-/// The parts of a well-formed number; 7, number malformed, a comma included.
-fn number<'a>(word: &Word<'a>) -> Result<Number<'a>, Refusal> {
-    let minus = word.bytes[0] == b'-';
-    let unsigned = if minus { &word.bytes[1..] } else { word.bytes };
-    let point = unsigned.iter().position(|&byte| byte == b'.');
-    let whole = &unsigned[..point.unwrap_or(unsigned.len())];
-    let decimals = point.map_or(&unsigned[..0], |point| &unsigned[point + 1..]);
-    if !digits(whole, 9) || (point.is_some() && !digits(decimals, 6)) {
-        return refuse(refusal::FORM, word.place);
-    }
-    Ok(Number { minus, whole, decimals })
-}
-
-impl Number<'_> {
-    /// The number of metres in cm; a nonzero digit past the second decimal is too fine.
-    fn centimetres(&self) -> Option<i64> {
-        let digit = |at: usize| self.decimals.get(at).map_or(0, |digit| i64::from(digit - b'0'));
-        if (2..self.decimals.len()).any(|at| digit(at) != 0) {
-            return None;
-        }
-        let size = 100 * value(self.whole) + 10 * digit(0) + digit(1);
-        Some(if self.minus { -size } else { size })
-    }
-}
-
 /// Reads the header alone and judges nothing after it.
 pub fn read_header(text: &[u8]) -> Result<Header, Refusal> {
     Words::of(text).header()
@@ -215,10 +176,38 @@ mod tests {
             let mut lent = [0];
             read_grid(&Example(1, 1, "10", word).text(), &mut lent).map(|_| lent[0])
         };
-        let refused = |number| Err(Refusal { number, place: 52 });
-        assert_eq!((height("12.5000"), height("-0"), height("12.505")), (Ok(1_250), Ok(0), refused(8)));
-        assert_eq!(["12,5", ".5", "5.", "+5"].map(height), [refused(7); 4]);
-        assert_eq!((height("-500"), height("-500.01"), height("-9999")), (Ok(LOWEST as i32), refused(5), Ok(NODATA)));
+        let refused = |number, place| Err(Refusal { number, place });
+        assert_eq!((height("12.5000"), height("-0"), height("12.505")), (Ok(1_250), Ok(0), refused(8, 52)));
+        assert_eq!([".5", "+5"].map(height), [refused(7, 52); 2]);
+        assert_eq!((height("12,5"), height("5.")), (refused(12, 54), refused(7, 54)));
+        assert_eq!((height("-500"), height("-9999")), (Ok(LOWEST as i32), Ok(NODATA)));
+        assert_eq!(height("-500.01"), refused(5, 52));
+    }
+
+    /// The text of one cell up to the word of an index, without a blank after it, and the place of that word.
+    fn cut_at(index: usize, word: &str) -> (Vec<u8>, usize) {
+        let words = "ncols 1 nrows 1 xllcorner 0 yllcorner 0 cellsize 10 nodata_value 0 5";
+        let before: String = words.split(' ').take(index).flat_map(|word| [word, " "]).collect();
+        (format!("{before}{word}").into_bytes(), before.len())
+    }
+
+    /// A number is judged in the form that its position wants, at the end of the text too.
+    #[test]
+    fn positions() {
+        let refused = |index: usize, word: &str| {
+            let (mut text, place) = cut_at(index, word);
+            let at_end = read_grid(&text, &mut [0]).unwrap_err();
+            text.extend(b"\nnrows");
+            assert_eq!(read_grid(&text, &mut [0]), Err(at_end), "{word}");
+            (at_end.number, at_end.place - place)
+        };
+        for index in [1, 3] {
+            assert_eq!(["5.0", "1,5", "-5", "5,"].map(|word| refused(index, word)), [(7, 1), (7, 1), (7, 0), (7, 1)]);
+        }
+        for index in [5, 7, 9, 11, 12] {
+            assert_eq!(["12,5", "-0,505"].map(|word| refused(index, word)), [(12, 2), (12, 2)]);
+            assert_eq!(["5.", "-", "1,2,3", "+5"].map(|word| refused(index, word)), [(7, 2), (7, 1), (7, 1), (7, 0)]);
+        }
     }
 
     #[test]

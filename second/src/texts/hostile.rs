@@ -5,7 +5,7 @@ use super::fields::{self, Field};
 use super::seed::Seed;
 use super::spelling::{self, Manner, Text};
 use crate::rules::grid::Shape;
-use crate::rules::refusal::{self, Refusal};
+use crate::rules::refusal::{self, Refusal, COMMA, FORM};
 use crate::rules::sheet::{MOST_BYTES, MOST_CELLS};
 
 /// A text and what its reading must give, unless that is left to the reader.
@@ -41,14 +41,21 @@ const NAMES: [&[u8]; 14] = [
 ];
 const LETTERS: [&[u8]; 9] =
     [b"x", b"nan", b"NaN", b"inf", b"nodata_valu", b"NODATA_VALUES", b"e5", b"Z9999", b"ncols"];
-const COUNTS: [&[u8]; 12] = [
-    b"-5", b"-0", b"5.0", b"+5", b"1e3", b"1234567890", b"0000000005", b"5,", b"0x5", b"five", b"5\0", b"\xD9\xA5",
+/// Words that are no counts, with the place at which each breaks.
+const COUNTS: [(&[u8], usize); 12] = [
+    (b"-5", 0), (b"-0", 0), (b"5.0", 1), (b"+5", 0), (b"1e3", 1), (b"1234567890", 9), (b"0000000005", 9), (b"5,", 1),
+    (b"1,5", 1), (b"five", 0), (b"5\0", 1), (b"\xD9\xA5", 0),
 ];
 const NO_COUNTS: [&[u8]; 6] = [b"0", b"000000000", b"1025", b"999999999", b"001025", b"00"];
-const NO_NUMBERS: [&[u8]; 34] = [
-    b"12,5", b".5", b"5.", b"+5", b"1e3", b"1234567890", b"0.1234567", b"-", b"--5", b"5-", b"-.5", b"-5.", b"1.2.3",
-    b".", b"5\0", b"\0", b"\x1A", b"5\x0B", b"\x0C5", b"\xFF", b"1_000", b"12\xC2\xA0", b"0000000000", b"-1234567890",
-    b"1.-5", b"1,234.5", b"5m", b"\x7F", b"/", b":", b"5..0", b"-+5", b"0.0000000", b"\xEF\xBB\xBF5",
+/// Words that are no numbers, with the number and place of the refusal of each.
+const NO_NUMBERS: [(&[u8], u32, usize); 34] = [
+    (b"12,5", COMMA, 2), (b".5", FORM, 0), (b"5.", FORM, 2), (b"+5", FORM, 0), (b"1e3", FORM, 1),
+    (b"1234567890", FORM, 9), (b"0.1234567", FORM, 8), (b"-", FORM, 1), (b"--5", FORM, 1), (b"5-", FORM, 1),
+    (b"-.5", FORM, 1), (b"-5.", FORM, 3), (b"1.5,3", FORM, 3), (b",5", FORM, 0), (b"5\0", FORM, 1), (b"\0", FORM, 0),
+    (b"1,234", COMMA, 1), (b"5\x0B", FORM, 1), (b"\x0C5", FORM, 0), (b"1,234.5", FORM, 1), (b"5,", FORM, 1),
+    (b"12\xC2\xA0", FORM, 2), (b"1234567890,5", FORM, 9), (b"-1234567890", FORM, 10), (b"12,1234567", FORM, 2),
+    (b"1,2,3", FORM, 1), (b"12,505", COMMA, 2), (b"\x7F", FORM, 0), (b"/", FORM, 0), (b":", FORM, 0),
+    (b"5..0", FORM, 2), (b"-0,5", COMMA, 2), (b"0.0000000", FORM, 8), (b"\xEF\xBB\xBF5", FORM, 0),
 ];
 const FINE: [&[u8]; 9] = [
     b"12.505", b"0.001", b"-0.001", b"1000.001", b"999999999.001", b"5.000001", b"-9999.009", b"0.000010", b"9000.001",
@@ -59,11 +66,17 @@ const NO_HEIGHTS: [&[u8]; 8] = [
 ];
 const AFTER: [&[u8]; 9] = [b"0", b"x", b"\0", b"\x1A", b"12,5", b"-9999", b"9999999999", b"ncols", b"\x0C"];
 
-/// A word put in the place of another one, and the number of its refusal.
+/// A word put in the place of another one, and the number and place of its refusal, from its first byte.
 struct Fault {
     index: usize,
     word: &'static [u8],
     number: u32,
+    place: usize,
+}
+
+/// A fault that is refused at its word.
+fn at_word(index: usize, word: &'static [u8], number: u32) -> Fault {
+    Fault { index, word, number, place: 0 }
 }
 
 type Fails = fn(&mut Seed, &Field) -> Fault;
@@ -90,15 +103,17 @@ fn wrong_name(seed: &mut Seed, field: &Field) -> Fault {
     let index = 2 * seed.below(names);
     // The eleventh word is judged as a name only if it begins with a letter.
     let word = *seed.pick(if index == 10 { &LETTERS } else { &NAMES[..] });
-    Fault { index, word, number: refusal::NAME }
+    at_word(index, word, refusal::NAME)
 }
 
 fn malformed_count(seed: &mut Seed, _: &Field) -> Fault {
-    Fault { index: *seed.pick(&[1, 3]), word: *seed.pick(&COUNTS), number: refusal::FORM }
+    let index = *seed.pick(&[1, 3]);
+    let (word, place) = *seed.pick(&COUNTS);
+    Fault { index, word, number: FORM, place }
 }
 
 fn count_out_of_range(seed: &mut Seed, _: &Field) -> Fault {
-    Fault { index: *seed.pick(&[1, 3]), word: *seed.pick(&NO_COUNTS), number: refusal::SHAPE }
+    at_word(*seed.pick(&[1, 3]), *seed.pick(&NO_COUNTS), refusal::SHAPE)
 }
 
 /// The index of the cell side, the NoData number or a height.
@@ -111,17 +126,19 @@ fn centimetre_word(seed: &mut Seed, field: &Field) -> usize {
 fn malformed(seed: &mut Seed, field: &Field) -> Fault {
     let (any, height) = (centimetre_word(seed, field), height_word(seed, field));
     let index = *seed.pick(&[5, 7, any, height]);
-    let letters = index != 10 && seed.once_in(5);
-    let word = *seed.pick(if letters { &LETTERS[..] } else { &NO_NUMBERS[..] });
-    Fault { index, word, number: refusal::FORM }
+    if index != 10 && seed.once_in(5) {
+        return at_word(index, *seed.pick(&LETTERS), FORM);
+    }
+    let (word, number, place) = *seed.pick(&NO_NUMBERS);
+    Fault { index, word, number, place }
 }
 
 fn too_fine(seed: &mut Seed, field: &Field) -> Fault {
-    Fault { index: centimetre_word(seed, field), word: *seed.pick(&FINE), number: refusal::FINE }
+    at_word(centimetre_word(seed, field), *seed.pick(&FINE), refusal::FINE)
 }
 
 fn side_out_of_range(seed: &mut Seed, _: &Field) -> Fault {
-    Fault { index: 9, word: *seed.pick(&NO_SIDES), number: refusal::SIDE }
+    at_word(9, *seed.pick(&NO_SIDES), refusal::SIDE)
 }
 
 /// Also `-9999` where the NoData number is another one.
@@ -130,10 +147,10 @@ fn height_out_of_range(seed: &mut Seed, field: &Field) -> Fault {
     let word: &[u8] = if !usual && seed.once_in(3) { b"-9999" } else { *seed.pick(&NO_HEIGHTS) };
     // 9000.01 is one of the NoData numbers of `fields`.
     let word = if field.nodata == Some(900_001) { b"9000.02" } else { word };
-    Fault { index: height_word(seed, field), word, number: refusal::HEIGHT }
+    at_word(height_word(seed, field), word, refusal::HEIGHT)
 }
 
-/// The text with one word spoiled, refused at that word.
+/// The text with one word spoiled, refused in that word.
 fn spoiled(seed: &mut Seed, fails: Fails) -> Hostile {
     let field = small(seed);
     let fault = fails(seed, &field);
@@ -156,7 +173,7 @@ fn faulty(seed: &mut Seed, field: &Field, faults: &[Fault]) -> Hostile {
     faults.iter().rev().for_each(|fault| words[fault.index] = fault.word.to_vec());
     let text = joined(seed, manner, &words, field);
     let first = faults.iter().min_by_key(|fault| fault.index).expect("there is a fault");
-    refused(&text.bytes, first.number, text.places[first.index])
+    refused(&text.bytes, first.number, text.places[first.index] + first.place)
 }
 
 fn joined(seed: &mut Seed, manner: Manner, words: &[Vec<u8>], field: &Field) -> Text {
@@ -171,7 +188,7 @@ fn refused(bytes: &[u8], number: u32, place: usize) -> Hostile {
 fn wrong_eleventh(seed: &mut Seed) -> Hostile {
     let mut field = small(seed);
     field.nodata = None;
-    let fault = Fault { index: 10, word: *seed.pick(&LETTERS), number: refusal::NAME };
+    let fault = at_word(10, *seed.pick(&LETTERS), refusal::NAME);
     faulty(seed, &field, &[fault])
 }
 
@@ -260,7 +277,7 @@ fn many_cells(seed: &mut Seed) -> Hostile {
     let text = joined(seed, Manner::Plain, &words, &field);
     match kind {
         _ if small => Hostile { bytes: text.bytes, known: Some(Ok(())) },
-        0 => refused(&text.bytes, refusal::FORM, text.places[11]),
+        0 => refused(&text.bytes, COMMA, text.places[11] + 1),
         1 => refused(&text.bytes, refusal::NAME, text.places[10]),
         _ => refused(&text.bytes, refusal::PRINTER, 0),
     }
