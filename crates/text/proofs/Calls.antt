@@ -1,6 +1,6 @@
 -- RULES 2.3 for the two calls: at a refusal 7 some word of the text breaks at the place, and at a refusal 12 the place is a comma decimal's comma.
 -- Assumes nothing.
-use mathlib.Core.Path.{_≡_, refl, sym, ap, _∙_, subst}
+use mathlib.Core.Path.{_≡_, refl, sym, ap, _∙_}
 use mathlib.Core.Bool.{Bool, true, false, not, cond, _||_}
 use mathlib.Core.List.{List, [], _∷_}
 use Prim.Native.Nat.{ℕ, zero, suc, _*_}
@@ -17,7 +17,7 @@ use Rattle.text.specs.Right.{BreaksIn, CommaIn}
 use Rattle.text.specs.Right as Right
 use Rattle.text.specs.Headers.{Header, Extent, isNamed, letterNext, absentNoData, name, corner, side, field, anyMeasure, noData, extent, corners, sideAndNoData, header}
 use Rattle.text.specs.Heights.{same, ended, height, heights, end, body, grid, Grid}
-use Rattle.text.specs.Answers.{Outcome, headerOutcome, headerAnswer, gridOutcome, gridAnswer}
+use Rattle.text.specs.Answers.{headerOutcome, headerAnswer, gridOutcome, gridAnswer}
 use Rattle.text.proofs.Right.{number-7, number-12, count-7, count-12}
 
 -- ---- what a refusal's number and place are, and that a value is no refusal

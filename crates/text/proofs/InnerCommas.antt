@@ -3,30 +3,20 @@ use mathlib.Core.Path.{_≡_, refl, sym, ap, _∙_, subst}
 use mathlib.Core.Bool.{Bool, true, false, not, cond, true≢false}
 use mathlib.Core.List.{List}
 use mathlib.Core.Logic.{⊎-elim}
-use Prim.Native.Nat.{ℕ, zero, suc, _+_, _-_, _*_, _≤_, _<_}
+use Prim.Native.Nat.{ℕ, _+_, _-_, _≤_, _<_}
 use native.Mathlib.Decide.{decLt, ℕ-discrete}
 use native.Mathlib.Omega.{arith}
-use borrow.Author.Tests.{lt-ltb, le-ltb, ltb-true, eq-eqb, ne-eqb, eqb-true, not-false, not-true}
+use borrow.Author.Tests.{lt-ltb, ltb-true, eq-eqb, ne-eqb, eqb-true, not-false}
 use lib.Dec.{eqb, ltb}
 use lib.ListN.{length, getD, set}
 use lib.Seq.{getD-set-same, getD-set-other}
 use Rattle.laws.proofs.Tests.{two, and-false-left, and-false-right, and-true-left}
 use Rattle.text.specs.Words.{solid, run, wordEnd}
-use Rattle.text.specs.Numbers.{Form, formed, malformed, Number, digit, value, afterSign, decimals, wholeAndDecimals, numberAt, countFormAt, isFormed, comma, firstComma, commaDecimal}
+use Rattle.text.specs.Numbers.{Form, formed, malformed, digit, value, afterSign, decimals, wholeAndDecimals, numberAt, countFormAt, isFormed, comma, firstComma, commaDecimal}
 use Rattle.text.proofs.Bytes.{digit-range}
-use Rattle.text.proofs.InnerRuns.{run-stop, run-lower, run-upper, run-fails, run-passes, run-after}
+use Rattle.text.proofs.InnerRuns.{run-stop, run-lower, run-fails, run-passes, run-after, run-same}
 use Rattle.text.proofs.Ends.{byte-within, end-byte, end-digits, end-lower}
 use Rattle.text.proofs.InnerForms.{sign-within, sign-end}
-
--- two texts that pass a test at the same places have the same runs
-run-same : (q : ℕ → Bool) (s t : List ℕ) → ((k : ℕ) → q (getD t k 0) ≡ q (getD s k 0)) → (i n : ℕ) → run q t i n ≡ run q s i n
-unfolding run
-run-same q s t h i zero = refl
-run-same q s t h i (suc n) = go (q (getD s i 0)) refl (run-same q s t h (suc i) n)
-  where
-    go : (b : Bool) → q (getD s i 0) ≡ b → run q t (suc i) n ≡ run q s (suc i) n → run q t i (suc n) ≡ run q s i (suc n)
-    go true e r = rw (h i, e, run) r
-    go false e r = rw (h i, e, run) refl
 
 -- a comma stands within the text
 pub comma-next : (s : List ℕ) (d : ℕ) → getD s d 0 ≡ 44 → d + 1 ≤ length s

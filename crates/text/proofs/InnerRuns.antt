@@ -102,6 +102,16 @@ run-after q s i e j l u h = go (j - i) i (omega arith) l h
     go zero i d l h = let z : i ≡ j = omega arith in ap (λ (x : ℕ). run q s x (e - x)) z
     go (suc m) i d l h = run-step q s i e (omega arith) (h i (le-refl i) (omega arith)) ∙ go m (i + 1) (omega arith) (omega arith) (λ k a b. h k (omega arith) b)
 
+-- two texts that pass a test at the same places have the same runs
+pub run-same : (q : ℕ → Bool) (s t : List ℕ) → ((k : ℕ) → q (getD t k 0) ≡ q (getD s k 0)) → (i n : ℕ) → run q t i n ≡ run q s i n
+unfolding run
+run-same q s t h i zero = refl
+run-same q s t h i (suc n) = go (q (getD s i 0)) refl (run-same q s t h (suc i) n)
+  where
+    go : (b : Bool) → q (getD s i 0) ≡ b → run q t (suc i) n ≡ run q s (suc i) n → run q t i (suc n) ≡ run q s i (suc n)
+    go true e r = rw (h i, e, run) r
+    go false e r = rw (h i, e, run) refl
+
 -- ---- a loop over at most `most` places from a on, of a test that 0 fails: the run that is left at i
 
 pub record Along (p : ℕ → Bool) (s : List ℕ) (a most i : ℕ) : Type 0 where

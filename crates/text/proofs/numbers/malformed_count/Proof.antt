@@ -1,5 +1,5 @@
 -- `text::numbers::malformed_count` meets its contract. Assumes nothing.
-use mathlib.Core.Path.{sym, ap, ap₂, _∙_}
+use mathlib.Core.Path.{sym, ap₂}
 use mathlib.Core.Bool.{true≢false}
 use Rattle.text.specs.Reader.{refused}
 use Rattle.text.proofs.numbers.malformed_count.Statement.{statement}
