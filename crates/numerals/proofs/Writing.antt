@@ -6,15 +6,22 @@ use native.Mathlib.Omega.{arith}
 use native.Mathlib.Nat.{add-zero, add-suc, suc-add}
 use native.Mathlib.Numerals.{add-one}
 use lib.ListN.{length, set, getD, take, length-append}
-use lib.Seq.{sets, length-sets, set-out, take-suc, take-all, append-snoc}
-use Rattle.sheet.specs.Writing.{overlay}
-use Rattle.sheet.specs.InnerWriting.{Wrote}
+use lib.Seq.{sets, length-sets, set-out, set-comm, take-suc, take-all, append-snoc}
+use Rattle.numerals.specs.Writing.{overlay, Wrote}
 
 -- one run of bytes laid after another is both laid at once
 pub overlay-append : (room : List ℕ) (at : ℕ) (a b : List ℕ) → overlay (overlay room at a) (at + length a) b ≡ overlay room at (a ++ b)
 overlay-append room at [] b = ap (λ (k : ℕ). sets room k b) (add-zero at)
 overlay-append room at (x ∷ a) b =
     ap (λ (k : ℕ). sets (sets (set room at x) (suc at) a) k b) (add-suc at (length a) ∙ sym (suc-add at (length a))) ∙ overlay-append (set room at x) (suc at) a b
+
+-- a byte that comes after a run may be laid before it
+pub overlay-back : (room : List ℕ) (at : ℕ) (a : List ℕ) (x : ℕ) → overlay (set room (at + length a) x) at a ≡ overlay room at (a ++ (x ∷ []))
+overlay-back room at [] x = ap (λ (k : ℕ). set room k x) (add-zero at)
+overlay-back room at (y ∷ a) x =
+    let z : at + suc (length a) ≡ suc at + length a = omega arith in
+    ap (λ (r : List ℕ). sets r (suc at) a) (set-comm room (at + suc (length a)) at x y (λ e. omega arith) ∙ ap (λ (k : ℕ). set (set room at y) k x) z)
+    ∙ overlay-back (set room at y) (suc at) a x
 
 pub wrote-none : (room : List ℕ) (at : ℕ) → Wrote room at [] at room
 wrote-none room at = record { ends = sym (add-zero at); laid = refl }

@@ -1,14 +1,14 @@
 -- Laws of decimal digits: how a number's digits come from those of its tenth, and how many there can be. Assumes nothing.
-use mathlib.Core.Path.{_≡_, sym, ap, _∙_}
+use mathlib.Core.Path.{_≡_, refl, sym, ap, _∙_}
 use mathlib.Core.Bool.{Bool, true, false}
 use mathlib.Core.List.{List, [], _∷_, _++_}
-use Prim.Native.Nat.{ℕ, zero, suc, _+_, _/_, _%_, _^_, _≤_, _<_}
+use Prim.Native.Nat.{ℕ, zero, suc, _+_, _-_, _/_, _%_, _^_, _≤_, _<_}
 use native.Mathlib.Omega.{arith}
 use native.Mathlib.Nat.{pow-suc}
 use native.Mathlib.Decide.{decLt}
 use borrow.Author.Tests.{lt-ltb, le-ltb}
 use lib.ListN.{length, length-append}
-use Rattle.sheet.specs.Words.{digits, decimal}
+use Rattle.numerals.specs.Words.{digits, decimal, padded}
 
 digits-last : (k n : ℕ) → n < 10 → digits (suc k) n ≡ (48 + n) ∷ []
 unfolding digits
@@ -48,3 +48,19 @@ decimal-short (suc k) n h =
       | no f ↦ (let tenth : n / 10 < 10 ^ suc k = omega (arith, pow-suc 10 (suc k)) in
           omega (arith, decimal-short k (n / 10) tenth, ap length (decimal-more n (omega arith)), length-append (decimal (n / 10)) ((48 + n % 10) ∷ [])))
     ]
+
+-- a number from 10 on has one digit more than its tenth
+pub decimal-longer : (n : ℕ) → 10 ≤ n → length (decimal n) ≡ length (decimal (n / 10)) + 1
+decimal-longer n h = ap length (decimal-more n h) ∙ length-append (decimal (n / 10)) ((48 + n % 10) ∷ [])
+
+-- the last of the last k digits
+pub padded-more : (k n : ℕ) → 0 < k → padded k n ≡ padded (k - 1) (n / 10) ++ ((48 + n % 10) ∷ [])
+unfolding padded
+padded-more zero n h = absurd (omega arith)
+padded-more (suc k) n h = let z : k ≡ suc k - 1 = omega arith in ap (λ (j : ℕ). padded j (n / 10) ++ ((48 + n % 10) ∷ [])) z
+
+-- the last k digits are k
+pub padded-length : (k n : ℕ) → length (padded k n) ≡ k
+unfolding padded
+padded-length zero n = refl
+padded-length (suc k) n = omega (arith, length-append (padded k (n / 10)) ((48 + n % 10) ∷ []), padded-length k (n / 10))

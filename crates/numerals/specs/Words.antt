@@ -1,7 +1,7 @@
--- RULES 9: how a sheet's numbers are written, and how words make a line. A byte is its ASCII code. Assumes nothing.
+-- RULES 9.2 and 10.2: how numbers are written, and how words make a line. A byte is its ASCII code. Assumes nothing.
 use mathlib.Core.Bool.{true, false}
 use mathlib.Core.List.{List, [], _∷_, _++_}
-use Prim.Native.Nat.{ℕ, zero, suc, _+_, _/_, _%_}
+use Prim.Native.Nat.{ℕ, zero, suc, _+_, _/_, _%_, _^_}
 use lib.Dec.{ltb}
 use lib.IntN.{ℤ, pos, negsuc}
 
@@ -20,6 +20,16 @@ unfoldable pub integer : ℤ → List ℕ
 unfolding decimal
 integer (pos n) = decimal n
 integer (negsuc n) = 45 ∷ decimal (suc n)
+
+-- the last k digits of n, zeros too
+unfoldable pub padded : ℕ → ℕ → List ℕ
+padded zero n = []
+padded (suc k) n = padded k (n / 10) ++ ((48 + n % 10) ∷ [])
+
+-- n in units of the k-th decimal: with a point, 46, before its last k digits, and no needless zero before the point
+unfoldable pub fixed : ℕ → ℕ → List ℕ
+unfolding decimal padded
+fixed k n = decimal (n / 10 ^ k) ++ (46 ∷ padded k n)
 
 -- one space between two words, LF after each line
 unfoldable pub line : List (List ℕ) → List ℕ
