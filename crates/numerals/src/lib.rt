@@ -4,7 +4,7 @@
 // `requires`.
 ghost use mathlib.Core.List.{[], _∷_};
 ghost use mathlib.Core.Path.{_≡_};
-ghost use Prim.Native.Nat.{_+_};
+ghost use Prim.Native.Nat.{_+_, _≤_};
 ghost use lib.ListN.{length, set};
 ghost use Rattle.numerals.specs.Words.{decimal, padded};
 ghost use Rattle.numerals.specs.Writing.{overlay, Lays};
@@ -43,7 +43,7 @@ pub fn put_all(out: &mut [u8], at: usize, bytes: &[u8]) -> usize
 
 // How many decimal digits `n` has.
 pub fn digit_count(n: u64) -> usize
-    ensures { λ r. ⌜ r ≡ length (decimal n) ⌝ }
+    ensures { λ r. ⌜ (r ≡ length (decimal n)) × (r ≤ 20) ⌝ }
 {
     let mut count = 1;
     let mut left = n;
@@ -56,7 +56,7 @@ pub fn digit_count(n: u64) -> usize
 
 // `n` in decimal digits, the last one first.
 pub fn put_natural(out: &mut [u8], at: usize, n: u64) -> usize
-    ensures { λ r. ⌜ Lays out at (decimal n) r ⌝ }
+    ensures { λ r. ⌜ Lays out at (decimal n) r × (r ≤ 20) ⌝ }
 {
     let count = digit_count(n);
     let mut i = count;

@@ -13,10 +13,10 @@ use native.Mathlib.Decide.{decLt, ℕ-discrete}
 use Rattle.text.specs.Bytes.{bytes}
 use Rattle.text.specs.Heights.{same}
 use Rattle.text.specs.Quantities.{noDataHeight}
-use Rattle.sheet.specs.Words.{decimal, line}
+use Rattle.numerals.specs.Words.{decimal, line}
 use Rattle.sheet.specs.Lines.{valueWords, shownWords, cellLine, Grids, cellOf, cellLines}
-use Rattle.sheet.specs.InnerWriting.{Wrote}
-use Rattle.sheet.proofs.InnerWriting.{wrote-none, wrote-as, wrote-then}
+use Rattle.numerals.specs.Writing.{Wrote}
+use Rattle.numerals.proofs.Writing.{wrote-none, wrote-as, wrote-then}
 use Rattle.sheet.specs.declared.lines.Cell.{Cell}
 
 either : (b : Bool) (w v x y : List ℕ) (xs ys : List (List ℕ)) → line (w ∷ v ∷ cond b (x ∷ xs) (y ∷ ys)) ≡ w ++ (32 ∷ (v ++ (32 ∷ line (cond b (x ∷ xs) (y ∷ ys)))))

@@ -10,7 +10,7 @@ ghost use Prim.Native.Nat.{_*_, _≤_};
 ghost use lib.IntN.{pos};
 ghost use lib.ListN.{length, replicate};
 ghost use Rattle.factor.specs.Answers.{lent, lentBefore};
-ghost use Rattle.sheet.specs.Writing.{overlay};
+ghost use Rattle.numerals.specs.Writing.{overlay};
 ghost use Rattle.sheet.specs.InnerWriting.{Puts};
 ghost use Rattle.sheet.specs.InnerGrids.{LentLong};
 ghost use Rattle.sheet.specs.Sheet.{mapSheet, gridSheet, zeros, sheetOf};

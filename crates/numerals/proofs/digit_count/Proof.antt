@@ -25,7 +25,10 @@ loop-again : tie.Need-loop-again Inv-loop μ-loop
 loop-again c = counting-more _ _ _ (c .before .loop .inv) (c .loop-test .taken)
 
 returns : tie.Need-returns Inv-loop μ-loop
-returns c = counting-all _ _ _ (c .before .loop .inv) (omega arith)
+returns c =
+    let p = c .before .loop in
+    let e = counting-all _ (p .count) (p .left) (p .inv) (omega arith) in
+    (e, omega (arith, e, p .inv .most))
 
 pub digit-count-spec : {M : Type 1} → statement M
 digit-count-spec =

@@ -37,8 +37,7 @@ loop-again : tie.Need-loop-again Inv-loop μ-loop
 loop-again c =
     let l = c .before .before .before .before .before .before in
     let p = l .loop in
-    let a = l .before .before .before .args in
-    (
+    let a = l .before .before .before .args in (
       omega arith,
       wrote-more (now (a .out)) (a .at) (now (a .bytes)) (p .i) (omega arith) (p .inv .1) (record { ends = omega arith; laid = c .before .before .put-past .ensures }),
     )

@@ -23,7 +23,7 @@ digit-count-requires : tie.Need-digit-count-requires Inv-loop μ-loop
 digit-count-requires c κs = tt
 
 loop-holds : tie.Need-loop-holds Inv-loop μ-loop
-loop-holds c = back-none _ _ _ _ (c .digit-count .ensures)
+loop-holds c = back-none _ _ _ _ (c .digit-count .ensures .0)
 
 sub-i : tie.Need-sub-i Inv-loop μ-loop
 sub-i c = omega (arith, c .before .loop .inv .ends, decimal-longer (c .before .loop .left) (omega arith))
@@ -63,7 +63,7 @@ returns : tie.Need-returns Inv-loop μ-loop
 returns c =
     let p = c .before .before .before .before .before .loop in
     let s = c .before .before .before .before .before .before in
-    (natural-all _ _ _ (p .i) (p .left) (p .inv) (omega arith) (c .before .before .put .ensures), s .digit-count .ensures)
+    ((natural-all _ _ _ (p .i) (p .left) (p .inv) (omega arith) (c .before .before .put .ensures), s .digit-count .ensures .0), s .digit-count .ensures .1)
 
 pub put-natural-spec : {M : Type 1} → statement M
 put-natural-spec =
