@@ -14,4 +14,7 @@ pub mod InnerTested
 pub mod InnerRight
 pub mod InnerSaid
 pub mod Right
+pub mod Every
+pub mod Shifted
+pub mod Formed
 pub mod Calls
