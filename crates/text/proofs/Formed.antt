@@ -46,29 +46,29 @@ module _ (w : List ℕ) where
   right-count-solid : RightCount w → every solid w ≡ true
   right-count-solid r = each-every solid w (λ k l. digits-solid 0 (length w) (r .digits) k (omega arith) l)
 
-pub number-some : (w : List ℕ) (x : Number) → numberAt w 0 (length w) ≡ formed x → 0 < length w
+pub number-some : (w : List ℕ) {x : Number} → numberAt w 0 (length w) ≡ formed x → 0 < length w
 unfolding numberAt run
-number-some [] x e = let z : _≡_ {A = Bool} false true = ap isFormed e in absurd (true≢false (sym z))
-number-some (b ∷ u) x e = omega arith
+number-some [] e = let z : _≡_ {A = Bool} false true = ap isFormed e in absurd (true≢false (sym z))
+number-some (b ∷ u) e = omega arith
 
-pub count-some : (w : List ℕ) (n : ℕ) → countFormAt w 0 (length w) ≡ formed n → 0 < length w
+pub count-some : (w : List ℕ) {n : ℕ} → countFormAt w 0 (length w) ≡ formed n → 0 < length w
 unfolding countFormAt run
-count-some [] n e = let z : _≡_ {A = Bool} false true = ap isFormed e in absurd (true≢false (sym z))
-count-some (b ∷ u) n e = omega arith
+count-some [] e = let z : _≡_ {A = Bool} false true = ap isFormed e in absurd (true≢false (sym z))
+count-some (b ∷ u) e = omega arith
 
-formed-number : (w : List ℕ) (x : Number) → numberAt w 0 (length w) ≡ formed x → RightNumber w
-formed-number w x e =
+formed-number : (w : List ℕ) {x : Number} → numberAt w 0 (length w) ≡ formed x → RightNumber w
+formed-number w e =
     subst RightNumber (take-length w)
     (subst (Says RightNumber _ 0) e
-    (number-says w 0 (length w) (number-some w x e) (le-refl (length w)) (ap digit (end-byte w)) (λ z. omega (arith, end-byte w))))
+    (number-says w 0 (length w) (number-some w e) (le-refl (length w)) (ap digit (end-byte w)) (λ z. omega (arith, end-byte w))))
 
-formed-count : (w : List ℕ) (n : ℕ) → countFormAt w 0 (length w) ≡ formed n → RightCount w
-formed-count w n e =
+formed-count : (w : List ℕ) {n : ℕ} → countFormAt w 0 (length w) ≡ formed n → RightCount w
+formed-count w e =
     subst RightCount (take-length w)
-    (subst (Says RightCount _ 0) e (count-says w 0 (length w) (count-some w n e) (le-refl (length w)) (ap digit (end-byte w))))
+    (subst (Says RightCount _ 0) e (count-says w 0 (length w) (count-some w e) (le-refl (length w)) (ap digit (end-byte w))))
 
-pub number-solid : (w : List ℕ) (x : Number) → numberAt w 0 (length w) ≡ formed x → every solid w ≡ true
-number-solid w x e = right-number-solid w (formed-number w x e)
+pub number-solid : (w : List ℕ) {x : Number} → numberAt w 0 (length w) ≡ formed x → every solid w ≡ true
+number-solid w e = right-number-solid w (formed-number w e)
 
-pub count-solid : (w : List ℕ) (n : ℕ) → countFormAt w 0 (length w) ≡ formed n → every solid w ≡ true
-count-solid w n e = right-count-solid w (formed-count w n e)
+pub count-solid : (w : List ℕ) {n : ℕ} → countFormAt w 0 (length w) ≡ formed n → every solid w ≡ true
+count-solid w e = right-count-solid w (formed-count w e)

@@ -17,4 +17,5 @@ pub mod Right
 pub mod Every
 pub mod Shifted
 pub mod Formed
+pub mod Pieces
 pub mod Calls

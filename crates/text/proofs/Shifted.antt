@@ -219,11 +219,11 @@ module _ {s : List ℕ} {a : ℕ} {w : List ℕ} (h : Stands s a w) where
 
   -- ---- the whole word
 
-  pub number-stands : (x : Number) → numberAt w 0 (length w) ≡ formed x → numberAt s a (a + length w) ≡ formed x
-  number-stands x e = rw (add-zero a) at (number-shifted 0 (length w) (omega arith) ∙ ap (shifted a) e)
+  pub number-stands : {x : Number} → numberAt w 0 (length w) ≡ formed x → numberAt s a (a + length w) ≡ formed x
+  number-stands e = rw (add-zero a) at (number-shifted 0 (length w) (omega arith) ∙ ap (shifted a) e)
 
-  pub count-stands : (n : ℕ) → countFormAt w 0 (length w) ≡ formed n → countFormAt s a (a + length w) ≡ formed n
-  count-stands n e = rw (add-zero a) at (count-shifted 0 (length w) (omega arith) ∙ ap (shifted a) e)
+  pub count-stands : {n : ℕ} → countFormAt w 0 (length w) ≡ formed n → countFormAt s a (a + length w) ≡ formed n
+  count-stands e = rw (add-zero a) at (count-shifted 0 (length w) (omega arith) ∙ ap (shifted a) e)
 
   pub named-stands : (n : List ℕ) → named w 0 (length w) n ≡ true → named s a (a + length w) n ≡ true
   named-stands n e = rw (add-zero a) at (named-shifted n 0 (length w) (le-refl (length w)) ∙ e)
