@@ -1,0 +1,7 @@
+-- What the promises cite
+pub mod Words
+pub mod Text
+pub mod Answers
+-- What only inner functions cite
+pub mod InnerCells
+pub mod InnerJudging

@@ -1,0 +1,61 @@
+// The writer: grids as text, in the form of the text that was read. RULES 10.
+//
+// Every grid gets an answer: no call has a `requires`. A call judges everything, the room too, before it writes the first byte.
+mod cells;
+mod header;
+mod judge;
+mod words;
+
+ghost use mathlib.Core.Path.{_≡_};
+ghost use Rattle.writer.specs.Text.{frame};
+ghost use Rattle.writer.specs.Answers.{heightCells, countCells, factorCells, answer, after};
+use judge::Judgement;
+use text::Refusal;
+use words::Kind;
+
+// The answer of each call: how many bytes the text has, or why there is none.
+pub enum Answer {
+    Accepted { length: usize },
+    Refused(Refusal),
+}
+
+// Writes heights in cm, ground or filled, into the lent room.
+pub fn write_heights(
+    rows: usize,
+    columns: usize,
+    side: u32,
+    x_corner: &[u8],
+    y_corner: &[u8],
+    heights: &[i32],
+    room: &mut [u8],
+) -> Answer
+    ensures answers { λ r. ⌜ r ≡ answer (frame rows columns side (now (x_corner .entry)) (now (y_corner .entry)))
+        (heightCells (frame rows columns side (now (x_corner .entry)) (now (y_corner .entry))) (now (heights .entry))) (now (room .entry)) ⌝ }
+    ensures leaves { λ _. ⌜ now (room .exit) ≡ after (frame rows columns side (now (x_corner .entry)) (now (y_corner .entry)))
+        (heightCells (frame rows columns side (now (x_corner .entry)) (now (y_corner .entry))) (now (heights .entry))) (now (room .entry)) ⌝ }
+{
+    let judgement = judge::judge(rows, columns, side, x_corner, y_corner, heights.len());
+    match judgement {
+        Judgement::Unsound(refusal) => Answer::Refused(refusal),
+        Judgement::Sound => {
+            let bad = text::first_bad(heights);
+            if bad < heights.len() {
+                return Answer::Refused(Refusal {
+                    number: 5,
+                    place: bad,
+                });
+            }
+            let length = header::length(rows, columns, side, x_corner, y_corner)
+                + cells::heights_length(heights);
+            if room.len() < length {
+                return Answer::Refused(Refusal {
+                    number: 13,
+                    place: 0,
+                });
+            }
+            let next = header::put(room, rows, columns, side, x_corner, y_corner);
+            cells::put_heights(room, next, columns, heights);
+            Answer::Accepted { length }
+        }
+    }
+}
