@@ -8,7 +8,7 @@ use native.Mathlib.Nat.{pow-suc}
 use native.Mathlib.Decide.{decLt}
 use borrow.Author.Tests.{lt-ltb, le-ltb}
 use lib.ListN.{length, length-append}
-use Rattle.numerals.specs.Words.{digits, decimal, padded}
+use Rattle.numerals.specs.Words.{digits, decimal, padded, fixed}
 
 digits-last : (k n : ℕ) → n < 10 → digits (suc k) n ≡ (48 + n) ∷ []
 unfolding digits
@@ -64,3 +64,8 @@ pub padded-length : (k n : ℕ) → length (padded k n) ≡ k
 unfolding padded
 padded-length zero n = refl
 padded-length (suc k) n = omega (arith, length-append (padded k (n / 10)) ((48 + n % 10) ∷ []), padded-length k (n / 10))
+
+-- a number with decimals has them, the point and the digits before it
+pub fixed-length : (k n : ℕ) → length (fixed k n) ≡ length (decimal (n / 10 ^ k)) + 1 + k
+unfolding fixed
+fixed-length k n = length-append (decimal (n / 10 ^ k)) (46 ∷ padded k n) ∙ omega (arith, padded-length k n)

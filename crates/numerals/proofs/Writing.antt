@@ -33,6 +33,10 @@ wrote-byte at b e = record { ends = refl; laid = e }
 pub wrote-past : {room after : List ℕ} (at b : ℕ) → length room ≤ at → after ≡ room → Wrote room at (b ∷ []) (at + 1) after
 wrote-past {room} at b h e = record { ends = refl; laid = e ∙ sym (set-out room at b h) }
 
+-- a run that a call laid, which answers its length
+pub wrote-laid : {room after : List ℕ} {bytes : List ℕ} (at n : ℕ) → after ≡ overlay room at bytes → n ≡ length bytes → Wrote room at bytes (at + n) after
+wrote-laid at n l e = record { ends = ap (λ (k : ℕ). at + k) e; laid = l }
+
 module _ {room mid after : List ℕ} {at next end : ℕ} {a b : List ℕ} where
   -- one run after another
   pub wrote-then : Wrote room at a next mid → Wrote mid next b end after → Wrote room at (a ++ b) end after
@@ -63,3 +67,28 @@ wrote-all bytes i h p = wrote-as (take-all i bytes h) p
 -- a word and the blank after it, before the rest of a line
 pub wrote-word : {room mid after : List ℕ} {at next end : ℕ} (w : List ℕ) {rest : List ℕ} → Wrote room at (w ++ (32 ∷ [])) next mid → Wrote mid next rest end after → Wrote room at (w ++ (32 ∷ rest)) end after
 wrote-word w {rest} p q = wrote-as (append-snoc w 32 rest) (wrote-then p q)
+
+-- ---- what is left to write of a whole: laid from `next` on, it makes the room what it has to be
+
+pub record Left (room : List ℕ) (at : ℕ) (whole : List ℕ) (now : List ℕ) (next : ℕ) (left : List ℕ) : Type 0 where
+  pub lays : overlay now next left ≡ overlay room at whole
+  pub ends : next + length left ≡ at + length whole
+  pub long : length now ≡ length room
+
+module _ (room : List ℕ) (at : ℕ) (whole : List ℕ) where
+  pub left-none : Left room at whole room at whole
+  left-none = record { lays = refl; ends = refl; long = refl }
+
+  module _ {now : List ℕ} {next : ℕ} where
+    pub left-more : {then : List ℕ} {end : ℕ} (a b : List ℕ) → Left room at whole now next (a ++ b) → Wrote now next a end then → Left room at whole then end b
+    left-more {end = end} a b l w =
+        record {
+          lays =
+              ap (λ (r : List ℕ). overlay r end b) (w .laid) ∙ ap (λ (k : ℕ). overlay (overlay now next a) k b) (w .ends)
+              ∙ overlay-append now next a b ∙ l .lays;
+          ends = omega (arith, w .ends, l .ends, length-append a b);
+          long = wrote-long w ∙ l .long;
+        }
+
+    pub left-all : Left room at whole now next [] → Wrote room at whole next now
+    left-all l = record { ends = omega (arith, l .ends); laid = l .lays }

@@ -5,6 +5,7 @@
 ghost use mathlib.Core.List.{[], _∷_};
 ghost use mathlib.Core.Path.{_≡_};
 ghost use Prim.Native.Nat.{_+_, _≤_};
+ghost use lib.IntN.{natAbs};
 ghost use lib.ListN.{length, set};
 ghost use Rattle.numerals.specs.Words.{decimal, padded};
 ghost use Rattle.numerals.specs.Writing.{overlay, Lays};
@@ -82,4 +83,15 @@ pub fn put_padded(out: &mut [u8], at: usize, n: u64, count: usize) -> usize
         left /= 10;
     }
     count
+}
+
+// `z` without its sign.
+pub fn size(z: i32) -> u64
+    ensures { λ r. ⌜ (r ≡ natAbs z) × (r ≤ 2147483648) ⌝ }
+{
+    if z < 0 {
+        let wide = z as i64;
+        return (0 - wide) as u64;
+    }
+    z as u64
 }

@@ -1,6 +1,5 @@
 pub mod Sizes
 pub mod Rooms
 pub mod Examples
-pub mod InnerSigns
 pub mod InnerShown
 pub mod InnerSheets

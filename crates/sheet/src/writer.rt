@@ -1,9 +1,7 @@
 // Writing bytes and numbers into a lent room, by the calls of the crate `numerals`. Each function writes from the place `at` on, as far
 // as the room goes, and answers the place after all that there was to write.
 ghost use mathlib.Core.List.{[], _∷_};
-ghost use mathlib.Core.Path.{_≡_};
-ghost use Prim.Native.Nat.{_<_, _≤_, _-_, _^_};
-ghost use lib.IntN.{natAbs};
+ghost use Prim.Native.Nat.{_<_, _-_, _^_};
 ghost use Rattle.numerals.specs.Words.{decimal, integer};
 ghost use Rattle.numerals.specs.Writing.{Wrote};
 
@@ -32,17 +30,6 @@ pub(crate) fn put_natural(out: &mut [u8], at: usize, n: u64) -> usize
     at + numerals::put_natural(out, at, n)
 }
 
-// `z` without its sign.
-fn size(z: i32) -> u64
-    ensures { λ r. ⌜ (r ≡ natAbs z) × (r ≤ 2147483648) ⌝ }
-{
-    if z < 0 {
-        let wide = z as i64;
-        return (0 - wide) as u64;
-    }
-    z as u64
-}
-
 // `z` in decimal digits, with a minus where it is below 0.
 pub(crate) fn put_integer(out: &mut [u8], at: usize, z: i32) -> usize
     requires { ⌜ at < 2 ^ 61 ⌝ }
@@ -50,7 +37,7 @@ pub(crate) fn put_integer(out: &mut [u8], at: usize, z: i32) -> usize
 {
     if z < 0 {
         let next = put(out, at, b'-');
-        return put_natural(out, next, size(z));
+        return put_natural(out, next, numerals::size(z));
     }
-    put_natural(out, at, size(z))
+    put_natural(out, at, numerals::size(z))
 }

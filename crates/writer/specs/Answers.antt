@@ -1,10 +1,10 @@
 -- RULES 10.1: what each call of the writer answers, and what the lent room holds afterwards. Assumes nothing.
 use mathlib.Core.Bool.{not}
-use mathlib.Core.List.{List, [], _∷_, _++_}
+use mathlib.Core.List.{List, [], _∷_, _++_, map}
 use Prim.Native.Nat.{ℕ, _*_}
 use lib.Dec.{ltb}
 use lib.IntN.{ℤ}
-use lib.ListN.{length, map}
+use lib.ListN.{length}
 use Rattle.laws.specs.Tests.{Test, passed, failed, test, verdict}
 use Rattle.text.specs.Numbers.{numberAt, isFormed}
 use Rattle.text.specs.Ranges.{sizeTest, lengthTest, sideTest, heightTest}

@@ -3,7 +3,8 @@
 // Each word is followed by one byte: a space, or LF after the last word of a row.
 ghost use mathlib.Core.Path.{_≡_};
 ghost use Prim.Native.Nat.{_+_, _*_, _≤_};
-ghost use lib.ListN.{length, map};
+ghost use mathlib.Core.List.{map};
+ghost use lib.ListN.{length};
 ghost use Rattle.numerals.specs.Writing.{Wrote};
 ghost use Rattle.writer.specs.Words.{heightWord};
 ghost use Rattle.writer.specs.InnerCells.{gapOf, columnAfter, cellsFrom, bytesOf, wordOf};

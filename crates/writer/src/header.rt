@@ -13,14 +13,14 @@ pub(crate) fn length(
     rows: usize,
     columns: usize,
     side: u32,
-    x_corner: &[u8],
-    y_corner: &[u8],
+    x: &[u8],
+    y: &[u8],
 ) -> usize
-    requires { ⌜ (length (now x_corner) ≤ 17) × (length (now y_corner) ≤ 17) ⌝ }
-    ensures { λ r. ⌜ (r ≡ length (lines (headerWords (frame rows columns side (now (x_corner .entry)) (now (y_corner .entry)))))) × (r ≤ 162) ⌝ }
+    requires { ⌜ (length (now x) ≤ 17) × (length (now y) ≤ 17) ⌝ }
+    ensures { λ r. ⌜ (r ≡ length (lines (headerWords (frame rows columns side (now (x .entry)) (now (y .entry)))))) × (r ≤ 162) ⌝ }
 {
     let counts = numerals::digit_count(columns as u64) + numerals::digit_count(rows as u64);
-    let corners = x_corner.len() + y_corner.len();
+    let corners = x.len() + y.len();
     65 + counts + corners + words::hundredths_length(side as u64)
 }
 
@@ -66,16 +66,16 @@ pub(crate) fn put(
     rows: usize,
     columns: usize,
     side: u32,
-    x_corner: &[u8],
-    y_corner: &[u8],
+    x: &[u8],
+    y: &[u8],
 ) -> usize
-    requires { ⌜ length (lines (headerWords (frame rows columns side (now x_corner) (now y_corner)))) ≤ length (now out) ⌝ }
-    ensures { λ r. ⌜ Wrote (now (out .entry)) 0 (lines (headerWords (frame rows columns side (now (x_corner .entry)) (now (y_corner .entry))))) r (now (out .exit)) ⌝ }
+    requires { ⌜ length (lines (headerWords (frame rows columns side (now x) (now y)))) ≤ length (now out) ⌝ }
+    ensures { λ r. ⌜ Wrote (now (out .entry)) 0 (lines (headerWords (frame rows columns side (now (x .entry)) (now (y .entry))))) r (now (out .exit)) ⌝ }
 {
     let a = put_count_field(out, 0, b"ncols", columns);
     let b = put_count_field(out, a, b"nrows", rows);
-    let c = put_field(out, b, b"xllcorner", x_corner);
-    let d = put_field(out, c, b"yllcorner", y_corner);
+    let c = put_field(out, b, b"xllcorner", x);
+    let d = put_field(out, c, b"yllcorner", y);
     let e = put_side_field(out, d, b"cellsize", side);
     put_field(out, e, b"nodata_value", b"-9999")
 }

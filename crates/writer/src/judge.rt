@@ -23,11 +23,11 @@ pub(crate) fn judge(
     rows: usize,
     columns: usize,
     side: u32,
-    x_corner: &[u8],
-    y_corner: &[u8],
+    x: &[u8],
+    y: &[u8],
     cells: usize,
 ) -> Judgement
-    ensures { λ r. ⌜ found r ≡ verdict (frameTests (frame rows columns side (now (x_corner .entry)) (now (y_corner .entry))) cells) ⌝ }
+    ensures { λ r. ⌜ found r ≡ verdict (frameTests (frame rows columns side (now (x .entry)) (now (y .entry))) cells) ⌝ }
 {
     if !text::is_size(rows) {
         return unsound(1, 0);
@@ -41,10 +41,10 @@ pub(crate) fn judge(
     if !text::is_side(side) {
         return unsound(3, 0);
     }
-    if !text::is_number(x_corner) {
+    if x.len() == 0 {
         return unsound(7, 1);
     }
-    if !text::is_number(y_corner) {
+    if y.len() == 0 {
         return unsound(7, 2);
     }
     Judgement::Sound

@@ -24,17 +24,17 @@ pub fn write_heights(
     rows: usize,
     columns: usize,
     side: u32,
-    x_corner: &[u8],
-    y_corner: &[u8],
+    x: &[u8],
+    y: &[u8],
     heights: &[i32],
     room: &mut [u8],
 ) -> Answer
-    ensures answers { λ r. ⌜ r ≡ answer (frame rows columns side (now (x_corner .entry)) (now (y_corner .entry)))
-        (heightCells (frame rows columns side (now (x_corner .entry)) (now (y_corner .entry))) (now (heights .entry))) (now (room .entry)) ⌝ }
-    ensures leaves { λ _. ⌜ now (room .exit) ≡ after (frame rows columns side (now (x_corner .entry)) (now (y_corner .entry)))
-        (heightCells (frame rows columns side (now (x_corner .entry)) (now (y_corner .entry))) (now (heights .entry))) (now (room .entry)) ⌝ }
+    ensures answers { λ r. ⌜ r ≡ answer (frame rows columns side (now (x .entry)) (now (y .entry)))
+        (heightCells (frame rows columns side (now (x .entry)) (now (y .entry))) (now (heights .entry))) (now (room .entry)) ⌝ }
+    ensures leaves { λ _. ⌜ now (room .exit) ≡ after (frame rows columns side (now (x .entry)) (now (y .entry)))
+        (heightCells (frame rows columns side (now (x .entry)) (now (y .entry))) (now (heights .entry))) (now (room .entry)) ⌝ }
 {
-    let judgement = judge::judge(rows, columns, side, x_corner, y_corner, heights.len());
+    let judgement = judge::judge(rows, columns, side, x, y, heights.len());
     match judgement {
         Judgement::Unsound(refusal) => Answer::Refused(refusal),
         Judgement::Sound => {
@@ -45,7 +45,7 @@ pub fn write_heights(
                     place: bad,
                 });
             }
-            let length = header::length(rows, columns, side, x_corner, y_corner)
+            let length = header::length(rows, columns, side, x, y)
                 + cells::heights_length(heights);
             if room.len() < length {
                 return Answer::Refused(Refusal {
@@ -53,7 +53,7 @@ pub fn write_heights(
                     place: 0,
                 });
             }
-            let next = header::put(room, rows, columns, side, x_corner, y_corner);
+            let next = header::put(room, rows, columns, side, x, y);
             cells::put_heights(room, next, columns, heights);
             Answer::Accepted { length }
         }

@@ -1,7 +1,6 @@
 // The word of a cell: its length, and its bytes in the room, which has place for them. RULES 10.2.
 ghost use mathlib.Core.Path.{_≡_};
 ghost use Prim.Native.Nat.{_+_, _≤_};
-ghost use lib.IntN.{natAbs, pos};
 ghost use lib.ListN.{length};
 ghost use Rattle.numerals.specs.Words.{fixed};
 ghost use Rattle.numerals.specs.Writing.{Wrote};
@@ -14,17 +13,6 @@ use text::NO_DATA;
 pub(crate) enum Kind {
     Count,
     Factor,
-}
-
-// `z` without its sign.
-fn size(z: i32) -> u64
-    ensures { λ r. ⌜ (r ≡ natAbs z) × (r ≤ 2147483648) ⌝ }
-{
-    if z < 0 {
-        let wide = z as i64;
-        return (0 - wide) as u64;
-    }
-    z as u64
 }
 
 // How many bytes `n` hundredths are.
@@ -61,7 +49,7 @@ pub(crate) fn height_length(height: i32) -> usize
     if height == NO_DATA {
         return 5;
     }
-    let length = hundredths_length(size(height));
+    let length = hundredths_length(numerals::size(height));
     if height < 0 {
         return length + 1;
     }
@@ -78,9 +66,9 @@ pub(crate) fn put_height(out: &mut [u8], at: usize, height: i32) -> usize
     }
     if height < 0 {
         numerals::put(out, at, b'-');
-        return put_hundredths(out, at + 1, size(height));
+        return put_hundredths(out, at + 1, numerals::size(height));
     }
-    put_hundredths(out, at, size(height))
+    put_hundredths(out, at, numerals::size(height))
 }
 
 // How many bytes the word of a count or of an LS has.

@@ -7,7 +7,7 @@ use lib.IntN.{natAbs}
 use mir.Facts.{toZ-ofZ}
 use Rattle.numerals.specs.Words.{decimal}
 use Rattle.numerals.proofs.Writing.{wrote-as, wrote-then}
-use Rattle.sheet.proofs.InnerSigns.{integer-minus, integer-plus}
+use Rattle.numerals.proofs.Signs.{integer-minus, integer-plus}
 use Rattle.sheet.proofs.writer.put_integer.Statement.{statement}
 use Rattle.sheet.proofs.writer.put_integer.Tie as tie
 

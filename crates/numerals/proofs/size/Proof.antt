@@ -1,11 +1,11 @@
--- `sheet::writer::size` meets its contract. Assumes nothing.
+-- `numerals::size` meets its contract. Assumes nothing.
 use mathlib.Core.Path.{ap}
 use lib.IntN.{natAbs}
 use mir.Syntax.{w32, w64}
 use mir.Facts.{toZ-ofZ, sfits-widen, fits-natAbs}
-use Rattle.sheet.proofs.InnerSigns.{size-small, size-fits, minus-fits, minus-is, plus-sign}
-use Rattle.sheet.proofs.writer.size.Statement.{statement}
-use Rattle.sheet.proofs.writer.size.Tie as tie
+use Rattle.numerals.proofs.Signs.{size-small, size-fits, minus-fits, minus-is, plus-sign}
+use Rattle.numerals.proofs.size.Statement.{statement}
+use Rattle.numerals.proofs.size.Tie as tie
 
 cast-wide : tie.Need-cast-wide
 cast-wide c = let f = c .before .fits .z in rw (toZ-ofZ f) (sfits-widen {w = w32} tt f)

@@ -1,0 +1,68 @@
+use Rattle.writer.proofs.cells.heights_length.Statement.{statement}
+use Rattle.writer.proofs.cells.heights_length.Tie as tie
+use Rattle.writer.proofs.cells.heights_length.Reads as reads
+use Rattle.writer.proofs.cells.heights_length.Lts as lts
+use Rattle.writer.proofs.words.height_length.Reads as height-length-reads
+
+abbrev Inv-loop : tie.InvT-loop
+Inv-loop heights total₀ x₀ total x = ?
+
+abbrev μ-loop : tie.MeasureT-loop
+μ-loop heights total₀ x₀ total x = ?
+
+-- src/cells.rt:21:5
+loop-holds : tie.Need-loop-holds Inv-loop μ-loop
+loop-holds c = ?
+
+-- src/cells.rt:22:39
+mul-height-length : tie.Need-mul-height-length Inv-loop μ-loop
+mul-height-length c = ?
+
+-- src/cells.rt:22:39
+shared-slice-copy-out-height-length : tie.Need-shared-slice-copy-out-height-length Inv-loop μ-loop
+shared-slice-copy-out-height-length c = ?
+
+-- src/cells.rt:22:18
+height-length-requires : tie.Need-height-length-requires Inv-loop μ-loop
+height-length-requires c κs = ?
+
+-- src/cells.rt:22:18
+add-total : tie.Need-add-total Inv-loop μ-loop
+add-total c = ?
+
+-- src/cells.rt:22:9
+add-total-2 : tie.Need-add-total-2 Inv-loop μ-loop
+add-total-2 c = ?
+
+-- src/cells.rt:23:9
+add-x : tie.Need-add-x Inv-loop μ-loop
+add-x c = ?
+
+-- src/cells.rt:21:5
+loop-less : tie.Need-loop-less Inv-loop μ-loop
+loop-less c = ?
+
+-- src/cells.rt:21:5
+loop-again : tie.Need-loop-again Inv-loop μ-loop
+loop-again c = ?
+
+-- src/cells.rt:15:1
+returns : tie.Need-returns Inv-loop μ-loop
+returns c = ?
+
+pub heights-length-spec : {M : Type 1} → statement M
+heights-length-spec =
+    tie.close
+    (tie.spec
+    Inv-loop
+    μ-loop
+    loop-holds
+    mul-height-length
+    shared-slice-copy-out-height-length
+    height-length-requires
+    add-total
+    add-total-2
+    add-x
+    loop-less
+    loop-again
+    returns)

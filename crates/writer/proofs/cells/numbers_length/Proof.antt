@@ -1,0 +1,68 @@
+use Rattle.writer.proofs.cells.numbers_length.Statement.{statement}
+use Rattle.writer.proofs.cells.numbers_length.Tie as tie
+use Rattle.writer.proofs.cells.numbers_length.Reads as reads
+use Rattle.writer.proofs.cells.numbers_length.Lts as lts
+use Rattle.writer.proofs.words.number_length.Reads as number-length-reads
+
+abbrev Inv-loop : tie.InvT-loop
+Inv-loop kind numbers total₀ x₀ total x = ?
+
+abbrev μ-loop : tie.MeasureT-loop
+μ-loop kind numbers total₀ x₀ total x = ?
+
+-- src/cells.rt:35:5
+loop-holds : tie.Need-loop-holds Inv-loop μ-loop
+loop-holds c = ?
+
+-- src/cells.rt:36:45
+mul-number-length : tie.Need-mul-number-length Inv-loop μ-loop
+mul-number-length c = ?
+
+-- src/cells.rt:36:45
+shared-slice-read-number-length : tie.Need-shared-slice-read-number-length Inv-loop μ-loop
+shared-slice-read-number-length c = ?
+
+-- src/cells.rt:36:18
+number-length-requires : tie.Need-number-length-requires Inv-loop μ-loop
+number-length-requires c κs = ?
+
+-- src/cells.rt:36:18
+add-total : tie.Need-add-total Inv-loop μ-loop
+add-total c = ?
+
+-- src/cells.rt:36:9
+add-total-2 : tie.Need-add-total-2 Inv-loop μ-loop
+add-total-2 c = ?
+
+-- src/cells.rt:37:9
+add-x : tie.Need-add-x Inv-loop μ-loop
+add-x c = ?
+
+-- src/cells.rt:35:5
+loop-less : tie.Need-loop-less Inv-loop μ-loop
+loop-less c = ?
+
+-- src/cells.rt:35:5
+loop-again : tie.Need-loop-again Inv-loop μ-loop
+loop-again c = ?
+
+-- src/cells.rt:29:1
+returns : tie.Need-returns Inv-loop μ-loop
+returns c = ?
+
+pub numbers-length-spec : {M : Type 1} → statement M
+numbers-length-spec =
+    tie.close
+    (tie.spec
+    Inv-loop
+    μ-loop
+    loop-holds
+    mul-number-length
+    shared-slice-read-number-length
+    number-length-requires
+    add-total
+    add-total-2
+    add-x
+    loop-less
+    loop-again
+    returns)
