@@ -3,17 +3,19 @@ use mathlib.Core.Path.{_≡_, refl, sym, subst, _∙_}
 use mathlib.Core.Bool.{Bool, true, false, true≢false}
 use mathlib.Core.List.{List}
 use Prim.Native.Nat.{ℕ, _-_, _≤_, _<_}
+use native.Mathlib.Decide.{decLt}
 use native.Mathlib.Omega.{arith}
 use borrow.Author.Tests.{ltb-true}
 use lib.Dec.{ltb}
 use lib.ListN.{length, getD, set}
 use Rattle.laws.proofs.Tests.{and-both}
 use Rattle.text.specs.Quantities.{extentIn}
-use Rattle.text.specs.Reader.{refused, check, give, _>>_}
+use Rattle.text.specs.Reader.{Step, got, refused, after, check, give, _>>_}
 use Rattle.text.specs.Words.{solid, wordStart, wordEnd}
-use Rattle.text.specs.Numbers.{formed, malformed, Number, numberAt, countFormAt, isFormed, firstComma, commaDecimal, count, number}
+use Rattle.text.specs.Numbers.{Form, formed, malformed, Number, numberAt, countFormAt, isFormed, firstComma, commaDecimal}
+use Rattle.text.specs.Numbers.{Placed, formedOr, read, count, number}
 use Rattle.text.specs.Right.{RightNumber, RightCount, BreaksAt, CommaAt, wordAt, Neither}
-use Rattle.text.proofs.Ends.{first-solid, end-lower}
+use Rattle.text.proofs.Ends.{first-solid, word-found, word-none, end-lower}
 use Rattle.text.proofs.InnerCommas.{count-no-comma}
 use Rattle.text.proofs.InnerSaid.{Says, number-says, count-says, comma-in, word-some, word-in, end-digit, end-point, Told, told}
 
@@ -54,10 +56,31 @@ module _ (s : List ℕ) (a : ℕ) (h : a < length s) (first : solid (getD s a 0)
 
 -- ---- the next word from the place i, as a number and as a count
 
+-- a number that was read is the next word, and reading goes on behind it
+abbrev pub NextWord : List ℕ → ℕ → Step (Placed Number) → Type 0
+NextWord s i (got x e) = (wordStart s i < length s) × (x .place ≡ wordStart s i) × (e ≡ wordEnd s (wordStart s i))
+NextWord s i (refused n p) = Unit
+
 module _ (s : List ℕ) (i : ℕ) where
   number-told : Told numberAt RightNumber s (wordStart s i) (number s i)
   unfolding number
   number-told = told numberAt RightNumber s (λ a x. give (record { place = a; is = x })) (λ a e x. tt) i (number-form s)
+
+  pub number-next : NextWord s i (number s i)
+  unfolding number read
+  number-next =
+      let a = wordStart s i in
+      elim (decLt a (length s)) [
+        | yes h ↦ rw (word-found s i a refl h) (go h (numberAt s a (wordEnd s a)) (commaDecimal numberAt s a (wordEnd s a)))
+        | no h ↦ rw (word-none s i a refl (omega arith)) tt
+      ]
+    where
+      go : wordStart s i < length s → (r : Form Number) (q : Bool)
+          → NextWord s i (after (formedOr q (firstComma s (wordStart s i) (wordEnd s (wordStart s i))) r s (wordEnd s (wordStart s i)))
+          (λ x. give (record { place = wordStart s i; is = x })) s)
+      go h (formed x) q = (h, refl, refl)
+      go h (malformed p) true = tt
+      go h (malformed p) false = tt
 
   -- refusal 7 of a number stands where the word breaks
   pub number-7 : (p : ℕ) → number s i ≡ refused 7 p → (wordStart s i ≤ p) × BreaksAt RightNumber (wordAt s (wordStart s i)) (p - wordStart s i)
