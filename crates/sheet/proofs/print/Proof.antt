@@ -31,7 +31,7 @@ start c = c .before .before .before
 
 -- the header's numbers are those of its answer
 numbers : (c : tie.After-head-of) → c .head-of .result ≡ headNumbers (headerAnswer (now (start (short c) .args .text)))
-numbers c = c .head-of .ensures ∙ ap headNumbers (c .before .read-header .ensures)
+numbers c = c .head-of .ensures ∙ ap headNumbers (c .before .read-header .ensures .0)
 
 put-refusal-requires : tie.Need-put-refusal-requires
 put-refusal-requires c κs = search needs
