@@ -2,7 +2,7 @@
 ghost use mathlib.Core.Path.{_≡_};
 ghost use Rattle.text.specs.Answers.{outcomeOf};
 ghost use Rattle.factor.specs.Answers.{told};
-ghost use Rattle.fullsize.specs.Lent.{readingAfter, mappingAfter};
+ghost use Rattle.fullsize.specs.Lent.{readingAfter, cornersAfter, mappingAfter};
 
 // Hands out the answer of a reading.
 pub(crate) fn hand_out_reading(
@@ -34,6 +34,22 @@ pub(crate) fn hand_out_reading(
             refusal.number
         }
     }
+}
+
+// Hands out where the corner words stand.
+pub(crate) fn hand_out_corners(
+    corners: text::Corners,
+    x_first: &mut usize,
+    x_length: &mut usize,
+    y_first: &mut usize,
+    y_length: &mut usize,
+)
+    ensures { λ _. ⌜ cornersAfter «x_first» «x_length» «y_first» «y_length» ≡ corners ⌝ }
+{
+    *x_first = corners.x.first;
+    *x_length = corners.x.length;
+    *y_first = corners.y.first;
+    *y_length = corners.y.length;
 }
 
 // Hands out the answer of a map call.

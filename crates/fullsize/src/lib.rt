@@ -7,16 +7,16 @@ mod answers;
 mod crossing;
 
 ghost use mathlib.Core.Path.{_≡_};
-ghost use Rattle.text.specs.Answers.{headerAnswer, gridAnswer};
+ghost use Rattle.text.specs.Answers.{headerAnswer, cornersAnswer, gridAnswer};
 ghost use Rattle.settings.specs.Settings.{defaultSettings};
 ghost use Rattle.terrain.specs.Drainage.{Trails, Totals, Surface};
 ghost use Rattle.factor.specs.Answers.{answer, after, told, lentBefore, lentAfter};
 ghost use Rattle.fullsize.specs.Outcomes.{gridReading};
 ghost use Rattle.fullsize.specs.Crossing.{numbersOf, settingsOf};
-ghost use Rattle.fullsize.specs.Lent.{readingAfter, mappingAfter, numbersAfter};
+ghost use Rattle.fullsize.specs.Lent.{readingAfter, cornersAfter, mappingAfter, numbersAfter};
 use settings::Settings;
 
-// Reads the header alone: `text::read_header`.
+// Reads the header alone: `text::read_header`. The last four numbers tell where the words of the two corner numbers stand.
 #[no_mangle]
 pub extern "C" fn lsmap_read_header(
     text: &[u8],
@@ -25,10 +25,18 @@ pub extern "C" fn lsmap_read_header(
     columns: &mut usize,
     side: &mut u32,
     no_data: &mut i64,
+    x_first: &mut usize,
+    x_length: &mut usize,
+    y_first: &mut usize,
+    y_length: &mut usize,
 ) -> u32
-    ensures { λ r. ⌜ readingAfter r place rows columns side no_data ≡ headerAnswer (now (text .entry)) ⌝ }
+    ensures answers { λ r. ⌜ readingAfter r place rows columns side no_data ≡ headerAnswer (now (text .entry)) ⌝ }
+    ensures corners { λ _. ⌜ cornersAfter «x_first» «x_length» «y_first» «y_length» ≡ cornersAnswer (now (text .entry)) ⌝ }
 {
-    let answer = text::read_header(text);
+    let read = text::read_header(text);
+    let answer = read.answer;
+    let corners = read.corners;
+    answers::hand_out_corners(corners, x_first, x_length, y_first, y_length);
     answers::hand_out_reading(answer, place, rows, columns, side, no_data)
 }
 
