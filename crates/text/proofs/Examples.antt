@@ -1,5 +1,6 @@
 -- The rules' examples of the text, computed from the definitions. Assumes nothing.
 use mathlib.Core.Path.{_≡_, refl}
+use mathlib.Core.Bool.{true, false}
 use mathlib.Core.List.{List, [], _∷_, _++_, map}
 use Prim.Native.Nat.{ℕ, _+_}
 use Prim.Native.String.{String}
@@ -8,7 +9,7 @@ use lib.ListN.{length, replicate}
 use Rattle.text.specs.Bytes.{bytes}
 use Rattle.text.specs.Reader.{Step, got, refused}
 use Rattle.text.specs.Words.{run, wordStart, wordEnd, word}
-use Rattle.text.specs.Numbers.{Placed, value, countFormAt, decimals, numberAt, firstComma, commaDecimal, read, count, number, measure}
+use Rattle.text.specs.Numbers.{Placed, value, countFormAt, decimals, numberAt, isNumber, firstComma, commaDecimal, read, count, number, measure}
 use Rattle.text.specs.Headers.{named, name, corner, side, field, anyMeasure, noData, extent, corners, sideAndNoData, head, header}
 use Rattle.text.specs.Heights.{height, heights, end, body, grid}
 use Rattle.text.specs.Answers.{GridOutcome, headerAnswer, noSpan, cornersAnswer, gridAnswer}
@@ -49,6 +50,18 @@ singles =
 pub singles-hold : map (λ (x : Single). readOf (measure (bytes (x .text)) 0)) singles ≡ map (λ (x : Single). x .gives) singles
 unfolding singles bytes run wordStart wordEnd word value decimals numberAt firstComma commaDecimal read number measure
 singles-hold = refl
+
+-- ---- bytes by themselves: which are a number's word
+
+unfoldable pub alone : List String
+alone = "0" ∷ "-0" ∷ "12.5" ∷ "123456789" ∷ "-999999999.123456" ∷ []
+
+unfoldable pub notAlone : List String
+notAlone = "" ∷ "-" ∷ "+5" ∷ ".5" ∷ "5." ∷ "12,5" ∷ " 5" ∷ "5 " ∷ "5x" ∷ "--5" ∷ "1.2.3" ∷ "1234567890" ∷ "1.1234567" ∷ "1.123456 " ∷ []
+
+pub alone-hold : (map (λ (x : String). isNumber (bytes x)) alone ≡ replicate 5 true) × (map (λ (x : String). isNumber (bytes x)) notAlone ≡ replicate 14 false)
+unfolding alone notAlone bytes run value decimals numberAt isNumber
+alone-hold = (refl, refl)
 
 -- ---- whole texts, with so many heights lent, each 77 beforehand
 

@@ -15,7 +15,7 @@ use mir.Val.{Fits as FitsIn}
 use Rattle.laws.proofs.Tests.{and-both}
 use Rattle.text.specs.Bytes.{bytes}
 use Rattle.text.specs.Quantities.{sideIn}
-use Rattle.text.specs.Reader.{got, refused, Reader}
+use Rattle.text.specs.Reader.{Step, got, refused, Reader}
 use Rattle.text.specs.Words.{wordStart, word}
 use Rattle.text.specs.Numbers.{number, measure, count}
 use Rattle.text.specs.Headers as H
@@ -210,9 +210,9 @@ module _ (s : List ℕ) (at : ℕ) (r : Extended) (m : extendedOf r ≡ extent s
     unfolding head
     head-no-corners f q = rw (sym m ∙ ap extendedOf e, sym l ∙ ap pairedOf q)
 
-    pub head-on : (j : P.Pair) → k ≡ Pair j → sideAndNoData (extentOf x) (j .corners) s (j .rest .at) ≡ head s at
+    pub head-on : (j : P.Pair) → k ≡ Pair j → (t : Step H.Head) → t ≡ sideAndNoData (extentOf x) (j .corners) s (j .rest .at) → t ≡ head s at
     unfolding head
-    head-on j q = rw (sym m ∙ ap extendedOf e, sym l ∙ ap pairedOf q)
+    head-on j q t o = rw (sym m ∙ ap extendedOf e, sym l ∙ ap pairedOf q) o
 
 -- ---- a side that is allowed fits its type
 

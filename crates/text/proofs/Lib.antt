@@ -6,6 +6,7 @@ pub mod InnerRuns
 pub mod InnerValues
 pub mod InnerForms
 pub mod InnerCommas
+pub mod InnerAlone
 pub mod InnerSteps
 pub mod InnerNames
 pub mod InnerFields

@@ -11,6 +11,7 @@ mod words;
 ghost use mathlib.Core.Path.{_≡_};
 ghost use Rattle.text.specs.Answers.{outcomeOf, gridOutcomeOf, headerAnswer, cornersAnswer, gridAnswer};
 use headers::Headed;
+pub use numbers::is_number;
 pub use ranges::first_bad;
 pub use ranges::is_height;
 pub use ranges::is_side;

@@ -1,5 +1,5 @@
 -- `text::headers::read` meets its contract. Assumes nothing.
-use mathlib.Core.Path.{_∙_, subst}
+use mathlib.Core.Path.{subst}
 use Rattle.text.specs.InnerHeaders.{ExtendedFits}
 use Rattle.text.proofs.InnerFields.{head-no-extent, head-no-corners, head-on}
 use borrow.Author.Needs.{needs}
@@ -50,8 +50,8 @@ returns-3 c =
     let p = c .before .before .before .before in
     let k = p .before .before in
     let e = extent-at k in (
-      c .read-side-and-no-data .ensures .0
-          ∙ head-on _ _ _ (extent-read e .read-extent .ensures .0) _ (e .x2 .given .1) _ (k .read-corners .ensures) _ (p .m2 .given .1),
+      head-on _ _ _ (extent-read e .read-extent .ensures .0) _ (e .x2 .given .1) _ (k .read-corners .ensures) _ (p .m2 .given .1) _
+          (c .read-side-and-no-data .ensures .0),
       c .read-side-and-no-data .ensures .1,
     )
 
