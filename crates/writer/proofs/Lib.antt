@@ -1,0 +1,2 @@
+pub mod InnerWords
+pub mod InnerCells

@@ -1,20 +1,24 @@
+-- `writer::cells::gap` meets its contract. Assumes nothing.
+use mathlib.Core.Path.{sym, ap}
+use mathlib.Core.Bool.{Bool, cond}
+use borrow.Author.Tests.{eq-eqb, ne-eqb}
+use Rattle.writer.specs.InnerCells.{gapOf}
 use borrow.Author.Needs.{needs}
 use Rattle.writer.proofs.cells.gap.Statement.{statement}
 use Rattle.writer.proofs.cells.gap.Tie as tie
 use Rattle.writer.proofs.cells.gap.Reads as reads
 use Rattle.writer.proofs.cells.gap.Lts as lts
 
--- src/cells.rt:47:8
 add-if1 : tie.Need-add-if1
 add-if1 c = search needs
 
--- src/cells.rt:48:9
 returns : tie.Need-returns
-returns c = ?
+unfolding gapOf
+returns c = sym (ap (λ (b : Bool). cond b 10 32) (eq-eqb _ _ (c .if1 .taken)))
 
--- src/cells.rt:43:1
 returns-2 : tie.Need-returns-2
-returns-2 c = ?
+unfolding gapOf
+returns-2 c = sym (ap (λ (b : Bool). cond b 10 32) (ne-eqb _ _ (c .if1 .left)))
 
 pub gap-spec : {M : Type 1} → statement M
 gap-spec = tie.close (tie.spec add-if1 returns returns-2)

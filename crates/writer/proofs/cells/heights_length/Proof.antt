@@ -5,10 +5,10 @@ use Rattle.writer.proofs.cells.heights_length.Lts as lts
 use Rattle.writer.proofs.words.height_length.Reads as height-length-reads
 
 abbrev Inv-loop : tie.InvT-loop
-Inv-loop heights total₀ x₀ total x = ?
+Inv-loop heights total₀ x₀ total x = Counted heightWord (pos 0) heights x total
 
 abbrev μ-loop : tie.MeasureT-loop
-μ-loop heights total₀ x₀ total x = ?
+μ-loop heights total₀ x₀ total x = length heights - x
 
 -- src/cells.rt:21:5
 loop-holds : tie.Need-loop-holds Inv-loop μ-loop

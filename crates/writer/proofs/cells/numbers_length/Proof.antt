@@ -5,10 +5,10 @@ use Rattle.writer.proofs.cells.numbers_length.Lts as lts
 use Rattle.writer.proofs.words.number_length.Reads as number-length-reads
 
 abbrev Inv-loop : tie.InvT-loop
-Inv-loop kind numbers total₀ x₀ total x = ?
+Inv-loop kind numbers total₀ x₀ total x = Counted (wordOf kind) 0 numbers x total
 
 abbrev μ-loop : tie.MeasureT-loop
-μ-loop kind numbers total₀ x₀ total x = ?
+μ-loop kind numbers total₀ x₀ total x = length numbers - x
 
 -- src/cells.rt:35:5
 loop-holds : tie.Need-loop-holds Inv-loop μ-loop

@@ -8,10 +8,10 @@ use Rattle.writer.proofs.cells.gap.Reads as gap-reads
 use Rattle.writer.proofs.words.put_height.Reads as put-height-reads
 
 abbrev Inv-loop : tie.InvT-loop
-Inv-loop out₀ at columns heights next₀ column₀ x₀ out next column x = ?
+Inv-loop out₀ at columns heights next₀ column₀ x₀ out next column x = Along heightWord (pos 0) heights columns out₀ at out next column x
 
 abbrev μ-loop : tie.MeasureT-loop
-μ-loop out₀ at columns heights next₀ column₀ x₀ out next column x = ?
+μ-loop out₀ at columns heights next₀ column₀ x₀ out next column x = length heights - x
 
 -- src/cells.rt:72:5
 loop-holds : tie.Need-loop-holds Inv-loop μ-loop

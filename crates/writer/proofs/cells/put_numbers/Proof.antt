@@ -8,10 +8,10 @@ use Rattle.writer.proofs.cells.gap.Reads as gap-reads
 use Rattle.writer.proofs.words.put_number.Reads as put-number-reads
 
 abbrev Inv-loop : tie.InvT-loop
-Inv-loop out₀ at columns kind numbers next₀ column₀ x₀ out next column x = ?
+Inv-loop out₀ at columns kind numbers next₀ column₀ x₀ out next column x = Along (wordOf kind) 0 numbers columns out₀ at out next column x
 
 abbrev μ-loop : tie.MeasureT-loop
-μ-loop out₀ at columns kind numbers next₀ column₀ x₀ out next column x = ?
+μ-loop out₀ at columns kind numbers next₀ column₀ x₀ out next column x = length numbers - x
 
 -- src/cells.rt:96:5
 loop-holds : tie.Need-loop-holds Inv-loop μ-loop

@@ -1,3 +1,7 @@
+-- `writer::words::put_hundred_thousandths` meets its contract. Assumes nothing.
+use native.Mathlib.Omega.{arith}
+use Rattle.numerals.proofs.Decimal.{fixed-length, padded-length}
+use Rattle.writer.proofs.InnerWords.{wrote-fixed}
 use borrow.Author.Needs.{needs}
 use Rattle.writer.proofs.words.put_hundred_thousandths.Statement.{statement}
 use Rattle.writer.proofs.words.put_hundred_thousandths.Tie as tie
@@ -7,41 +11,40 @@ use Rattle.numerals.proofs.put.Reads as put-reads
 use Rattle.numerals.proofs.put_natural.Reads as put-natural-reads
 use Rattle.numerals.proofs.put_padded.Reads as put-padded-reads
 
--- src/words.rt:40:22
 put-natural-requires : tie.Need-put-natural-requires
 put-natural-requires c κs = search needs
 
--- src/words.rt:40:17
 add-point : tie.Need-add-point
 add-point c = search needs
 
--- src/words.rt:41:5
 put-requires : tie.Need-put-requires
 put-requires c κs = search needs
 
--- src/words.rt:42:5
 add-result : tie.Need-add-result
 add-result c = search needs
 
--- src/words.rt:42:43
 add-put-padded : tie.Need-add-put-padded
 add-put-padded c = search needs
 
--- src/words.rt:42:17
 put-padded-requires : tie.Need-put-padded-requires
 put-padded-requires c κs = search needs
 
--- src/words.rt:42:5
 add-result-2 : tie.Need-add-result-2
-add-result-2 c = ?
+add-result-2 c =
+    let s = c .before .before .before .before .before .before .before .before .before .before in
+    let a = s .before .before .before .args in
+    omega (arith, fixed-length 5 (a .n), s .put-natural .ensures .0 .1, c .before .before .put-padded .ensures .1, padded-length 5 (a .n))
 
--- src/words.rt:36:1
 same-length : tie.Need-same-length
 same-length c = search needs
 
--- src/words.rt:36:1
 returns : tie.Need-returns
-returns c = ?
+returns c =
+    let d = c .before .before .put-padded .ensures in
+    let p = c .before .before .before .before .before .before in
+    let s = p .before .before .before .before in
+    let n = s .put-natural .ensures .0 in
+    wrote-fixed 5 (s .before .before .before .args .n) (s .before .before .before .args .at) (n .0) (n .1) (p .put .ensures) (d .0) (d .1)
 
 pub put-hundred-thousandths-spec : {M : Type 1} → statement M
 put-hundred-thousandths-spec =
