@@ -22,7 +22,7 @@ macro_rules! side {
         const SETTINGS: Settings = Settings { low: CUTOFF, high: CUTOFF, kind: 0, cells: 0, percentage: 0.0 };
 
         fn read(text: &[u8], heights: &mut [i32]) {
-            let header = $library::read_header(text).ok().expect("a terrain's text is accepted");
+            let (header, _) = $library::read_header(text).ok().expect("a terrain's text is accepted");
             let whole = $library::read_grid(text, heights).ok().expect("a terrain's text is accepted");
             assert_eq!((header.rows, header.columns), (whole.rows, whole.columns));
         }
