@@ -75,21 +75,26 @@ fn width(number: u32, decimals: usize) -> usize {
     digits.max(decimals + 1) + usize::from(decimals > 0)
 }
 
-/// Fills a word with a number, the digits from the back.
+/// Fills the places with the last digits of a number, from the back.
 #[inline]
-fn put_number(word: &mut [u8], mut number: u32, decimals: usize) {
-    let mut places = word.iter_mut().rev();
-    for place in places.by_ref().take(decimals) {
+fn put_digits(places: &mut [u8], mut number: u32) {
+    for place in places.iter_mut().rev() {
         *place = b'0' + (number % 10) as u8;
         number /= 10;
     }
-    if decimals > 0 {
-        places.by_ref().take(1).for_each(|place| *place = b'.');
+}
+
+/// Fills a word with a number.
+#[inline]
+fn put_number(word: &mut [u8], number: u32, decimals: usize) {
+    if decimals == 0 {
+        return put_digits(word, number);
     }
-    for place in places {
-        *place = b'0' + (number % 10) as u8;
-        number /= 10;
-    }
+    let one = 10_u32.pow(decimals as u32);
+    let (whole, rest) = word.split_at_mut(word.len() - decimals - 1);
+    put_digits(whole, number / one);
+    rest[0] = b'.';
+    put_digits(&mut rest[1..], number % one);
 }
 
 /// The bytes of a cell's word.
