@@ -212,6 +212,8 @@ pipes() {
     grep -qxE 'lsmap: 9 cells, 9 valid, longest trail 2, greatest LS 0\.54379, [0-9]+\.[0-9]{2} s' out || fail "the summary: $(cat out)"
     script -qec "'$lsmap' pit.asc 2>err" /dev/null >out
     [ ! -s err ] || fail "a summary for no terminal"
+    script -qec "'$lsmap' --quiet pit.asc" /dev/null >out
+    [ ! -s out ] || fail "--quiet on a terminal: $(cat out)"
 }
 
 # As many blocks of 512 bytes as lsmap may write to a file: more than the ground's text has, fewer than that of LS.
