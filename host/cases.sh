@@ -131,7 +131,7 @@ holds() {
         "$2" "$3" "$4" "$5" | cmp - "$1" || fail "the text $1"
 }
 
-# The grids as texts: the pit, heights and LS at their bounds, read again; and none where one of the four can't be.
+# The grids as texts: the pit, read again; heights, side and LS at their bounds; beside a sheet that nobody reads.
 texts() {
     corners='xllcorner -12.500000 yllcorner 007'
     printf 'NCOLS 3 nrows 3\n%s cellsize 10\n5 5 5\n5 2 4\n5 5 5' "$corners" >corners.asc
@@ -151,11 +151,17 @@ texts() {
     "$lsmap" bounds.asc --text again --quiet >>out
     holds again/filled.asc 1 1 0.05 9000.00
     [ ! -s out ] && [ "$(ls -A again | tr '\n' ' ')" = 'count.asc filled.asc ground.asc ls.asc ' ] || fail "--quiet, or a text's part is left"
+    ends 0 corners.asc $printers --text unread
+    diff -r deep/texts unread || fail "the texts beside a broken pipe"
+}
+
+# None of the four texts where one can't be written.
+no_texts() {
     stops 1 'refused 12 at 54' 'comma.asc: refused 12' comma.asc --text none.d --quiet
     stops 2 '' 'cannot make pit.asc' pit.asc --text pit.asc
     stops 2 '' 'cannot write /proc/self/ground.asc' pit.asc --text /proc/self
     stops 2 '' '--text: ./again/ls.asc is the field itself' again/ls.asc --text ./again
-    rm -r again/ls.asc deep
+    rm again/ls.asc
     mkdir again/ls.asc
     stops 2 '' 'cannot write again/ls.asc: Is a directory' pit.asc --text again
     holds again/ground.asc 1 1 0.05 9000.00
