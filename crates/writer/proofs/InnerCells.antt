@@ -71,14 +71,14 @@ module _ {A : Type 0} (w : A → List ℕ) (d : A) (cells : List A) where
 
       pub along-more : {mid then : List ℕ} {end b k : ℕ} → x < length cells → Wrote now next (w (getD cells x d)) end mid → then ≡ overlay mid end (b ∷ [])
           → b ≡ gapOf columns c → k ≡ columnAfter columns c → k + 1 ≤ columns → Along then (end + 1) k (x + 1)
-      along-more {end = end} h p l eb ek f =
+      along-more {mid} {then} {end} h p l eb ek f =
           let cell : List ℕ = w (getD cells x d) in
           let rest : List ℕ = cellsFrom columns (columnAfter columns c) (map w (drop (x + 1) cells)) in
           let cut = subst (λ (t : List ℕ). Left room at (cellsFrom columns 0 (map w cells)) now next t) (cells-are h) (a .left) in
           let gone = left-more room at (cellsFrom columns 0 (map w cells)) (cell ++ (gapOf columns c ∷ [])) rest cut
-              (wrote-then {a = cell} p (wrote-byte end (gapOf columns c) (l ∙ ap (λ (g : ℕ). overlay _ end (g ∷ [])) eb))) in
+              (wrote-then {a = cell} p (wrote-byte end (gapOf columns c) (l ∙ ap (λ (g : ℕ). overlay mid end (g ∷ [])) eb))) in
           record {
-            left = subst (λ (j : ℕ). Left room at (cellsFrom columns 0 (map w cells)) _ (end + 1) (cellsFrom columns j (map w (drop (x + 1) cells)))) (sym ek) gone;
+            left = subst (λ (j : ℕ). Left room at (cellsFrom columns 0 (map w cells)) then (end + 1) (cellsFrom columns j (map w (drop (x + 1) cells)))) (sym ek) gone;
             column = f;
             within = omega arith;
           }

