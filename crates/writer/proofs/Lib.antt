@@ -1,2 +1,3 @@
-pub mod InnerWords
-pub mod InnerCells
+-- Laws that a text which is written is read back
+pub mod Digits
+pub mod Forms
