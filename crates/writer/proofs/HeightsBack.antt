@@ -1,23 +1,22 @@
 -- The heights that the writer writes are read back: word by word, each with the byte after it, up to the text's end. Assumes nothing.
-use mathlib.Core.Path.{_≡_, refl, ap, _∙_}
+use mathlib.Core.Path.{_≡_, refl}
 use mathlib.Core.Bool.{Bool, true, false, cond}
-use mathlib.Core.List.{List, [], _∷_, _++_, map}
-use Prim.Native.Nat.{ℕ, suc, _+_, _*_, _<_}
+use mathlib.Core.List.{List, [], _∷_, map}
+use Prim.Native.Nat.{ℕ, suc, _+_, _*_}
 use native.Mathlib.Omega.{arith}
 use borrow.Author.Tests.{eq-eqb}
 use lib.Dec.{eqb}
 use lib.IntN.{ℤ}
-use lib.ListN.{length, getD, drop}
+use lib.ListN.{length, drop}
 use Rattle.text.specs.Quantities.{noDataHeight}
-use Rattle.text.specs.Ranges.{heightAccepted}
 use Rattle.text.specs.Reader.{got}
 use Rattle.text.specs.Words.{blank}
 use Rattle.text.specs.Headers.{Header}
 use Rattle.text.specs.Heights.{heights, body}
-use Rattle.text.proofs.Every.{every}
 use Rattle.text.proofs.Pieces.{Ahead, ahead-past, end-ahead}
 use Rattle.writer.specs.Words.{heightWord}
 use Rattle.writer.specs.InnerCells.{gapOf, columnAfter, cellsFrom}
+use Rattle.writer.proofs.Accepted.{EachAccepted}
 use Rattle.writer.proofs.Forms.{height-back}
 
 -- the byte between two words is a blank
@@ -29,10 +28,6 @@ gap-blank columns c = go (eqb (c + 1) columns)
     go true = refl
     go false = refl
 
--- each height is accepted
-abbrev pub AllAccepted : List ℤ → Type 0
-AllAccepted hs = (x : ℕ) → x < length hs → heightAccepted (getD hs x noDataHeight) ≡ true
-
 -- the heights hs are read from the place i on, and one blank is left
 pub record HeightsRead (s : List ℕ) (i : ℕ) (hs : List ℤ) : Type 0 where
   pub end : ℕ
@@ -42,7 +37,7 @@ pub record HeightsRead (s : List ℕ) (i : ℕ) (hs : List ℤ) : Type 0 where
   pub parted : blank last ≡ true
 
 module _ (columns : ℕ) (s : List ℕ) where
-  pub heights-back : (hs : List ℤ) → AllAccepted hs → (c i b : ℕ) → blank b ≡ true → drop i s ≡ b ∷ cellsFrom columns c (map heightWord hs)
+  pub heights-back : (hs : List ℤ) → EachAccepted hs → (c i b : ℕ) → blank b ≡ true → drop i s ≡ b ∷ cellsFrom columns c (map heightWord hs)
       → HeightsRead s i hs
   unfolding heights cellsFrom
   heights-back [] ok c i b p e = record { end = i; read = refl; last = b; left = e; parted = p }
@@ -56,7 +51,7 @@ module _ (columns : ℕ) (s : List ℕ) where
       record { end = rest .end; read = rw (one, rest .read); last = rest .last; left = rest .left; parted = rest .parted }
 
   -- all that follows the header
-  pub body-back : (h : Header) (hs : List ℤ) (i : ℕ) → h .noData ≡ noDataHeight → length hs ≡ h .rows * h .columns → AllAccepted hs
+  pub body-back : (h : Header) (hs : List ℤ) (i : ℕ) → h .noData ≡ noDataHeight → length hs ≡ h .rows * h .columns → EachAccepted hs
       → drop i s ≡ 10 ∷ cellsFrom columns 0 (map heightWord hs) → (e : ℕ) × (body h (length hs) s i ≡ got hs e)
   unfolding body
   body-back h hs i n k ok t =

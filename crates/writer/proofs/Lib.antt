@@ -1,4 +1,6 @@
 -- Laws that a text which is written is read back
+pub mod Accepted
 pub mod Digits
 pub mod Forms
 pub mod HeightsBack
+pub mod HeaderBack
