@@ -137,9 +137,9 @@ none-line {s} {i} h =
 
 -- ---- corners
 
--- the bytes w stand in the text where the span says
-abbrev pub Cuts : List ℕ → Span → List ℕ → Type 0
-Cuts s span w = slice (span .first) (span .first + span .length) s ≡ w
+-- the bytes of a text where a span says
+abbrev pub cut : List ℕ → Span → List ℕ
+cut s span = slice (span .first) (span .first + span .length) s
 
 cut-out : (s : List ℕ) (a : ℕ) (w rest : List ℕ) → a ≤ length s → drop a s ≡ w ++ rest → slice a (a + length w) s ≡ w
 cut-out s a w rest l e =
@@ -154,7 +154,7 @@ formed-some (malformed p) e = absurd (true≢false (sym e))
 record CornerRead (s : List ℕ) (i : ℕ) (n w rest : List ℕ) : Type 0 where
   span : Span
   reads : Reads (field n corner) s i span (10 ∷ rest)
-  cuts : Cuts s span w
+  cuts : cut s span ≡ w
 
 module _ {s : List ℕ} {i : ℕ} {n w rest : List ℕ} (name : Name n) (ok : NumberWord w) (h : Line s i n w rest) where
   abbrev from : ℕ
@@ -175,15 +175,15 @@ module _ {s : List ℕ} {i : ℕ} {n w rest : List ℕ} (name : Name n) (ok : Nu
 -- ---- the whole header
 
 -- what the header of a frame says
-abbrev pub headerOf : Frame → Header
-headerOf f = record { rows = f .rows; columns = f .columns; side = pos (f .side); noData = noDataHeight }
+abbrev pub frameHeader : Frame → Header
+frameHeader f = record { rows = f .rows; columns = f .columns; side = pos (f .side); noData = noDataHeight }
 
 -- the header is read, the bytes `rest` are left after its last LF, and the corner words are found again
 pub record HeadRead (f : Frame) (s rest : List ℕ) : Type 0 where
   pub spans : Corners
-  pub reads : Reads head s 0 (record { header = headerOf f; corners = spans }) (10 ∷ rest)
-  pub x : Cuts s (spans .x) (f .x)
-  pub y : Cuts s (spans .y) (f .y)
+  pub reads : Reads head s 0 (record { header = frameHeader f; corners = spans }) (10 ∷ rest)
+  pub x : cut s (spans .x) ≡ f .x
+  pub y : cut s (spans .y) ≡ f .y
 
 module _ (f : Frame) (ok : FrameAccepted f) (s rest : List ℕ) (text : s ≡ lines (headerWords f) ++ rest) where
   columns-back : Reads (field (bytes "ncols") count) s 0 (f .columns) (10 ∷ fromRows f rest)

@@ -2,5 +2,7 @@
 pub mod Accepted
 pub mod Digits
 pub mod Forms
+pub mod InnerRows
 pub mod HeightsBack
 pub mod HeaderBack
+pub mod ReadBack
