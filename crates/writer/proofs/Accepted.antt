@@ -1,6 +1,6 @@
 -- What is known of a frame and of heights that are not refused. Assumes nothing.
-use mathlib.Core.Path.{_≡_, subst}
-use mathlib.Core.Bool.{true, not}
+use mathlib.Core.Path.{_≡_, refl, sym, subst}
+use mathlib.Core.Bool.{true, true≢false}
 use mathlib.Core.List.{List, [], _∷_, _++_}
 use Prim.Native.Nat.{ℕ, _*_, _<_}
 use lib.IntN.{ℤ}
@@ -8,7 +8,7 @@ use lib.ListN.{length, getD}
 use Rattle.laws.specs.Tests.{Test, passed, verdict}
 use Rattle.laws.proofs.Verdicts.{test-passed, verdict-passed}
 use Rattle.text.specs.Quantities.{noDataHeight}
-use Rattle.text.specs.Numbers.{numberAt, isFormed}
+use Rattle.text.specs.Numbers.{Form, formed, malformed, Number, numberAt, isFormed}
 use Rattle.text.specs.Ranges.{sizeAccepted, sideAccepted, heightAccepted, heightTest}
 use Rattle.text.proofs.Accepted.{size-passed, length-passed, side-passed, height-passed}
 use Rattle.writer.specs.Text.{Frame, textOf}
@@ -17,6 +17,13 @@ use Rattle.writer.specs.Answers.{cornerTest, roomTest, frameTests, heigh
 -- a word of the right form
 abbrev pub NumberWord : List ℕ → Type 0
 NumberWord w = isFormed (numberAt w 0 (length w)) ≡ true
+
+pub word-formed : (w : List ℕ) → NumberWord w → (x : Number) × (numberAt w 0 (length w) ≡ formed x)
+word-formed w = go (numberAt w 0 (length w))
+  where
+    go : (t : Form Number) → isFormed t ≡ true → (x : Number) × (t ≡ formed x)
+    go (formed x) e = (x, refl)
+    go (malformed p) e = absurd (true≢false (sym e))
 
 -- shape, cell side and corner words are accepted
 pub record FrameAccepted (f : Frame) : Type 0 where

@@ -1,6 +1,6 @@
 -- The header that the writer writes is read back: shape, cell side and NoData number, and where the corner words stand. Assumes nothing.
-use mathlib.Core.Path.{_≡_, refl, sym, ap, _∙_}
-use mathlib.Core.Bool.{true, true≢false}
+use mathlib.Core.Path.{_≡_, refl, ap, _∙_}
+use mathlib.Core.Bool.{true}
 use mathlib.Core.List.{List, [], _∷_, _++_, append-assoc}
 use Prim.Native.Nat.{ℕ, _+_, _-_, _≤_, _<_}
 use native.Mathlib.Omega.{arith}
@@ -12,7 +12,7 @@ use Rattle.text.specs.Quantities.{noDataHeight}
 use Rattle.text.specs.Ranges.{sizeAccepted, sideAccepted}
 use Rattle.text.specs.Reader.{Reader, got}
 use Rattle.text.specs.Words.{blank, solid}
-use Rattle.text.specs.Numbers.{Form, formed, malformed, isFormed, Number, numberAt, count}
+use Rattle.text.specs.Numbers.{count}
 use Rattle.text.specs.Headers.{Header, named, corner, side, field, anyMeasure, noData, extent, corners, sideAndNoData, head, header}
 use Rattle.text.specs.declared.Span.{Span}
 use Rattle.text.specs.declared.Corners.{Corners}
@@ -22,7 +22,7 @@ use Rattle.text.proofs.Accepted.{size-is, side-is}
 use Rattle.numerals.specs.Words.{decimal, line}
 use Rattle.writer.specs.Words.{none, metres}
 use Rattle.writer.specs.Text.{Frame, headerWords, lines}
-use Rattle.writer.proofs.Accepted.{FrameAccepted, NumberWord}
+use Rattle.writer.proofs.Accepted.{NumberWord, word-formed, FrameAccepted}
 use Rattle.writer.proofs.Digits.{count-form}
 use Rattle.writer.proofs.Forms.{metres-form, none-form}
 
@@ -146,10 +146,6 @@ cut-out s a w rest l e =
     ap (drop a) (take-add a (length w) s ∙ ap (λ (u : List ℕ). take a s ++ take (length w) u) e ∙ ap (λ (u : List ℕ). take a s ++ u) (take-append-seam w rest))
     ∙ drop-at (take a s) w a (length-take-le a s l)
 
-formed-some : (t : Form Number) → isFormed t ≡ true → (x : Number) × (t ≡ formed x)
-formed-some (formed x) e = (x, refl)
-formed-some (malformed p) e = absurd (true≢false (sym e))
-
 -- a corner is read from a line, and its word is found again
 record CornerRead (s : List ℕ) (i : ℕ) (n w rest : List ℕ) : Type 0 where
   span : Span
@@ -163,7 +159,7 @@ module _ {s : List ℕ} {i : ℕ} {n w rest : List ℕ} (name : Name n) (ok : Nu
   corner-line : CornerRead s i n w rest
   unfolding corner
   corner-line =
-      let x = formed-some (numberAt w 0 (length w)) ok in
+      let x = word-formed w ok in
       let there = word-there h in
       let long : from + (from + length w - from) ≡ from + length w = omega arith in
       record {

@@ -19,11 +19,13 @@ row-flat columns c w [] rest e = rw (eq-eqb (c + 1) columns e, append-assoc)
 row-flat columns c w (v ∷ row) rest e = rw (ne-eqb (c + 1) columns (λ z. omega arith), append-assoc, row-flat columns (c + 1) v row rest (omega arith))
 
 -- the same of a row that is any list of so many words
-whole-row : (columns : ℕ) (row rest : List (List ℕ)) → 0 < columns → length row ≡ columns → line row ++ cellsFrom columns 0 rest ≡ cellsFrom columns 0 (row ++ rest)
+whole-row : (columns : ℕ) (row rest : List (List ℕ)) → 0 < columns → length row ≡ columns
+    → line row ++ cellsFrom columns 0 rest ≡ cellsFrom columns 0 (row ++ rest)
 whole-row columns [] rest h e = absurd (omega arith)
 whole-row columns (w ∷ row) rest h e = row-flat columns 0 w row rest (omega arith)
 
-pub rows-flat : (columns n : ℕ) (words : List (List ℕ)) → 0 < columns → length words ≡ n * columns → lines (rowWords columns n words) ≡ cellsFrom columns 0 words
+pub rows-flat : (columns n : ℕ) (words : List (List ℕ)) → 0 < columns → length words ≡ n * columns
+    → lines (rowWords columns n words) ≡ cellsFrom columns 0 words
 unfolding lines rowWords cellsFrom
 rows-flat columns zero [] h e = refl
 rows-flat columns zero (w ∷ words) h e = absurd (omega arith)
