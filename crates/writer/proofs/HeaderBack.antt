@@ -13,7 +13,7 @@ use Rattle.text.specs.Ranges.{sizeAccepted, sideAccepted}
 use Rattle.text.specs.Reader.{Reader, got}
 use Rattle.text.specs.Words.{blank, solid}
 use Rattle.text.specs.Numbers.{count}
-use Rattle.text.specs.Headers.{Header, named, corner, side, field, anyMeasure, noData, extent, corners, sideAndNoData, head, header}
+use Rattle.text.specs.Headers.{Header, named, corner, side, field, anyMeasure, noData, extent, corners, sideAndNoData, head}
 use Rattle.text.specs.declared.Span.{Span}
 use Rattle.text.specs.declared.Corners.{Corners}
 use Rattle.text.proofs.Every.{every}
@@ -40,7 +40,7 @@ pub record Reads {A : Type 0} (r : Reader A) (s : List ℕ) (i : ℕ) (a : A) (r
 abbrev fieldLine : List ℕ → List ℕ → List ℕ → List ℕ
 fieldLine n w rest = n ++ (32 ∷ (w ++ (10 ∷ rest)))
 
--- what stands after the lines of the two counts, and of the first and of the second corner
+-- the header's lines from that of the cell side, of each corner, and of the rows on, and the rest of the text
 abbrev fromSide : Frame → List ℕ → List ℕ
 fromSide f rest = fieldLine (bytes "cellsize") (metres (pos (f .side))) (fieldLine (bytes "nodata_value") none rest)
 

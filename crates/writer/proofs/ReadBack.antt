@@ -1,10 +1,10 @@
--- RULES 10.3: a text of heights that is written is read back as the same frame and the same heights. Assumes nothing.
+-- RULES 10: heights that are written and read again are the same, and height grids that differ never have the same text. Assumes nothing.
 use mathlib.Core.Path.{_≡_, refl, sym, ap, ap₂, _∙_}
 use mathlib.Core.List.{List, _++_, map}
 use Prim.Native.Nat.{ℕ, _*_}
 use lib.IntN.{ℤ, natAbs}
 use lib.ListN.{length, length-map}
-use Rattle.text.specs.Headers.{head, header}
+use Rattle.text.specs.Headers.{header}
 use Rattle.text.specs.Heights.{grid}
 use Rattle.text.specs.Answers.{Outcome, GridOutcome, accepted, headerAnswer, cornersAnswer, gridAnswer}
 use Rattle.text.proofs.Accepted.{size-is}
@@ -25,7 +25,7 @@ written f hs = textOf f (heightCells f hs .words)
 abbrev cellsOf : Frame → List ℤ → List ℕ
 cellsOf f hs = cellsFrom (f .columns) 0 (map heightWord hs)
 
--- The frame and the heights are ones that the call accepts (Accepted: heights-accepted).
+-- The frame and the heights are ones that the call does not refuse: heights-accepted of Accepted.antt.
 module _ (f : Frame) (hs : List ℤ) (ok : HeightsAccepted f hs) where
   text-is : written f hs ≡ lines (headerWords f) ++ cellsOf f hs
   unfolding textOf heightCells
@@ -58,7 +58,7 @@ frame-equal : (f g : Frame) → f .rows ≡ g .rows → f .columns ≡ g .column
 frame-equal f g r c s x y =
     let e : frame (f .rows) (f .columns) (f .side) (f .x) (f .y) ≡ frame (g .rows) (g .columns) (g .side) (g .x) (g .y) = cc in e
 
--- No two frames and heights that the call accepts have the same text: nothing of what is written is lost.
+-- Two height grids that differ in shape, side, corner words or heights never have the same text.
 pub never-same : (f g : Frame) (hs ks : List ℤ) → HeightsAccepted f hs → HeightsAccepted g ks → written f hs ≡ written g ks → (f ≡ g) × (hs ≡ ks)
 never-same f g hs ks p q e =
     let head : accepted (frameHeader f) ≡ accepted (frameHeader g) = sym (read-back-header f hs p) ∙ ap headerAnswer e ∙ read-back-header g ks q in
