@@ -3,7 +3,9 @@ use Prim.Native.Nat.{_-_}
 use native.Mathlib.Omega.{arith}
 use lib.IntN.{pos}
 use lib.ListN.{length}
+use borrow.Author.Needs.{sfits-of}
 use Rattle.writer.specs.Words.{heightWord}
+use Rattle.writer.proofs.InnerWords.{height-read}
 use Rattle.writer.proofs.InnerCells.{Counted, counted-none, counted-more, counted-all}
 use Rattle.writer.proofs.cells.heights_length.Statement.{statement}
 use Rattle.writer.proofs.cells.heights_length.Tie as tie
@@ -42,7 +44,11 @@ loop-less : tie.Need-loop-less Inv-loop μ-loop
 loop-less c = omega arith
 
 loop-again : tie.Need-loop-again Inv-loop μ-loop
-loop-again c = ?
+loop-again c =
+    let p = c .before .before .before in
+    let heights = p .before .args .heights .now in
+    let e = c .height-length .ensures .0 ∙ ap length (height-read (sfits-of (c .before .height-length-arg .given))) in
+    counted-more heightWord (pos 0) heights (p .loop .x) (p .loop .total) (p .loop .inv) (omega arith) (c .height-length .result) e (omega (arith, c .height-length .ensures .1))
 
 returns : tie.Need-returns Inv-loop μ-loop
 returns c = ?

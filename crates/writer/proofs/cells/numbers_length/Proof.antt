@@ -17,22 +17,24 @@ abbrev μ-loop : tie.MeasureT-loop
 μ-loop kind numbers total₀ x₀ total x = length numbers - x
 
 loop-holds : tie.Need-loop-holds Inv-loop μ-loop
-loop-holds c = ?
+loop-holds c = counted-none (wordOf (c .before .args .kind)) 0 _
 
 mul-number-length : tie.Need-mul-number-length Inv-loop μ-loop
-mul-number-length c = ?
+mul-number-length c = omega (arith, c .before .before .before .pre)
 
 shared-slice-read-number-length : tie.Need-shared-slice-read-number-length Inv-loop μ-loop
-shared-slice-read-number-length c = ?
+shared-slice-read-number-length c = omega arith
 
 number-length-requires : tie.Need-number-length-requires Inv-loop μ-loop
-number-length-requires c κs = ?
+number-length-requires c κs = tt
 
 add-total : tie.Need-add-total Inv-loop μ-loop
-add-total c = ?
+add-total c = omega (arith, c .number-length .ensures .1)
 
 add-total-2 : tie.Need-add-total-2 Inv-loop μ-loop
-add-total-2 c = ?
+add-total-2 c =
+    let p = c .before .before .before in
+    omega (arith, c .number-length .ensures .1, p .loop .inv .few, p .loop .inv .within, p .before .before .pre)
 
 add-x : tie.Need-add-x Inv-loop μ-loop
 add-x c = omega arith
@@ -41,10 +43,18 @@ loop-less : tie.Need-loop-less Inv-loop μ-loop
 loop-less c = omega arith
 
 loop-again : tie.Need-loop-again Inv-loop μ-loop
-loop-again c = ?
+loop-again c =
+    let p = c .before .before .before in
+    let s = p .before .before in
+    counted-more (wordOf (s .args .kind)) 0 (s .args .numbers .now) (p .loop .x) (p .loop .total) (p .loop .inv) (omega arith)
+    (c .number-length .result) (c .number-length .ensures .0) (c .number-length .ensures .1)
 
 returns : tie.Need-returns Inv-loop μ-loop
-returns c = ?
+returns c =
+    let p = c .before in
+    let v = p .loop .inv in
+    let s = p .before .before in
+    (counted-all (wordOf (s .args .kind)) 0 (s .args .numbers .now) (p .loop .x) (p .loop .total) v (omega arith), omega (arith, v .few, v .within))
 
 pub numbers-length-spec : {M : Type 1} → statement M
 numbers-length-spec =
