@@ -57,8 +57,8 @@ above (pos n) h = refl
 above (negsuc n) h = absurd (true≢false h)
 
 -- a height of 32 bits as it is read from a slice
-pub height-read : {z : ℤ} → SFits w32 z → heightWord (toZ w32 (ofZ w32 z)) ≡ heightWord z
-height-read f = ap heightWord (toZ-ofZ f)
+pub height-read : (z : ℤ) → SFits w32 z → heightWord (toZ w32 (ofZ w32 z)) ≡ heightWord z
+height-read z f = ap heightWord (toZ-ofZ f)
 
 -- what the code finds of a height of 32 bits: it is NoData,
 module _ (z : ℤ) (f : SFits w32 z) where

@@ -6,3 +6,8 @@ pub mod InnerRows
 pub mod HeightsBack
 pub mod HeaderBack
 pub mod ReadBack
+-- Laws that serve the code
+pub mod InnerWords
+pub mod InnerCells
+pub mod InnerHeader
+pub mod InnerJudging

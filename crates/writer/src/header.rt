@@ -1,4 +1,4 @@
-// The six lines of the header: how many bytes they have, and their bytes in the room, which has place for them. RULES 10.3.
+// The six lines of the header: how many bytes they have, and their bytes in the room. RULES 10.3.
 ghost use mathlib.Core.List.{[], _∷_};
 ghost use mathlib.Core.Path.{_≡_};
 ghost use Prim.Native.Nat.{_+_, _≤_};
@@ -26,8 +26,8 @@ pub(crate) fn length(
 
 // A name and a word on a line.
 fn put_field(out: &mut [u8], at: usize, name: &[u8], word: &[u8]) -> usize
-    requires { ⌜ at + length (line (now name ∷ now word ∷ [])) ≤ length (now out) ⌝ }
-    ensures { λ r. ⌜ Wrote (now (out .entry)) at (line (now (name .entry) ∷ now (word .entry) ∷ [])) r (now (out .exit)) ⌝ }
+    requires { ⌜ (at ≤ 200) × (length (now name) ≤ 12) × (length (now word) ≤ 17) ⌝ }
+    ensures { λ r. ⌜ Wrote (now (out .entry)) at (line (now (name .entry) ∷ now (word .entry) ∷ [])) r (now (out .exit)) × (r ≤ at + 31) ⌝ }
 {
     let a = at + numerals::put_all(out, at, name);
     numerals::put(out, a, b' ');
@@ -38,8 +38,8 @@ fn put_field(out: &mut [u8], at: usize, name: &[u8], word: &[u8]) -> usize
 
 // A name and a number on a line.
 fn put_count_field(out: &mut [u8], at: usize, name: &[u8], n: usize) -> usize
-    requires { ⌜ at + length (line (now name ∷ decimal n ∷ [])) ≤ length (now out) ⌝ }
-    ensures { λ r. ⌜ Wrote (now (out .entry)) at (line (now (name .entry) ∷ decimal n ∷ [])) r (now (out .exit)) ⌝ }
+    requires { ⌜ (at ≤ 200) × (length (now name) ≤ 12) ⌝ }
+    ensures { λ r. ⌜ Wrote (now (out .entry)) at (line (now (name .entry) ∷ decimal n ∷ [])) r (now (out .exit)) × (r ≤ at + 34) ⌝ }
 {
     let a = at + numerals::put_all(out, at, name);
     numerals::put(out, a, b' ');
@@ -50,8 +50,8 @@ fn put_count_field(out: &mut [u8], at: usize, name: &[u8], n: usize) -> usize
 
 // A name and a number of hundredths on a line.
 fn put_side_field(out: &mut [u8], at: usize, name: &[u8], n: u32) -> usize
-    requires { ⌜ at + length (line (now name ∷ fixed 2 n ∷ [])) ≤ length (now out) ⌝ }
-    ensures { λ r. ⌜ Wrote (now (out .entry)) at (line (now (name .entry) ∷ fixed 2 n ∷ [])) r (now (out .exit)) ⌝ }
+    requires { ⌜ (at ≤ 200) × (length (now name) ≤ 12) ⌝ }
+    ensures { λ r. ⌜ Wrote (now (out .entry)) at (line (now (name .entry) ∷ fixed 2 n ∷ [])) r (now (out .exit)) × (r ≤ at + 37) ⌝ }
 {
     let a = at + numerals::put_all(out, at, name);
     numerals::put(out, a, b' ');
@@ -69,7 +69,7 @@ pub(crate) fn put(
     x: &[u8],
     y: &[u8],
 ) -> usize
-    requires { ⌜ length (lines (headerWords (frame rows columns side (now x) (now y)))) ≤ length (now out) ⌝ }
+    requires { ⌜ (length (now x) ≤ 17) × (length (now y) ≤ 17) ⌝ }
     ensures { λ r. ⌜ Wrote (now (out .entry)) 0 (lines (headerWords (frame rows columns side (now (x .entry)) (now (y .entry))))) r (now (out .exit)) ⌝ }
 {
     let a = put_count_field(out, 0, b"ncols", columns);

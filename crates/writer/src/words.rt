@@ -1,10 +1,10 @@
-// The word of a cell: its length, and its bytes in the room, which has place for them. RULES 10.2.
+// The word of a cell: its length, and its bytes in the room. RULES 10.2.
 ghost use mathlib.Core.Path.{_≡_};
-ghost use Prim.Native.Nat.{_+_, _≤_};
+ghost use Prim.Native.Nat.{_+_, _^_, _≤_};
 ghost use lib.ListN.{length};
 ghost use Rattle.numerals.specs.Words.{fixed};
 ghost use Rattle.numerals.specs.Writing.{Wrote};
-ghost use Rattle.writer.specs.Words.{none, metres, heightWord};
+ghost use Rattle.writer.specs.Words.{heightWord};
 ghost use Rattle.writer.specs.InnerCells.{wordOf};
 use factor::TOO_LONG;
 use text::NO_DATA;
@@ -24,7 +24,7 @@ pub(crate) fn hundredths_length(n: u64) -> usize
 
 // `n` hundredths.
 pub(crate) fn put_hundredths(out: &mut [u8], at: usize, n: u64) -> usize
-    requires { ⌜ at + length (fixed 2 n) ≤ length (now out) ⌝ }
+    requires { ⌜ at ≤ 2 ^ 63 ⌝ }
     ensures { λ r. ⌜ Wrote (now (out .entry)) at (fixed 2 n) r (now (out .exit)) ⌝ }
 {
     let point = at + numerals::put_natural(out, at, n / 100);
@@ -34,7 +34,7 @@ pub(crate) fn put_hundredths(out: &mut [u8], at: usize, n: u64) -> usize
 
 // `n` hundred-thousandths.
 fn put_hundred_thousandths(out: &mut [u8], at: usize, n: u64) -> usize
-    requires { ⌜ at + length (fixed 5 n) ≤ length (now out) ⌝ }
+    requires { ⌜ at ≤ 2 ^ 63 ⌝ }
     ensures { λ r. ⌜ Wrote (now (out .entry)) at (fixed 5 n) r (now (out .exit)) ⌝ }
 {
     let point = at + numerals::put_natural(out, at, n / 100000);

@@ -2,7 +2,7 @@
 use Prim.Native.Nat.{_-_}
 use native.Mathlib.Omega.{arith}
 use lib.IntN.{pos}
-use lib.ListN.{length}
+use lib.ListN.{length, getD}
 use borrow.Author.Needs.{sfits-of}
 use Rattle.writer.specs.Words.{heightWord}
 use Rattle.writer.proofs.InnerWords.{height-read}
@@ -47,7 +47,7 @@ loop-again : tie.Need-loop-again Inv-loop μ-loop
 loop-again c =
     let p = c .before .before .before in
     let heights = p .before .args .heights .now in
-    let e = c .height-length .ensures .0 ∙ ap length (height-read (sfits-of (c .before .height-length-arg .given))) in
+    let e = c .height-length .ensures .0 ∙ ap length (height-read (getD heights (p .loop .x) (pos 0)) (sfits-of (c .before .height-length-arg .given))) in
     counted-more heightWord (pos 0) heights (p .loop .x) (p .loop .total) (p .loop .inv) (omega arith) (c .height-length .result) e (omega (arith, c .height-length .ensures .1))
 
 returns : tie.Need-returns Inv-loop μ-loop

@@ -5,7 +5,7 @@ use borrow.Author.Needs.{needs, sfits-of}
 use Rattle.numerals.proofs.Writing.{wrote-as}
 use native.Mathlib.Omega.{arith}
 use lib.IntN.{pos}
-use lib.ListN.{length}
+use lib.ListN.{length, getD}
 use Rattle.writer.specs.Words.{heightWord}
 use Rattle.writer.proofs.InnerWords.{height-read}
 use Rattle.writer.proofs.InnerCells.{Along, along-none, along-fits, along-more, along-all}
@@ -38,7 +38,7 @@ put-height-requires c κs =
     let l = c .before .before .before in
     let p = l .loop in
     let s = l .before .before in
-    let e = ap length (height-read (sfits-of (c .put-height-arg2 .given))) in
+    let e = ap length (height-read (getD (s .args .heights .now) (p .x) (pos 0)) (sfits-of (c .put-height-arg2 .given))) in
     omega (arith, along-fits heightWord (pos 0) (s .args .heights .now) (s .args .columns) (s .args .out .now) (s .args .at) (p .next) (p .column) (p .x) (p .inv) (omega arith) (s .pre .1), e)
 
 gap-requires : tie.Need-gap-requires Inv-loop μ-loop
@@ -52,7 +52,7 @@ add-next c =
     let l = c .before .before .before .before .before .before .before .before .before .before .before in
     let p = l .loop in
     let s = l .before .before in
-    let e = ap length (height-read (sfits-of (c .before .before .before .before .before .before .before .before .put-height-arg2 .given))) in
+    let e = ap length (height-read (getD (s .args .heights .now) (p .x) (pos 0)) (sfits-of (c .before .before .before .before .before .before .before .before .put-height-arg2 .given))) in
     omega (arith, c .before .before .before .before .before .before .before .put-height .ensures .ends, along-fits heightWord (pos 0) (s .args .heights .now) (s .args .columns) (s .args .out .now) (s .args .at) (p .next) (p .column) (p .x) (p .inv) (omega arith) (s .pre .1), p .inv .left .long, e)
 
 column-after-requires : tie.Need-column-after-requires Inv-loop μ-loop
@@ -71,7 +71,7 @@ loop-again c =
     let p = l .loop in
     let s = l .before .before in
     along-more heightWord (pos 0) (s .args .heights .now) (s .args .columns) (s .args .out .now) (s .args .at) (p .next) (p .column) (p .x) (p .inv) (omega arith)
-    (wrote-as (height-read (sfits-of (m .before .put-height-arg2 .given))) (m .put-height .ensures)) (c .before .before .before .put .ensures) (c .before .before .before .before .gap .ensures) (c .column-after .ensures .0) (c .column-after .ensures .1)
+    (wrote-as (height-read (getD (s .args .heights .now) (p .x) (pos 0)) (sfits-of (m .before .put-height-arg2 .given))) (m .put-height .ensures)) (c .before .before .before .put .ensures) (c .before .before .before .before .gap .ensures) (c .column-after .ensures .0) (c .column-after .ensures .1)
 
 same-length : tie.Need-same-length Inv-loop μ-loop
 same-length c = c .before .loop .inv .left .long

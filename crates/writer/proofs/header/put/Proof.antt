@@ -1,3 +1,9 @@
+-- `writer::header::put` meets its contract. Assumes nothing.
+use denote.Ref.{now}
+use Rattle.text.specs.Bytes.{bytes}
+use Rattle.writer.specs.Words.{none}
+use Rattle.writer.specs.Text.{frame}
+use Rattle.writer.proofs.InnerHeader.{wrote-header}
 use borrow.Author.Needs.{needs}
 use Rattle.writer.proofs.header.put.Statement.{statement}
 use Rattle.writer.proofs.header.put.Tie as tie
@@ -7,65 +13,60 @@ use Rattle.writer.proofs.header.put_count_field.Reads as put-count-fiel
 use Rattle.writer.proofs.header.put_field.Reads as put-field-reads
 use Rattle.writer.proofs.header.put_side_field.Reads as put-side-field-reads
 
--- src/header.rt:75:37
 slice-aggregate-put-count-field : tie.Need-slice-aggregate-put-count-field
 slice-aggregate-put-count-field c = search needs
 
--- src/header.rt:75:9
 put-count-field-requires : tie.Need-put-count-field-requires
-put-count-field-requires c κs = ?
+put-count-field-requires c κs = search needs
 
--- src/header.rt:76:37
 slice-aggregate-put-count-field-2 : tie.Need-slice-aggregate-put-count-field-2
 slice-aggregate-put-count-field-2 c = search needs
 
--- src/header.rt:76:9
 put-count-field-requires-2 : tie.Need-put-count-field-requires-2
-put-count-field-requires-2 c κs = ?
+put-count-field-requires-2 c κs = search needs
 
--- src/header.rt:77:31
 slice-aggregate-put-field : tie.Need-slice-aggregate-put-field
 slice-aggregate-put-field c = search needs
 
--- src/header.rt:77:9
 put-field-requires : tie.Need-put-field-requires
-put-field-requires c κs = ?
+put-field-requires c κs = search needs
 
--- src/header.rt:78:31
 slice-aggregate-put-field-2 : tie.Need-slice-aggregate-put-field-2
 slice-aggregate-put-field-2 c = search needs
 
--- src/header.rt:78:9
 put-field-requires-2 : tie.Need-put-field-requires-2
-put-field-requires-2 c κs = ?
+put-field-requires-2 c κs = search needs
 
--- src/header.rt:79:36
 slice-aggregate-put-side-field : tie.Need-slice-aggregate-put-side-field
 slice-aggregate-put-side-field c = search needs
 
--- src/header.rt:79:9
 put-side-field-requires : tie.Need-put-side-field-requires
-put-side-field-requires c κs = ?
+put-side-field-requires c κs = search needs
 
--- src/header.rt:80:23
 slice-aggregate-put-field-3 : tie.Need-slice-aggregate-put-field-3
 slice-aggregate-put-field-3 c = search needs
 
--- src/header.rt:80:40
 slice-aggregate-put-field-4 : tie.Need-slice-aggregate-put-field-4
 slice-aggregate-put-field-4 c = search needs
 
--- src/header.rt:80:5
 put-field-requires-3 : tie.Need-put-field-requires-3
-put-field-requires-3 c κs = ?
+put-field-requires-3 c κs = search needs
 
--- src/header.rt:64:1
 same-length : tie.Need-same-length
 same-length c = search needs
 
--- src/header.rt:64:1
 returns : tie.Need-returns
-returns c = ?
+unfolding bytes none
+returns c =
+    let no-data = c .before .before in
+    let side = no-data .before .before .before .before .before .before in
+    let y = side .before .before .before .before .before in
+    let x = y .before .before .before .before .before in
+    let rows = x .before .before .before .before .before in
+    let columns = rows .before .before .before .before .before in
+    let a = columns .before .before .before .before .before .before .args in
+    wrote-header (frame (a .rows) (a .columns) (a .side) (now (a .x)) (now (a .y))) (columns .put-count-field .ensures .0) (rows .put-count-field2 .ensures .0)
+    (x .put-field .ensures .0) (y .put-field2 .ensures .0) (side .put-side-field .ensures .0) (no-data .put-field3 .ensures .0)
 
 pub put-spec : {M : Type 1} → statement M
 put-spec =

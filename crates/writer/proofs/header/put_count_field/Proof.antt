@@ -1,3 +1,9 @@
+-- `writer::header::put_count_field` meets its contract. Assumes nothing.
+use native.Mathlib.Omega.{arith}
+use denote.Ref.{now}
+use Rattle.numerals.specs.Words.{decimal}
+use Rattle.numerals.proofs.Writing.{wrote-laid}
+use Rattle.writer.proofs.InnerHeader.{wrote-field}
 use borrow.Author.Needs.{needs}
 use Rattle.writer.proofs.header.put_count_field.Statement.{statement}
 use Rattle.writer.proofs.header.put_count_field.Tie as tie
@@ -7,49 +13,45 @@ use Rattle.numerals.proofs.put.Reads as put-reads
 use Rattle.numerals.proofs.put_all.Reads as put-all-reads
 use Rattle.numerals.proofs.put_natural.Reads as put-natural-reads
 
--- src/header.rt:44:18
 put-all-requires : tie.Need-put-all-requires
 put-all-requires c κs = search needs
 
--- src/header.rt:44:13
 add-a : tie.Need-add-a
 add-a c = search needs
 
--- src/header.rt:45:5
 put-requires : tie.Need-put-requires
 put-requires c κs = search needs
 
--- src/header.rt:46:13
 add-b : tie.Need-add-b
 add-b c = search needs
 
--- src/header.rt:46:48
 add-put-natural : tie.Need-add-put-natural
 add-put-natural c = search needs
 
--- src/header.rt:46:21
 put-natural-requires : tie.Need-put-natural-requires
 put-natural-requires c κs = search needs
 
--- src/header.rt:46:13
 add-b-2 : tie.Need-add-b-2
-add-b-2 c = ?
+add-b-2 c = search needs
 
--- src/header.rt:47:5
 put-requires-2 : tie.Need-put-requires-2
 put-requires-2 c κs = search needs
 
--- src/header.rt:48:5
 add-result : tie.Need-add-result
-add-result c = ?
+add-result c = search needs
 
--- src/header.rt:40:1
 same-length : tie.Need-same-length
 same-length c = search needs
 
--- src/header.rt:40:1
 returns : tie.Need-returns
-returns c = ?
+returns c =
+    let w = c .before .before .before .before .before .before .put-natural .ensures in
+    let n = c .before .before .before .before .before .before .before .before .before .before .before .before .before .before .put-all .ensures in
+    let s = c .before .before .before .before .before .before .before .before .before .before .before .before .before .before .before .before .before .before in
+    (
+      wrote-field (now (s .args .name)) (decimal (s .args .n)) (s .args .at) (n .0) (n .1) (c .before .before .before .before .before .before .before .before .before .before .put .ensures) (wrote-laid _ _ (w .0 .0) (w .0 .1)) (c .before .before .put2 .ensures),
+      omega (arith, n .1, w .1, s .pre .1),
+    )
 
 pub put-count-field-spec : {M : Type 1} → statement M
 put-count-field-spec =

@@ -1,3 +1,8 @@
+-- `writer::header::put_field` meets its contract. Assumes nothing.
+use native.Mathlib.Omega.{arith}
+use denote.Ref.{now}
+use Rattle.numerals.proofs.Writing.{wrote-laid}
+use Rattle.writer.proofs.InnerHeader.{wrote-field}
 use borrow.Author.Needs.{needs}
 use Rattle.writer.proofs.header.put_field.Statement.{statement}
 use Rattle.writer.proofs.header.put_field.Tie as tie
@@ -6,49 +11,45 @@ use Rattle.writer.proofs.header.put_field.Lts as lts
 use Rattle.numerals.proofs.put.Reads as put-reads
 use Rattle.numerals.proofs.put_all.Reads as put-all-reads
 
--- src/header.rt:32:18
 put-all-requires : tie.Need-put-all-requires
 put-all-requires c κs = search needs
 
--- src/header.rt:32:13
 add-a : tie.Need-add-a
 add-a c = search needs
 
--- src/header.rt:33:5
 put-requires : tie.Need-put-requires
 put-requires c κs = search needs
 
--- src/header.rt:34:13
 add-b : tie.Need-add-b
 add-b c = search needs
 
--- src/header.rt:34:44
 add-put-all : tie.Need-add-put-all
 add-put-all c = search needs
 
--- src/header.rt:34:21
 put-all-requires-2 : tie.Need-put-all-requires-2
 put-all-requires-2 c κs = search needs
 
--- src/header.rt:34:13
 add-b-2 : tie.Need-add-b-2
-add-b-2 c = ?
+add-b-2 c = search needs
 
--- src/header.rt:35:5
 put-requires-2 : tie.Need-put-requires-2
 put-requires-2 c κs = search needs
 
--- src/header.rt:36:5
 add-result : tie.Need-add-result
-add-result c = ?
+add-result c = search needs
 
--- src/header.rt:28:1
 same-length : tie.Need-same-length
 same-length c = search needs
 
--- src/header.rt:28:1
 returns : tie.Need-returns
-returns c = ?
+returns c =
+    let w = c .before .before .before .before .before .before .put-all2 .ensures in
+    let n = c .before .before .before .before .before .before .before .before .before .before .before .before .before .before .put-all .ensures in
+    let s = c .before .before .before .before .before .before .before .before .before .before .before .before .before .before .before .before .before .before .before in
+    (
+      wrote-field (now (s .args .name)) (now (s .args .word)) (s .args .at) (n .0) (n .1) (c .before .before .before .before .before .before .before .before .before .before .put .ensures) (wrote-laid _ _ (w .0) (w .1)) (c .before .before .put2 .ensures),
+      omega (arith, n .1, w .1, s .pre .1, s .pre .2),
+    )
 
 pub put-field-spec : {M : Type 1} → statement M
 put-field-spec =

@@ -1,3 +1,10 @@
+-- `writer::header::put_side_field` meets its contract. Assumes nothing.
+use Prim.Native.Nat.{_/_}
+use native.Mathlib.Omega.{arith}
+use denote.Ref.{now}
+use Rattle.numerals.specs.Words.{fixed}
+use Rattle.numerals.proofs.Decimal.{fixed-length, decimal-short}
+use Rattle.writer.proofs.InnerHeader.{wrote-field}
 use borrow.Author.Needs.{needs}
 use Rattle.writer.proofs.header.put_side_field.Statement.{statement}
 use Rattle.writer.proofs.header.put_side_field.Tie as tie
@@ -7,41 +14,43 @@ use Rattle.numerals.proofs.put.Reads as put-reads
 use Rattle.numerals.proofs.put_all.Reads as put-all-reads
 use Rattle.writer.proofs.words.put_hundredths.Reads as put-hundredths-reads
 
--- src/header.rt:56:18
 put-all-requires : tie.Need-put-all-requires
 put-all-requires c κs = search needs
 
--- src/header.rt:56:13
 add-a : tie.Need-add-a
 add-a c = search needs
 
--- src/header.rt:57:5
 put-requires : tie.Need-put-requires
 put-requires c κs = search needs
 
--- src/header.rt:58:40
 add-put-hundredths : tie.Need-add-put-hundredths
 add-put-hundredths c = search needs
 
--- src/header.rt:58:9
 put-hundredths-requires : tie.Need-put-hundredths-requires
-put-hundredths-requires c κs = ?
+put-hundredths-requires c κs = search needs
 
--- src/header.rt:59:5
 put-requires-2 : tie.Need-put-requires-2
 put-requires-2 c κs = search needs
 
--- src/header.rt:60:5
 add-result : tie.Need-add-result
-add-result c = ?
+add-result c =
+    let w = c .before .before .before .before .before .before .put-hundredths .ensures in
+    let n = c .before .before .before .before .before .before .before .before .before .before .before .before .before .before .put-all .ensures in
+    let s = c .before .before .before .before .before .before .before .before .before .before .before .before .before .before .before .before .before .before in
+    omega (arith, n .1, w .ends, fixed-length 2 (s .args .n), decimal-short 19 (s .args .n / 100) (omega (arith, s .fits .n)), s .pre .1)
 
--- src/header.rt:52:1
 same-length : tie.Need-same-length
 same-length c = search needs
 
--- src/header.rt:52:1
 returns : tie.Need-returns
-returns c = ?
+returns c =
+    let w = c .before .before .before .before .before .before .put-hundredths .ensures in
+    let n = c .before .before .before .before .before .before .before .before .before .before .before .before .before .before .put-all .ensures in
+    let s = c .before .before .before .before .before .before .before .before .before .before .before .before .before .before .before .before .before .before in
+    (
+      wrote-field (now (s .args .name)) (fixed 2 (s .args .n)) (s .args .at) (n .0) (n .1) (c .before .before .before .before .before .before .before .before .before .before .put .ensures) w (c .before .before .put2 .ensures),
+      omega (arith, n .1, w .ends, fixed-length 2 (s .args .n), decimal-short 19 (s .args .n / 100) (omega (arith, s .fits .n)), s .pre .1),
+    )
 
 pub put-side-field-spec : {M : Type 1} → statement M
 put-side-field-spec =

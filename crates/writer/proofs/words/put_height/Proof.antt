@@ -1,9 +1,6 @@
 -- `writer::words::put_height` meets its contract. Assumes nothing.
-use mathlib.Core.Path.{sym, ap, _∙_}
+use mathlib.Core.Path.{sym}
 use mathlib.Core.List.{[], _∷_}
-use native.Mathlib.Omega.{arith}
-use lib.ListN.{length, length-set}
-use denote.Ref.{now}
 use Rattle.text.specs.Bytes.{bytes}
 use Rattle.numerals.proofs.Writing.{wrote-laid, wrote-as, wrote-byte, wrote-then}
 use Rattle.writer.specs.Words.{none}
@@ -48,12 +45,7 @@ size-requires : tie.Need-size-requires
 size-requires c κs = search needs
 
 put-hundredths-requires : tie.Need-put-hundredths-requires
-put-hundredths-requires c κs =
-    let t = c .before .before .before .before .before .before in
-    let s = t .before .before .before in
-    let w = height-below (s .args .height) (s .fits .height) (t .before .if1 .left) (c .size .ensures .0) (t .if2 .taken) in
-    let l = ap length (c .before .before .before .before .put .ensures) ∙ length-set (now (s .args .out)) (s .args .at) 45 in
-    omega (arith, ap length w, l, s .pre)
+put-hundredths-requires c κs = search needs
 
 same-length-2 : tie.Need-same-length-2
 same-length-2 c = search needs
@@ -70,11 +62,7 @@ size-requires-2 : tie.Need-size-requires-2
 size-requires-2 c κs = search needs
 
 put-hundredths-requires-2 : tie.Need-put-hundredths-requires-2
-put-hundredths-requires-2 c κs =
-    let t = c .before .before in
-    let s = t .before .before .before in
-    let w = height-above (s .args .height) (s .fits .height) (t .before .if1 .left) (c .size2 .ensures .0) (t .if2 .left) in
-    omega (arith, ap length w, s .pre)
+put-hundredths-requires-2 c κs = search needs
 
 same-length-3 : tie.Need-same-length-3
 same-length-3 c = search needs

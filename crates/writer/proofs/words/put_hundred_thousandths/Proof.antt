@@ -1,6 +1,6 @@
 -- `writer::words::put_hundred_thousandths` meets its contract. Assumes nothing.
 use native.Mathlib.Omega.{arith}
-use Rattle.numerals.proofs.Decimal.{fixed-length, padded-length}
+use Rattle.numerals.proofs.Decimal.{padded-length}
 use Rattle.writer.proofs.InnerWords.{wrote-fixed}
 use borrow.Author.Needs.{needs}
 use Rattle.writer.proofs.words.put_hundred_thousandths.Statement.{statement}
@@ -30,10 +30,7 @@ put-padded-requires : tie.Need-put-padded-requires
 put-padded-requires c κs = search needs
 
 add-result-2 : tie.Need-add-result-2
-add-result-2 c =
-    let s = c .before .before .before .before .before .before .before .before .before .before in
-    let a = s .before .before .before .args in
-    omega (arith, fixed-length 5 (a .n), s .put-natural .ensures .0 .1, c .before .before .put-padded .ensures .1, padded-length 5 (a .n))
+add-result-2 c = omega (arith, c .before .before .put-padded .ensures .1, padded-length 5 (c .before .before .before .before .before .before .before .before .before .before .before .before .before .args .n))
 
 same-length : tie.Need-same-length
 same-length c = search needs

@@ -1,7 +1,6 @@
 -- `writer::words::put_number` meets its contract. Assumes nothing.
-use mathlib.Core.Path.{sym, ap}
+use mathlib.Core.Path.{sym}
 use native.Mathlib.Omega.{arith}
-use lib.ListN.{length}
 use Rattle.numerals.proofs.Writing.{wrote-laid, wrote-as}
 use Rattle.text.specs.Bytes.{bytes}
 use Rattle.writer.specs.Words.{none}
@@ -69,10 +68,7 @@ returns-2 c =
     wrote-as (sym long) (wrote-laid (s .args .at) _ (put .0) (put .1))
 
 put-hundred-thousandths-requires : tie.Need-put-hundred-thousandths-requires
-put-hundred-thousandths-requires c κs =
-    let t = c .before in
-    let s = t .before .before .before .before in
-    omega (arith, ap length (factor-some (s .args .n) (t .before .enum-told2 .given .1) (omega (arith, t .if2 .left))), s .pre)
+put-hundred-thousandths-requires c κs = search needs
 
 same-length-3 : tie.Need-same-length-3
 same-length-3 c = search needs
