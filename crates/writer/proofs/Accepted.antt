@@ -1,15 +1,18 @@
 -- What is known of a frame and of heights that are not refused. Assumes nothing.
-use mathlib.Core.Path.{_≡_, refl, sym, subst}
+use mathlib.Core.Path.{_≡_, refl, sym, _∙_, subst}
 use mathlib.Core.Bool.{true, true≢false}
 use mathlib.Core.List.{List, [], _∷_, _++_}
-use Prim.Native.Nat.{ℕ, _*_, _<_}
+use Prim.Native.Nat.{ℕ, _+_, _*_, _≤_, _<_}
+use native.Mathlib.Omega.{arith}
 use lib.IntN.{ℤ}
 use lib.ListN.{length, getD}
 use Rattle.laws.specs.Tests.{Test, passed, verdict}
-use Rattle.laws.proofs.Verdicts.{test-passed, verdict-passed}
+use Rattle.laws.proofs.Verdicts.{test-passed, verdict-none, verdict-next, verdict-passed}
 use Rattle.text.specs.Quantities.{noDataHeight}
 use Rattle.text.specs.Numbers.{Form, formed, malformed, Number, numberAt, isFormed}
 use Rattle.text.specs.Ranges.{sizeAccepted, sideAccepted, heightAccepted, heightTest}
+use Rattle.text.specs.Right.{Sign, plain, minus, Decimals, none, point, RightNumber}
+use Rattle.text.proofs.Right.{is-right}
 use Rattle.text.proofs.Accepted.{size-passed, length-passed, side-passed, height-passed}
 use Rattle.writer.specs.Text.{Frame, textOf}
 use Rattle.writer.specs.Answers.{cornerTest, roomTest, frameTests, heightCells, judged}
@@ -47,33 +50,54 @@ corner-passed : (place : ℕ) (w : List ℕ) → cornerTest place w ≡ passed �
 unfolding cornerTest
 corner-passed place w e = test-passed (isFormed (numberAt w 0 (length w))) 7 place e
 
--- each test of a list is passed
-abbrev AllPassed : List Test → Type 0
-AllPassed [] = Unit
-AllPassed (t ∷ l) = (t ≡ passed) × AllPassed l
+-- a corner word has at most a minus, nine digits, a point and six digits
+pub corner-short : (w : List ℕ) → NumberWord w → length w ≤ 17
+corner-short w e = go (is-right w e)
+  where
+    sign : {b : ℕ} → Sign w b → b ≤ 1
+    sign plain = omega arith
+    sign (minus q) = omega arith
 
-all-passed : (l : List Test) → verdict l ≡ passed → AllPassed l
-all-passed [] e = tt
-all-passed (t ∷ l) e = let w = verdict-passed t l e in (w .0, all-passed l (w .1))
+    rest : {b d : ℕ} → b ≤ 1 → d ≤ b + 9 → Decimals w d → length w ≤ 17
+    rest l f (none q) = omega arith
+    rest l f (point q g u) = omega arith
+
+    go : RightNumber w → length w ≤ 17
+    go r = rest (sign (r .sign)) (r .few) (r .decimals)
+
+-- all tests of two lists are passed, so all of each are
+parts-passed : (l m : List Test) → verdict (l ++ m) ≡ passed → (verdict l ≡ passed) × (verdict m ≡ passed)
+parts-passed [] m e = (verdict-none, e)
+parts-passed (t ∷ l) m e =
+    let w = verdict-passed t (l ++ m) e in
+    let p = parts-passed l m (w .1) in
+    (verdict-next l (w .0) ∙ p .0, p .1)
+
+-- the tests of a frame are passed
+module _ (f : Frame) (n : ℕ) (e : verdict (frameTests f n) ≡ passed) where
+  pub frame-accepted : FrameAccepted f × (n ≡ f .rows * f .columns)
+  unfolding frameTests
+  frame-accepted =
+      let cells = f .rows * f .columns in
+      let size = verdict-passed _ _ e in
+      let long = verdict-passed _ _ (size .1) in
+      let side = verdict-passed _ _ (long .1) in
+      let x = verdict-passed _ _ (side .1) in
+      let y = verdict-passed _ _ (x .1) in
+      let sizes = size-passed (f .rows) (f .columns) (size .0) in
+      (
+        record { rows = sizes .0; columns = sizes .1; side = side-passed (f .side) (side .0); x = corner-passed 1 (f .x) (x .0); y = corner-passed 2 (f .y) (y .0) },
+        length-passed cells n [] (long .0) .0,
+      )
 
 -- a call that writes heights, and is not refused
 module _ (f : Frame) (hs : List ℤ) (room : List ℕ) where
   pub heights-accepted : judged f (heightCells f hs) room ≡ passed → HeightsAccepted f hs
-  unfolding judged heightCells frameTests
+  unfolding judged heightCells
   heights-accepted e =
       let n = f .rows * f .columns in
-      let w = all-passed (frameTests f (length hs) ++ (heightTest n hs ∷ []) ++ (roomTest (textOf f (heightCells f hs .words)) room ∷ [])) e in
-      let sizes = size-passed (f .rows) (f .columns) (w .0) in
-      let long = length-passed n (length hs) [] (w .1 .0) .0 in
-      record {
-        frame =
-            record {
-              rows = sizes .0;
-              columns = sizes .1;
-              side = side-passed (f .side) (w .1 .1 .0);
-              x = corner-passed 1 (f .x) (w .1 .1 .1 .0);
-              y = corner-passed 2 (f .y) (w .1 .1 .1 .1 .0);
-            };
-        cells = long;
-        each = λ x l. height-passed n hs (w .1 .1 .1 .1 .1 .0) x (subst (λ (k : ℕ). x < k) long l);
-      }
+      let rest = roomTest (textOf f (heightCells f hs .words)) room ∷ [] in
+      let p = parts-passed (frameTests f (length hs)) (heightTest n hs ∷ []) (parts-passed (frameTests f (length hs) ++ (heightTest n hs ∷ [])) rest e .0) in
+      let w = frame-accepted f (length hs) (p .0) in
+      let each = height-passed n hs (verdict-passed (heightTest n hs) [] (p .1) .0) in
+      record { frame = w .0; cells = w .1; each = λ x l. each x (subst (λ (k : ℕ). x < k) (w .1) l) }

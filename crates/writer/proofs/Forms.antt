@@ -2,7 +2,7 @@
 use mathlib.Core.Path.{_≡_, refl, sym, ap, ap₂, _∙_}
 use mathlib.Core.Bool.{Bool, true, false, cond, _&&_, _||_, true≢false}
 use mathlib.Core.List.{List, [], _∷_, _++_}
-use Prim.Native.Nat.{ℕ, suc, _+_, _-_, _*_, _/_, _%_, _<_}
+use Prim.Native.Nat.{ℕ, suc, _+_, _-_, _*_, _/_, _%_, _<_, _≤_}
 use native.Mathlib.Omega.{arith}
 use borrow.Author.Tests.{le-ltb, leb-true, eq-eqb, ne-eqb}
 use lib.Dec.{leb, eqb}
@@ -133,7 +133,7 @@ same-equal (pos a) (negsuc b) e = absurd (true≢false (sym e))
 same-equal (negsuc a) (pos b) e = absurd (true≢false (sym e))
 same-equal (negsuc a) (negsuc b) e = let w = and-both (leb b a) (leb a b) e in ap negsuc (omega (arith, leb-true b a (w .0), leb-true a b (w .1)))
 
-height-small : (z : ℤ) → heightIn z ≡ true → natAbs z < 100000000000
+pub height-small : (z : ℤ) → heightIn z ≡ true → natAbs z ≤ 900000
 height-small (pos n) e = omega (arith, leb-true n 900000 e)
 height-small (negsuc n) e = omega (arith, leb-true n 49999 (and-both (leb n 49999) true e .0))
 
@@ -150,6 +150,6 @@ module _ (z : ℤ) (ok : heightAccepted z ≡ true) {s : List ℕ} {i : ℕ} {be
           ∙ ap (λ (x : ℤ). got x (i + length before + length none)) (sym (same-equal z noDataHeight e))
       go false e u h =
           let is = saying-is z in
-          height-ahead h (metres-form z (height-small z u)) (saying-fine z) noDataHeight
+          height-ahead h (metres-form z (omega (arith, height-small z u))) (saying-fine z) noDataHeight
           (ap (λ (x : ℤ). same x noDataHeight) is ∙ e) (ap heightIn is ∙ u)
           ∙ ap (λ (x : ℤ). got x (i + length before + length (metres z))) is

@@ -8,7 +8,7 @@ use borrow.Author.Tests.{eq-eqb, ne-eqb}
 use lib.ListN.{length, take, drop, length-drop, take-append-drop}
 use lib.Seq.{length-take-le}
 use Rattle.numerals.specs.Words.{line}
-use Rattle.writer.specs.Text.{rowWords, lines}
+use Rattle.writer.specs.Text.{Frame, headerWords, rowWords, lines, textOf}
 use Rattle.writer.specs.InnerCells.{gapOf, columnAfter, cellsFrom}
 
 -- a row from its column c on, and the rows after it
@@ -35,3 +35,9 @@ rows-flat columns (suc n) words h e =
     ap (λ (u : List ℕ). line (take columns words) ++ u) (rows-flat columns n rest h (omega (arith, length-drop columns words)))
     ∙ whole-row columns (take columns words) rest h (length-take-le columns words (omega arith))
     ∙ ap (cellsFrom columns 0) (take-append-drop columns words)
+
+-- a whole text: the header's lines, then the cells
+pub text-flat : (f : Frame) (words : List (List ℕ)) → 0 < f .columns → length words ≡ f .rows * f .columns
+    → textOf f words ≡ lines (headerWords f) ++ cellsFrom (f .columns) 0 words
+unfolding textOf
+text-flat f words h e = ap (λ (u : List ℕ). lines (headerWords f) ++ u) (rows-flat (f .columns) (f .rows) words h e)

@@ -11,3 +11,4 @@ pub mod InnerWords
 pub mod InnerCells
 pub mod InnerHeader
 pub mod InnerJudging
+pub mod InnerAnswers

@@ -13,7 +13,7 @@ use Rattle.writer.specs.Text.{Frame, frame, headerWords, lines, textOf}
 use Rattle.writer.specs.Answers.{heightCells}
 use Rattle.writer.specs.InnerCells.{cellsFrom}
 use Rattle.writer.proofs.Accepted.{HeightsAccepted}
-use Rattle.writer.proofs.InnerRows.{rows-flat}
+use Rattle.writer.proofs.InnerRows.{text-flat}
 use Rattle.writer.proofs.HeightsBack.{body-back}
 use Rattle.writer.proofs.HeaderBack.{cut, frameHeader, HeadRead, head-back}
 
@@ -28,10 +28,8 @@ cellsOf f hs = cellsFrom (f .columns) 0 (map heightWord hs)
 -- The frame and the heights are ones that the call does not refuse: heights-accepted of Accepted.antt.
 module _ (f : Frame) (hs : List ℤ) (ok : HeightsAccepted f hs) where
   text-is : written f hs ≡ lines (headerWords f) ++ cellsOf f hs
-  unfolding textOf heightCells
-  text-is =
-      let some = size-is (f .columns) (ok .frame .columns) .0 in
-      ap (λ (u : List ℕ). lines (headerWords f) ++ u) (rows-flat (f .columns) (f .rows) (map heightWord hs) some (length-map hs heightWord ∙ ok .cells))
+  unfolding heightCells
+  text-is = text-flat f (map heightWord hs) (size-is (f .columns) (ok .frame .columns) .0) (length-map hs heightWord ∙ ok .cells)
 
   head-is : HeadRead f (written f hs) (cellsOf f hs)
   head-is = head-back f (ok .frame) (written f hs) (cellsOf f hs) text-is

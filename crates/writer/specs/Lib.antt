@@ -2,6 +2,7 @@
 pub mod Words
 pub mod Text
 pub mod Answers
+pub mod Rooms
 -- What only inner functions cite
 pub mod InnerCells
 pub mod InnerJudging

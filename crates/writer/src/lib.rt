@@ -9,6 +9,8 @@ mod words;
 ghost use mathlib.Core.Path.{_≡_};
 ghost use Rattle.writer.specs.Text.{frame};
 ghost use Rattle.writer.specs.Answers.{heightCells, countCells, factorCells, answer, after};
+ghost use Rattle.writer.specs.Rooms.{roomFor, Holds};
+ghost use Rattle.writer.specs.InnerCells.{numberCells};
 use judge::Judgement;
 use text::Refusal;
 use words::Kind;
@@ -58,4 +60,89 @@ pub fn write_heights(
             Answer::Accepted { length }
         }
     }
+}
+
+// Writes counts or LS.
+fn write_numbers(
+    rows: usize,
+    columns: usize,
+    side: u32,
+    x: &[u8],
+    y: &[u8],
+    kind: Kind,
+    numbers: &[u32],
+    room: &mut [u8],
+) -> Answer
+    ensures answers { λ r. ⌜ r ≡ answer (frame rows columns side (now (x .entry)) (now (y .entry)))
+        (numberCells kind (now (numbers .entry))) (now (room .entry)) ⌝ }
+    ensures leaves { λ _. ⌜ now (room .exit) ≡ after (frame rows columns side (now (x .entry)) (now (y .entry)))
+        (numberCells kind (now (numbers .entry))) (now (room .entry)) ⌝ }
+{
+    let judgement = judge::judge(rows, columns, side, x, y, numbers.len());
+    match judgement {
+        Judgement::Unsound(refusal) => Answer::Refused(refusal),
+        Judgement::Sound => {
+            let length =
+                header::length(rows, columns, side, x, y) + cells::numbers_length(kind, numbers);
+            if room.len() < length {
+                return Answer::Refused(Refusal {
+                    number: 13,
+                    place: 0,
+                });
+            }
+            let next = header::put(room, rows, columns, side, x, y);
+            cells::put_numbers(room, next, columns, kind, numbers);
+            Answer::Accepted { length }
+        }
+    }
+}
+
+// Writes flow counts into the lent room.
+pub fn write_counts(
+    rows: usize,
+    columns: usize,
+    side: u32,
+    x: &[u8],
+    y: &[u8],
+    counts: &[u32],
+    room: &mut [u8],
+) -> Answer
+    ensures answers { λ r. ⌜ r ≡ answer (frame rows columns side (now (x .entry)) (now (y .entry)))
+        (countCells (now (counts .entry))) (now (room .entry)) ⌝ }
+    ensures leaves { λ _. ⌜ now (room .exit) ≡ after (frame rows columns side (now (x .entry)) (now (y .entry)))
+        (countCells (now (counts .entry))) (now (room .entry)) ⌝ }
+{
+    write_numbers(rows, columns, side, x, y, Kind::Count, counts, room)
+}
+
+// Writes LS, in hundred-thousandths, into the lent room.
+pub fn write_factors(
+    rows: usize,
+    columns: usize,
+    side: u32,
+    x: &[u8],
+    y: &[u8],
+    factors: &[u32],
+    room: &mut [u8],
+) -> Answer
+    ensures answers { λ r. ⌜ r ≡ answer (frame rows columns side (now (x .entry)) (now (y .entry)))
+        (factorCells (now (factors .entry))) (now (room .entry)) ⌝ }
+    ensures leaves { λ _. ⌜ now (room .exit) ≡ after (frame rows columns side (now (x .entry)) (now (y .entry)))
+        (factorCells (now (factors .entry))) (now (room .entry)) ⌝ }
+{
+    write_numbers(rows, columns, side, x, y, Kind::Factor, factors, room)
+}
+
+// How many bytes a room needs for any text of a shape.
+pub fn room(rows: usize, columns: usize) -> usize
+    ensures is { λ r. ⌜ r ≡ roomFor rows columns ⌝ }
+    ensures holds { λ r. ⌜ Holds rows columns r ⌝ }
+{
+    if !text::is_size(rows) {
+        return 0;
+    }
+    if !text::is_size(columns) {
+        return 0;
+    }
+    114 + 12 * (rows * columns)
 }

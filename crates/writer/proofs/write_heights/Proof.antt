@@ -1,3 +1,16 @@
+-- `writer::write_heights` meets its contract: a test refuses, or the header and the cells are written. Assumes nothing.
+use mathlib.Core.Path.{_≡_, sym, ap, _∙_}
+use Prim.Native.Nat.{ℕ}
+use native.Mathlib.Omega.{arith}
+use lib.ListN.{length}
+use Rattle.laws.specs.Tests.{passed, verdict}
+use Rattle.numerals.proofs.Writing.{wrote-long}
+use Rattle.writer.specs.Text.{Frame, frame}
+use Rattle.writer.specs.Answers.{Cells, heightCells, frameTests}
+use Rattle.writer.specs.InnerJudging.{found}
+use Rattle.writer.specs.declared.Answer.the-variants.{Accepted, Refused}
+use Rattle.writer.proofs.InnerAnswers.{frame-refuses, number-refuses, room-refuses, all-accept}
+use Rattle.writer.proofs.InnerAnswers.{cells-few, columns-some, corners-short, text-is, text-length, heights-fail, heights-pass, heights-long}
 use borrow.Author.Needs.{needs}
 use Rattle.writer.proofs.write_heights.Statement.{statement}
 use Rattle.writer.proofs.write_heights.Tie as tie
@@ -10,61 +23,103 @@ use Rattle.writer.proofs.header.length.Reads as length-reads
 use Rattle.writer.proofs.header.put.Reads as put-reads
 use Rattle.writer.proofs.judge.judge.Reads as judge-reads
 
--- src/lib.rt:37:9
+-- the arguments, from where the frame is known to be sound on
+abbrev start : tie.After-enum-told → tie.Start
+start c = c .before .before .before .before .before .before
+
+abbrev framed : tie.Start → Frame
+framed s = frame (s .args .rows) (s .args .columns) (s .args .side) (s .args .x .now) (s .args .y .now)
+
+abbrev cells : tie.Start → Cells
+cells s = heightCells (framed s) (s .args .heights .now)
+
+sound : (c : tie.After-enum-told) → verdict (frameTests (framed (start c)) (length (start c .args .heights .now))) ≡ passed
+sound c = sym (c .before .before .judge .ensures) ∙ ap found (c .enum-told .given .1)
+
 judge-requires : tie.Need-judge-requires
 judge-requires c κs = search needs
 
--- src/lib.rt:39:28
 enum-known-judgement : tie.Need-enum-known-judgement
 enum-known-judgement c = search needs
 
--- src/lib.rt:41:17
 enum-told : tie.Need-enum-told
 enum-told c = search needs
 
--- src/lib.rt:41:17
 first-bad-requires : tie.Need-first-bad-requires
 first-bad-requires c κs = search needs
 
--- src/lib.rt:43:17
 returns : tie.Need-returns
-returns c = ?
+unfolding heightCells
+returns c =
+    let t = c .before .before in
+    let s = start t in
+    let b = c .before .first-bad .ensures in
+    let p = number-refuses (framed s) (cells s) (s .args .room .now) (sound t) (heights-fail (framed s) (s .args .heights .now) (sound t) (omega (arith, b, c .if1 .taken))) in
+    (ap (λ (k : ℕ). Refused (record { number = 5; place = k })) b ∙ p .answers, p .leaves)
 
--- src/lib.rt:48:26
 length-requires : tie.Need-length-requires
-length-requires c κs = ?
+unfolding heightCells
+length-requires c κs = let t = c .before .before in corners-short (framed (start t)) (cells (start t)) (heights-long (framed (start t)) (start t .args .heights .now) (sound t)) (sound t)
 
--- src/lib.rt:49:19
 heights-length-requires : tie.Need-heights-length-requires
-heights-length-requires c κs = ?
+unfolding heightCells
+heights-length-requires c κs = let t = c .before .before .before in cells-few (framed (start t)) (cells (start t)) (heights-long (framed (start t)) (start t .args .heights .now) (sound t)) (sound t)
 
--- src/lib.rt:48:26
 add-length : tie.Need-add-length
-add-length c = ?
+unfolding heightCells
+add-length c =
+    let t = c .before .before .before .before in
+    let few = cells-few (framed (start t)) (cells (start t)) (heights-long (framed (start t)) (start t .args .heights .now) (sound t)) (sound t) in
+    omega (arith, c .before .length .ensures .1, c .heights-length .ensures .1, few)
 
--- src/lib.rt:51:17
 returns-2 : tie.Need-returns-2
-returns-2 c = ?
+unfolding heightCells
+returns-2 c =
+    let t = c .before .before .before .before .before in
+    let s = start t in
+    let l = text-length (framed s) (cells s) (heights-long (framed (start t)) (start t .args .heights .now) (sound t)) (sound t) in
+    let p = room-refuses (framed s) (cells s) (s .args .room .now) (sound t) (heights-pass (framed (start t)) (start t .args .heights .now) (sound t) (omega (arith, (c .before .before .before) .before .first-bad .ensures, (c .before .before .before) .if1 .left))) (omega (arith, l, c .before .before .length .ensures .0, c .before .heights-length .ensures .0, c .if2 .taken)) in
+    (p .answers, p .leaves)
 
--- src/lib.rt:56:17
 put-requires : tie.Need-put-requires
-put-requires c κs = ?
+unfolding heightCells
+put-requires c κs = let t = c .before .before .before .before .before .before in corners-short (framed (start t)) (cells (start t)) (heights-long (framed (start t)) (start t .args .heights .now) (sound t)) (sound t)
 
--- src/lib.rt:57:13
 put-heights-requires : tie.Need-put-heights-requires
-put-heights-requires c κs = ?
+unfolding heightCells
+put-heights-requires c κs =
+    let w = c .before .before .before .put .ensures in
+    let n = c .before .before .before .before .before .before in
+    let t = c .before .before .before .before .before .before .before .before .before .before in
+    (
+      columns-some (framed (start t)) (cells (start t)) (heights-long (framed (start t)) (start t .args .heights .now) (sound t)) (sound t),
+      omega (arith, w .ends, wrote-long w, n .before .length .ensures .0, n .heights-length .ensures .0, c .before .before .before .before .before .if2 .left),
+    )
 
--- src/lib.rt:23:1
 returns-3 : tie.Need-returns-3
-returns-3 c = ?
+unfolding heightCells
+returns-3 c =
+    let j = c .before .before .before .judge .ensures in
+    let s = c .before .before .before .before .before .before .before in
+    let p = frame-refuses (framed s) (cells s) (s .args .room .now) (sym j ∙ ap found (c .before .judgement .given .1)) in
+    (p .answers, p .leaves)
 
--- src/lib.rt:23:1
 same-length : tie.Need-same-length
 same-length c = search needs
 
--- src/lib.rt:23:1
 returns-4 : tie.Need-returns-4
-returns-4 c = ?
+unfolding heightCells
+returns-4 c =
+    let n = c .before .before .before .before .before .before .before .before .before in
+    let t = c .before .before .before .before .before .before .before .before .before .before .before .before .before in
+    let s = start t in
+    let l = text-length (framed s) (cells s) (heights-long (framed (start t)) (start t .args .heights .now) (sound t)) (sound t) in
+    let e = text-is (framed s) (cells s) (heights-long (framed (start t)) (start t .args .heights .now) (sound t)) (sound t) in
+    let h = n .before .length .ensures .0 in
+    let k = n .heights-length .ensures .0 in
+    let p = all-accept (framed s) (cells s) (s .args .room .now) (sound t) (heights-pass (framed (start t)) (start t .args .heights .now) (sound t) (omega (arith, (n .before .before) .before .first-bad .ensures, (n .before .before) .if1 .left))) e (omega (arith, l, h, k, c .before .before .before .before .before .before .before .before .if2 .left))
+        (c .before .before .before .before .before .before .put .ensures) (c .before .before .put-heights .ensures) in
+    (ap Accepted (omega (arith, l, h, k)) ∙ p .answers, p .leaves)
 
 pub write-heights-spec : {M : Type 1} → statement M
 write-heights-spec =
