@@ -1,3 +1,5 @@
+-- Computed examples
+pub mod Examples
 -- Laws that a text which is written is read back
 pub mod Accepted
 pub mod Digits
