@@ -76,7 +76,7 @@ module _ {A : Type 0} (w : A → List ℕ) (d : A) (cells : List A) where
           let rest : List ℕ = cellsFrom columns (columnAfter columns c) (map w (drop (x + 1) cells)) in
           let cut = subst (λ (t : List ℕ). Left room at (cellsFrom columns 0 (map w cells)) now next t) (cells-are h) (a .left) in
           let gone = left-more room at (cellsFrom columns 0 (map w cells)) (cell ++ (gapOf columns c ∷ [])) rest cut
-              (wrote-then {a = cell} p (wrote-byte end (gapOf columns c) (l ∙ ap (λ (g : ℕ). overlay mid end (g ∷ [])) eb))) in
+          (wrote-then {a = cell} p (wrote-byte end (gapOf columns c) (l ∙ ap (λ (g : ℕ). overlay mid end (g ∷ [])) eb))) in
           record {
             left = subst (λ (j : ℕ). Left room at (cellsFrom columns 0 (map w cells)) then (end + 1) (cellsFrom columns j (map w (drop (x + 1) cells)))) (sym ek) gone;
             column = f;

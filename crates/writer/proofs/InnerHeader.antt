@@ -56,7 +56,7 @@ header-length f =
       fields-more (bytes "xllcorner") (f .x) below,
       fields-more (bytes "yllcorner") (f .y) sided,
       fields-more (bytes "cellsize") (fixed 2 (f .side)) bare,
-      fields-more (bytes "nodata_value") none []
+      fields-more (bytes "nodata_value") none [],
     )
 
 -- one line after the other

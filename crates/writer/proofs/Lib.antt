@@ -8,6 +8,8 @@ pub mod InnerRows
 pub mod HeightsBack
 pub mod HeaderBack
 pub mod ReadBack
+-- Laws of a room's size
+pub mod Rooms
 -- Laws that serve the code
 pub mod InnerWords
 pub mod InnerCells

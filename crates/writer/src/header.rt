@@ -9,13 +9,7 @@ ghost use Rattle.writer.specs.Text.{frame, headerWords, lines};
 use crate::words;
 
 // How many bytes they have.
-pub(crate) fn length(
-    rows: usize,
-    columns: usize,
-    side: u32,
-    x: &[u8],
-    y: &[u8],
-) -> usize
+pub(crate) fn length(rows: usize, columns: usize, side: u32, x: &[u8], y: &[u8]) -> usize
     requires { ⌜ (length (now x) ≤ 17) × (length (now y) ≤ 17) ⌝ }
     ensures { λ r. ⌜ (r ≡ length (lines (headerWords (frame rows columns side (now (x .entry)) (now (y .entry)))))) × (r ≤ 162) ⌝ }
 {

@@ -47,8 +47,7 @@ pub fn write_heights(
                     place: bad,
                 });
             }
-            let length = header::length(rows, columns, side, x, y)
-                + cells::heights_length(heights);
+            let length = header::length(rows, columns, side, x, y) + cells::heights_length(heights);
             if room.len() < length {
                 return Answer::Refused(Refusal {
                     number: 13,
@@ -82,8 +81,8 @@ fn write_numbers(
     match judgement {
         Judgement::Unsound(refusal) => Answer::Refused(refusal),
         Judgement::Sound => {
-            let length =
-                header::length(rows, columns, side, x, y) + cells::numbers_length(kind, numbers);
+            let length = header::length(rows, columns, side, x, y)
+                + cells::numbers_length(kind, numbers);
             if room.len() < length {
                 return Answer::Refused(Refusal {
                     number: 13,

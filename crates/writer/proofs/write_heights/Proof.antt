@@ -90,8 +90,7 @@ unfolding heightCells
 put-heights-requires c κs =
     let w = c .before .before .before .put .ensures in
     let n = c .before .before .before .before .before .before in
-    let t = c .before .before .before .before .before .before .before .before .before .before in
-    (
+    let t = c .before .before .before .before .before .before .before .before .before .before in (
       columns-some (framed (start t)) (cells (start t)) (heights-long (framed (start t)) (start t .args .heights .now) (sound t)) (sound t),
       omega (arith, w .ends, wrote-long w, n .before .length .ensures .0, n .heights-length .ensures .0, c .before .before .before .before .before .if2 .left),
     )
@@ -118,7 +117,7 @@ returns-4 c =
     let h = n .before .length .ensures .0 in
     let k = n .heights-length .ensures .0 in
     let p = all-accept (framed s) (cells s) (s .args .room .now) (sound t) (heights-pass (framed (start t)) (start t .args .heights .now) (sound t) (omega (arith, (n .before .before) .before .first-bad .ensures, (n .before .before) .if1 .left))) e (omega (arith, l, h, k, c .before .before .before .before .before .before .before .before .if2 .left))
-        (c .before .before .before .before .before .before .put .ensures) (c .before .before .put-heights .ensures) in
+    (c .before .before .before .before .before .before .put .ensures) (c .before .before .put-heights .ensures) in
     (ap Accepted (omega (arith, l, h, k)) ∙ p .answers, p .leaves)
 
 pub write-heights-spec : {M : Type 1} → statement M

@@ -83,8 +83,7 @@ unfolding numberCells
 put-numbers-requires c κs =
     let w = c .before .before .before .put .ensures in
     let n = c .before .before .before .before .before .before in
-    let t = c .before .before .before .before .before .before .before .before in
-    (
+    let t = c .before .before .before .before .before .before .before .before in (
       columns-some (framed (start t)) (cells (start t)) (many t) (sound t),
       omega (arith, w .ends, wrote-long w, n .before .length .ensures .0, n .numbers-length .ensures .0, c .before .before .before .before .before .if1 .left),
     )
@@ -111,7 +110,7 @@ returns-3 c =
     let h = n .before .length .ensures .0 in
     let k = n .numbers-length .ensures .0 in
     let p = all-accept (framed s) (cells s) (s .args .room .now) (sound t) (good t) e (omega (arith, l, h, k, c .before .before .before .before .before .before .before .before .if1 .left))
-        (c .before .before .before .before .before .before .put .ensures) (c .before .before .put-numbers .ensures) in
+    (c .before .before .before .before .before .before .put .ensures) (c .before .before .put-numbers .ensures) in
     (ap Accepted (omega (arith, l, h, k)) ∙ p .answers, p .leaves)
 
 pub write-numbers-spec : {M : Type 1} → statement M

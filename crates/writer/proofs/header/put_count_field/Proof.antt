@@ -47,8 +47,7 @@ returns : tie.Need-returns
 returns c =
     let w = c .before .before .before .before .before .before .put-natural .ensures in
     let n = c .before .before .before .before .before .before .before .before .before .before .before .before .before .before .put-all .ensures in
-    let s = c .before .before .before .before .before .before .before .before .before .before .before .before .before .before .before .before .before .before in
-    (
+    let s = c .before .before .before .before .before .before .before .before .before .before .before .before .before .before .before .before .before .before in (
       wrote-field (now (s .args .name)) (decimal (s .args .n)) (s .args .at) (n .0) (n .1) (c .before .before .before .before .before .before .before .before .before .before .put .ensures) (wrote-laid _ _ (w .0 .0) (w .0 .1)) (c .before .before .put2 .ensures),
       omega (arith, n .1, w .1, s .pre .1),
     )

@@ -46,8 +46,7 @@ returns : tie.Need-returns
 returns c =
     let w = c .before .before .before .before .before .before .put-hundredths .ensures in
     let n = c .before .before .before .before .before .before .before .before .before .before .before .before .before .before .put-all .ensures in
-    let s = c .before .before .before .before .before .before .before .before .before .before .before .before .before .before .before .before .before .before in
-    (
+    let s = c .before .before .before .before .before .before .before .before .before .before .before .before .before .before .before .before .before .before in (
       wrote-field (now (s .args .name)) (fixed 2 (s .args .n)) (s .args .at) (n .0) (n .1) (c .before .before .before .before .before .before .before .before .before .before .put .ensures) w (c .before .before .put2 .ensures),
       omega (arith, n .1, w .ends, fixed-length 2 (s .args .n), decimal-short 19 (s .args .n / 100) (omega (arith, s .fits .n)), s .pre .1),
     )
