@@ -5,6 +5,7 @@ use lib.IntN.{ℤ, pos}
 use Rattle.text.specs.Answers.{Outcome, GridOutcome}
 use Rattle.text.specs.declared.Corners.{Corners}
 use Rattle.factor.specs.Answers.{Numbers}
+use Rattle.writer.specs.Answers as W
 
 -- of the header call and the reader call: number and place, and the four numbers
 abbrev pub reading : ℕ → ℕ → ℕ → ℕ → ℕ → ℤ → Outcome
@@ -21,3 +22,7 @@ gridReading answer heights = record { answer = answer; heights = heights }
 -- of the map call: number and place, the number of valid cells and the steps of the longest trail
 abbrev pub mapping : ℕ → ℕ → ℕ → ℕ → Numbers
 mapping number place valids longest = record { number = number; place = place; valids = valids; longest = longest }
+
+-- of a call that writes a text: number and place, and the text's length
+abbrev pub writing : ℕ → ℕ → ℕ → W.Numbers
+writing number place length = record { number = number; place = place; length = length }

@@ -77,3 +77,16 @@ answer f c room = answerOf (textOf f (c .words)) (judged f c room)
 unfoldable pub after : Frame → Cells → List ℕ → List ℕ
 unfolding judged roomOf textOf
 after f c room = roomOf (textOf f (c .words)) room (judged f c room)
+
+-- ---- an answer as the paper's numbers, for the promises of the crates above
+
+-- number and place, and the text's length
+pub record Numbers : Type 0 where
+  pub number : ℕ
+  pub place : ℕ
+  pub length : ℕ
+
+-- An accepted call has number and place 0; a refusal returns number and place with every other number 0
+abbrev pub told : Answer → Numbers
+told (Accepted n) = record { number = 0; place = 0; length = n }
+told (Refused f) = record { number = f .number; place = f .place; length = 0 }
