@@ -7,10 +7,13 @@ mod judge;
 mod words;
 
 ghost use mathlib.Core.Path.{_≡_};
-ghost use Rattle.writer.specs.Text.{frame};
+ghost use Prim.Native.Nat.{_≤_};
+ghost use lib.ListN.{length};
+ghost use Rattle.writer.specs.Text.{frame, headerWords, lines};
 ghost use Rattle.writer.specs.Answers.{heightCells, countCells, factorCells, answer, after};
 ghost use Rattle.writer.specs.Rooms.{roomFor, Holds};
 ghost use Rattle.writer.specs.InnerCells.{numberCells};
+ghost use Rattle.writer.specs.InnerWriting.{Begun};
 use judge::Judgement;
 use text::Refusal;
 use words::Kind;
@@ -19,6 +22,27 @@ use words::Kind;
 pub enum Answer {
     Accepted { length: usize },
     Refused(Refusal),
+}
+
+// Puts the header into the room if the whole text, of so many bytes, fits it, and else leaves the room as it is; the place after
+// the header.
+fn begin(
+    room: &mut [u8],
+    bytes: usize,
+    rows: usize,
+    columns: usize,
+    side: u32,
+    x: &[u8],
+    y: &[u8],
+) -> usize
+    requires { ⌜ (length (now x) ≤ 17) × (length (now y) ≤ 17) ⌝ }
+    ensures { λ r. ⌜ Begun (now (room .entry)) bytes
+        (lines (headerWords (frame rows columns side (now (x .entry)) (now (y .entry))))) r (now (room .exit)) ⌝ }
+{
+    if room.len() < bytes {
+        return 0;
+    }
+    header::put(room, rows, columns, side, x, y)
 }
 
 // Writes heights in cm, ground or filled, into the lent room.
@@ -48,13 +72,13 @@ pub fn write_heights(
                 });
             }
             let length = header::length(rows, columns, side, x, y) + cells::heights_length(heights);
+            let next = begin(room, length, rows, columns, side, x, y);
             if room.len() < length {
                 return Answer::Refused(Refusal {
                     number: 13,
                     place: 0,
                 });
             }
-            let next = header::put(room, rows, columns, side, x, y);
             cells::put_heights(room, next, columns, heights);
             Answer::Accepted { length }
         }
@@ -83,13 +107,13 @@ fn write_numbers(
         Judgement::Sound => {
             let length = header::length(rows, columns, side, x, y)
                 + cells::numbers_length(kind, numbers);
+            let next = begin(room, length, rows, columns, side, x, y);
             if room.len() < length {
                 return Answer::Refused(Refusal {
                     number: 13,
                     place: 0,
                 });
             }
-            let next = header::put(room, rows, columns, side, x, y);
             cells::put_numbers(room, next, columns, kind, numbers);
             Answer::Accepted { length }
         }

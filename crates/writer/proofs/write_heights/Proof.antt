@@ -4,7 +4,6 @@ use Prim.Native.Nat.{ℕ}
 use native.Mathlib.Omega.{arith}
 use lib.ListN.{length}
 use Rattle.laws.specs.Tests.{passed, verdict}
-use Rattle.numerals.proofs.Writing.{wrote-long}
 use Rattle.writer.specs.Text.{Frame, frame}
 use Rattle.writer.specs.Answers.{Cells, heightCells, frameTests}
 use Rattle.writer.specs.InnerJudging.{found}
@@ -17,10 +16,10 @@ use Rattle.writer.proofs.write_heights.Tie as tie
 use Rattle.writer.proofs.write_heights.Reads as reads
 use Rattle.writer.proofs.write_heights.Lts as lts
 use Rattle.text.proofs.first_bad.Reads as first-bad-reads
+use Rattle.writer.proofs.begin.Reads as begin-reads
 use Rattle.writer.proofs.cells.heights_length.Reads as heights-length-reads
 use Rattle.writer.proofs.cells.put_heights.Reads as put-heights-reads
 use Rattle.writer.proofs.header.length.Reads as length-reads
-use Rattle.writer.proofs.header.put.Reads as put-reads
 use Rattle.writer.proofs.judge.judge.Reads as judge-reads
 
 -- the arguments, from where the frame is known to be sound on
@@ -35,6 +34,16 @@ cells s = heightCells (framed s) (s .args .heights .now)
 
 sound : (c : tie.After-enum-told) → verdict (frameTests (framed (start c)) (length (start c .args .heights .now))) ≡ passed
 sound c = sym (c .before .before .judge .ensures) ∙ ap found (c .enum-told .given .1)
+
+many : (c : tie.After-enum-told) → length (cells (start c) .words) ≡ cells (start c) .number
+many c = heights-long (framed (start c)) (start c .args .heights .now) (sound c)
+
+-- no height is bad
+good : (c : tie.Else1) → let t = c .before .before in verdict (cells (start t) .tests) ≡ passed
+good c =
+    let t = c .before .before in
+    let s = start t in
+    heights-pass (framed s) (s .args .heights .now) (sound t) (omega (arith, c .before .first-bad .ensures, c .if1 .left))
 
 judge-requires : tie.Need-judge-requires
 judge-requires c κs = search needs
@@ -59,40 +68,46 @@ returns c =
 
 length-requires : tie.Need-length-requires
 unfolding heightCells
-length-requires c κs = let t = c .before .before in corners-short (framed (start t)) (cells (start t)) (heights-long (framed (start t)) (start t .args .heights .now) (sound t)) (sound t)
+length-requires c κs = let t = c .before .before in corners-short (framed (start t)) (cells (start t)) (many t) (sound t)
 
 heights-length-requires : tie.Need-heights-length-requires
 unfolding heightCells
-heights-length-requires c κs = let t = c .before .before .before in cells-few (framed (start t)) (cells (start t)) (heights-long (framed (start t)) (start t .args .heights .now) (sound t)) (sound t)
+heights-length-requires c κs = let t = c .before .before .before in cells-few (framed (start t)) (cells (start t)) (many t) (sound t)
 
 add-length : tie.Need-add-length
 unfolding heightCells
 add-length c =
     let t = c .before .before .before .before in
-    let few = cells-few (framed (start t)) (cells (start t)) (heights-long (framed (start t)) (start t .args .heights .now) (sound t)) (sound t) in
-    omega (arith, c .before .length .ensures .1, c .heights-length .ensures .1, few)
+    omega (arith, c .before .length .ensures .1, c .heights-length .ensures .1, cells-few (framed (start t)) (cells (start t)) (many t) (sound t))
+
+begin-requires : tie.Need-begin-requires
+unfolding heightCells
+begin-requires c κs = let t = c .before .before .before .before .before in corners-short (framed (start t)) (cells (start t)) (many t) (sound t)
+
+same-length : tie.Need-same-length
+same-length c = search needs
 
 returns-2 : tie.Need-returns-2
 unfolding heightCells
 returns-2 c =
-    let t = c .before .before .before .before .before in
+    let b = c .before .before .before .begin in
+    let n = c .before .before .before .before .before in
+    let t = n .before .before .before .before in
     let s = start t in
-    let l = text-length (framed s) (cells s) (heights-long (framed (start t)) (start t .args .heights .now) (sound t)) (sound t) in
-    let p = room-refuses (framed s) (cells s) (s .args .room .now) (sound t) (heights-pass (framed (start t)) (start t .args .heights .now) (sound t) (omega (arith, (c .before .before .before) .before .first-bad .ensures, (c .before .before .before) .if1 .left))) (omega (arith, l, c .before .before .length .ensures .0, c .before .heights-length .ensures .0, c .if2 .taken)) in
-    (p .answers, p .leaves)
-
-put-requires : tie.Need-put-requires
-unfolding heightCells
-put-requires c κs = let t = c .before .before .before .before .before .before in corners-short (framed (start t)) (cells (start t)) (heights-long (framed (start t)) (start t .args .heights .now) (sound t)) (sound t)
+    let l = text-length (framed s) (cells s) (many t) (sound t) in
+    let p = room-refuses (framed s) (cells s) (s .args .room .now) (sound t) (good (n .before .before))
+    (omega (arith, l, n .before .length .ensures .0, n .heights-length .ensures .0, c .if2 .taken, b .kept .0)) in
+    (p .answers, b .ensures .spared (omega (arith, c .if2 .taken, b .kept .0)) ∙ p .leaves)
 
 put-heights-requires : tie.Need-put-heights-requires
 unfolding heightCells
 put-heights-requires c κs =
-    let w = c .before .before .before .put .ensures in
+    let b = c .before .before .before .before .begin in
     let n = c .before .before .before .before .before .before in
-    let t = c .before .before .before .before .before .before .before .before .before .before in (
-      columns-some (framed (start t)) (cells (start t)) (heights-long (framed (start t)) (start t .args .heights .now) (sound t)) (sound t),
-      omega (arith, w .ends, wrote-long w, n .before .length .ensures .0, n .heights-length .ensures .0, c .before .before .before .before .before .if2 .left),
+    let t = n .before .before .before .before in
+    let w = b .ensures .begins (omega (arith, c .before .if2 .left, b .kept .0)) in (
+      columns-some (framed (start t)) (cells (start t)) (many t) (sound t),
+      omega (arith, w .ends, b .kept .0, n .before .length .ensures .0, n .heights-length .ensures .0, c .before .if2 .left),
     )
 
 returns-3 : tie.Need-returns-3
@@ -103,21 +118,23 @@ returns-3 c =
     let p = frame-refuses (framed s) (cells s) (s .args .room .now) (sym j ∙ ap found (c .before .judgement .given .1)) in
     (p .answers, p .leaves)
 
-same-length : tie.Need-same-length
-same-length c = search needs
+same-length-2 : tie.Need-same-length-2
+same-length-2 c = search needs
 
 returns-4 : tie.Need-returns-4
 unfolding heightCells
 returns-4 c =
+    let b = c .before .before .before .before .before .before .before .begin in
     let n = c .before .before .before .before .before .before .before .before .before in
-    let t = c .before .before .before .before .before .before .before .before .before .before .before .before .before in
+    let t = n .before .before .before .before in
     let s = start t in
-    let l = text-length (framed s) (cells s) (heights-long (framed (start t)) (start t .args .heights .now) (sound t)) (sound t) in
-    let e = text-is (framed s) (cells s) (heights-long (framed (start t)) (start t .args .heights .now) (sound t)) (sound t) in
+    let l = text-length (framed s) (cells s) (many t) (sound t) in
+    let e = text-is (framed s) (cells s) (many t) (sound t) in
     let h = n .before .length .ensures .0 in
     let k = n .heights-length .ensures .0 in
-    let p = all-accept (framed s) (cells s) (s .args .room .now) (sound t) (heights-pass (framed (start t)) (start t .args .heights .now) (sound t) (omega (arith, (n .before .before) .before .first-bad .ensures, (n .before .before) .if1 .left))) e (omega (arith, l, h, k, c .before .before .before .before .before .before .before .before .if2 .left))
-    (c .before .before .before .before .before .before .put .ensures) (c .before .before .put-heights .ensures) in
+    let w = b .ensures .begins (omega (arith, c .before .before .before .before .if2 .left, b .kept .0)) in
+    let p = all-accept (framed s) (cells s) (s .args .room .now) (sound t) (good (n .before .before)) e
+    (omega (arith, l, h, k, c .before .before .before .before .if2 .left, b .kept .0)) w (c .before .before .put-heights .ensures) in
     (ap Accepted (omega (arith, l, h, k)) ∙ p .answers, p .leaves)
 
 pub write-heights-spec : {M : Type 1} → statement M
@@ -132,9 +149,10 @@ write-heights-spec =
     length-requires
     heights-length-requires
     add-length
+    begin-requires
+    same-length
     returns-2
-    put-requires
     put-heights-requires
     returns-3
-    same-length
+    same-length-2
     returns-4)

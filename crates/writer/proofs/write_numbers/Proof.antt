@@ -3,7 +3,6 @@ use mathlib.Core.Path.{_≡_, sym, ap, _∙_}
 use native.Mathlib.Omega.{arith}
 use lib.ListN.{length}
 use Rattle.laws.specs.Tests.{passed, verdict}
-use Rattle.numerals.proofs.Writing.{wrote-long}
 use Rattle.writer.specs.Text.{Frame, frame}
 use Rattle.writer.specs.Answers.{Cells, frameTests}
 use Rattle.writer.specs.InnerCells.{numberCells}
@@ -16,10 +15,10 @@ use Rattle.writer.proofs.write_numbers.Statement.{statement}
 use Rattle.writer.proofs.write_numbers.Tie as tie
 use Rattle.writer.proofs.write_numbers.Reads as reads
 use Rattle.writer.proofs.write_numbers.Lts as lts
+use Rattle.writer.proofs.begin.Reads as begin-reads
 use Rattle.writer.proofs.cells.numbers_length.Reads as numbers-length-reads
 use Rattle.writer.proofs.cells.put_numbers.Reads as put-numbers-reads
 use Rattle.writer.proofs.header.length.Reads as length-reads
-use Rattle.writer.proofs.header.put.Reads as put-reads
 use Rattle.writer.proofs.judge.judge.Reads as judge-reads
 
 -- the arguments, from where the frame is known to be sound on
@@ -62,30 +61,36 @@ add-length : tie.Need-add-length
 unfolding numberCells
 add-length c =
     let t = c .before .before in
-    let few = cells-few (framed (start t)) (cells (start t)) (many t) (sound t) in
-    omega (arith, c .before .length .ensures .1, c .numbers-length .ensures .1, few)
+    omega (arith, c .before .length .ensures .1, c .numbers-length .ensures .1, cells-few (framed (start t)) (cells (start t)) (many t) (sound t))
+
+begin-requires : tie.Need-begin-requires
+unfolding numberCells
+begin-requires c κs = let t = c .before .before .before in corners-short (framed (start t)) (cells (start t)) (many t) (sound t)
+
+same-length : tie.Need-same-length
+same-length c = search needs
 
 returns : tie.Need-returns
 unfolding numberCells
 returns c =
-    let t = c .before .before .before in
+    let b = c .before .before .before .begin in
+    let n = c .before .before .before .before .before in
+    let t = n .before .before in
     let s = start t in
     let l = text-length (framed s) (cells s) (many t) (sound t) in
-    let p = room-refuses (framed s) (cells s) (s .args .room .now) (sound t) (good t) (omega (arith, l, c .before .before .length .ensures .0, c .before .numbers-length .ensures .0, c .if1 .taken)) in
-    (p .answers, p .leaves)
-
-put-requires : tie.Need-put-requires
-unfolding numberCells
-put-requires c κs = let t = c .before .before .before .before in corners-short (framed (start t)) (cells (start t)) (many t) (sound t)
+    let p = room-refuses (framed s) (cells s) (s .args .room .now) (sound t) (good t)
+    (omega (arith, l, n .before .length .ensures .0, n .numbers-length .ensures .0, c .if1 .taken, b .kept .0)) in
+    (p .answers, b .ensures .spared (omega (arith, c .if1 .taken, b .kept .0)) ∙ p .leaves)
 
 put-numbers-requires : tie.Need-put-numbers-requires
 unfolding numberCells
 put-numbers-requires c κs =
-    let w = c .before .before .before .put .ensures in
+    let b = c .before .before .before .before .begin in
     let n = c .before .before .before .before .before .before in
-    let t = c .before .before .before .before .before .before .before .before in (
+    let t = n .before .before in
+    let w = b .ensures .begins (omega (arith, c .before .if1 .left, b .kept .0)) in (
       columns-some (framed (start t)) (cells (start t)) (many t) (sound t),
-      omega (arith, w .ends, wrote-long w, n .before .length .ensures .0, n .numbers-length .ensures .0, c .before .before .before .before .before .if1 .left),
+      omega (arith, w .ends, b .kept .0, n .before .length .ensures .0, n .numbers-length .ensures .0, c .before .if1 .left),
     )
 
 returns-2 : tie.Need-returns-2
@@ -96,21 +101,23 @@ returns-2 c =
     let p = frame-refuses (framed s) (cells s) (s .args .room .now) (sym j ∙ ap found (c .before .judgement .given .1)) in
     (p .answers, p .leaves)
 
-same-length : tie.Need-same-length
-same-length c = search needs
+same-length-2 : tie.Need-same-length-2
+same-length-2 c = search needs
 
 returns-3 : tie.Need-returns-3
 unfolding numberCells
 returns-3 c =
+    let b = c .before .before .before .before .before .before .before .begin in
     let n = c .before .before .before .before .before .before .before .before .before in
-    let t = c .before .before .before .before .before .before .before .before .before .before .before in
+    let t = n .before .before in
     let s = start t in
     let l = text-length (framed s) (cells s) (many t) (sound t) in
     let e = text-is (framed s) (cells s) (many t) (sound t) in
     let h = n .before .length .ensures .0 in
     let k = n .numbers-length .ensures .0 in
-    let p = all-accept (framed s) (cells s) (s .args .room .now) (sound t) (good t) e (omega (arith, l, h, k, c .before .before .before .before .before .before .before .before .if1 .left))
-    (c .before .before .before .before .before .before .put .ensures) (c .before .before .put-numbers .ensures) in
+    let w = b .ensures .begins (omega (arith, c .before .before .before .before .if1 .left, b .kept .0)) in
+    let p = all-accept (framed s) (cells s) (s .args .room .now) (sound t) (good t) e
+    (omega (arith, l, h, k, c .before .before .before .before .if1 .left, b .kept .0)) w (c .before .before .put-numbers .ensures) in
     (ap Accepted (omega (arith, l, h, k)) ∙ p .answers, p .leaves)
 
 pub write-numbers-spec : {M : Type 1} → statement M
@@ -123,9 +130,10 @@ write-numbers-spec =
     length-requires
     numbers-length-requires
     add-length
+    begin-requires
+    same-length
     returns
-    put-requires
     put-numbers-requires
     returns-2
-    same-length
+    same-length-2
     returns-3)
