@@ -66,7 +66,7 @@ corner-short w e = go (is-right w e)
     go r = rest (sign (r .sign)) (r .few) (r .decimals)
 
 -- all tests of two lists are passed, so all of each are
-parts-passed : (l m : List Test) → verdict (l ++ m) ≡ passed → (verdict l ≡ passed) × (verdict m ≡ passed)
+pub parts-passed : (l m : List Test) → verdict (l ++ m) ≡ passed → (verdict l ≡ passed) × (verdict m ≡ passed)
 parts-passed [] m e = (verdict-none, e)
 parts-passed (t ∷ l) m e =
     let w = verdict-passed t (l ++ m) e in

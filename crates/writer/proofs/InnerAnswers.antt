@@ -7,7 +7,7 @@ use native.Mathlib.Omega.{arith}
 use borrow.Author.Tests.{lt-ltb, le-ltb}
 use lib.IntN.{ℤ}
 use lib.ListN.{length, length-append, length-map}
-use Rattle.laws.specs.Tests.{Test, passed, failed, verdict}
+use Rattle.laws.specs.Tests.{passed, failed, verdict}
 use Rattle.laws.proofs.Verdicts.{test-yes, test-no, verdict-none, verdict-next, verdict-stops, verdict-before, verdict-after}
 use Rattle.text.specs.Ranges.{firstBad, heightTest}
 use Rattle.text.proofs.Accepted.{size-is, area-few, height-passes, height-fails}

@@ -1,6 +1,6 @@
 -- Laws of the tests of a frame: what each decides where those before it are passed. Assumes nothing.
-use mathlib.Core.Path.{_≡_, refl, sym, ap, ap₂, _∙_}
-use mathlib.Core.Bool.{Bool, true, false, _&&_}
+use mathlib.Core.Path.{_≡_, refl, sym, ap₂, _∙_}
+use mathlib.Core.Bool.{true, false, _&&_}
 use mathlib.Core.List.{List, [], _∷_}
 use Prim.Native.Nat.{ℕ, _*_}
 use borrow.Author.Tests.{eq-eqb, ne-eqb}
@@ -9,7 +9,7 @@ use Rattle.laws.specs.Tests.{Test, passed, failed, verdict}
 use Rattle.laws.proofs.Tests.{and-false-left}
 use Rattle.laws.proofs.Verdicts.{test-yes, test-no, verdict-none, verdict-next, verdict-stops}
 use Rattle.text.specs.Numbers.{isNumber}
-use Rattle.text.specs.Ranges.{sizeAccepted, sideAccepted, allLong, sizeTest, lengthTest, sideTest}
+use Rattle.text.specs.Ranges.{sizeAccepted, sideAccepted, allLong, lengthTest, sideTest}
 use Rattle.text.proofs.Accepted.{size-passes, rows-fail, columns-fail, lengths-pass, lengths-fail, side-passes, side-fails}
 use Rattle.writer.specs.Text.{frame}
 use Rattle.writer.specs.Answers.{cornerTest, frameTests}

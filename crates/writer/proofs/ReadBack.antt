@@ -1,18 +1,26 @@
 -- RULES 10: heights that are written and read again are the same, and height grids that differ never have the same text. Assumes nothing.
 use mathlib.Core.Path.{_≡_, refl, sym, ap, ap₂, _∙_}
-use mathlib.Core.List.{List, _++_, map}
-use Prim.Native.Nat.{ℕ, _*_}
+use mathlib.Core.Bool.{not}
+use mathlib.Core.List.{List, [], _∷_, _++_, map}
+use Prim.Native.Nat.{ℕ, _*_, _≤_}
+use native.Mathlib.Nat.{zero-add}
+use native.Mathlib.Omega.{arith}
+use borrow.Author.Tests.{ltb-false, not-true}
+use lib.Dec.{ltb}
 use lib.IntN.{ℤ, natAbs}
-use lib.ListN.{length, length-map}
+use lib.ListN.{length, drop, length-map}
+use lib.Seq.{sets-eq}
+use Rattle.laws.specs.Tests.{passed}
+use Rattle.laws.proofs.Verdicts.{test-passed, verdict-passed}
 use Rattle.text.specs.Headers.{header}
 use Rattle.text.specs.Heights.{grid}
 use Rattle.text.specs.Answers.{Outcome, GridOutcome, accepted, headerAnswer, cornersAnswer, gridAnswer}
 use Rattle.text.proofs.Accepted.{size-is}
 use Rattle.writer.specs.Words.{heightWord}
 use Rattle.writer.specs.Text.{Frame, frame, headerWords, lines, textOf}
-use Rattle.writer.specs.Answers.{heightCells}
+use Rattle.writer.specs.Answers.{roomTest, frameTests, Cells, heightCells, judged, roomOf, after}
 use Rattle.writer.specs.InnerCells.{cellsFrom}
-use Rattle.writer.proofs.Accepted.{HeightsAccepted}
+use Rattle.writer.proofs.Accepted.{HeightsAccepted, parts-passed}
 use Rattle.writer.proofs.InnerRows.{text-flat}
 use Rattle.writer.proofs.HeightsBack.{body-back}
 use Rattle.writer.proofs.HeaderBack.{cut, frameHeader, HeadRead, head-back}
@@ -70,3 +78,19 @@ never-same f g hs ks p q e =
     let long : length hs ≡ g .rows * g .columns = p .cells ∙ ap₂ _*_ rows columns in
     let grids = sym (read-back-heights f hs p hs (p .cells)) ∙ ap (gridAnswer hs) e ∙ read-back-heights g ks q hs long in
     (frame-equal f g rows columns side x y, ap (λ (o : GridOutcome). o .heights) grids)
+
+-- A call that is not refused leaves the text in the room, and past it what was there before.
+module _ (f : Frame) (c : Cells) (room : List ℕ) (e : judged f c room ≡ passed) where
+  fits : length (textOf f (c .words)) ≤ length room
+  unfolding judged roomTest
+  fits =
+      let t = textOf f (c .words) in
+      let w = parts-passed (frameTests f (c .number) ++ c .tests) (roomTest t room ∷ []) e .1 in
+      let k = test-passed (not (ltb (length room) (length t))) 13 0 (verdict-passed (roomTest t room) [] w .0) in
+      omega (arith, ltb-false (length room) (length t) (not-true (ltb (length room) (length t)) k))
+
+  pub room-after : after f c room ≡ textOf f (c .words) ++ drop (length (textOf f (c .words))) room
+  unfolding after roomOf
+  room-after =
+      let t = textOf f (c .words) in
+      ap (roomOf t room) e ∙ sets-eq t room 0 (omega (arith, fits)) ∙ ap (λ (k : ℕ). t ++ drop k room) (zero-add (length t))

@@ -2,7 +2,7 @@
 use mathlib.Core.Path.{_≡_, refl, sym, ap, ap₂, _∙_, subst}
 use mathlib.Core.Bool.{Bool, true, false, not, cond, _&&_, _||_}
 use mathlib.Core.List.{List, [], _∷_, _++_, map}
-use Prim.Native.Nat.{ℕ, zero, suc, _+_, _*_, _/_, _≤_, _<_}
+use Prim.Native.Nat.{ℕ, suc, _+_, _*_, _/_, _≤_, _<_}
 use native.Mathlib.Omega.{arith}
 use native.Mathlib.Decide.{ℕ-discrete, decLt}
 use lib.Dec.{ltb}
@@ -16,7 +16,6 @@ use Rattle.text.specs.Quantities.{noDataHeight, heightIn}
 use Rattle.text.specs.Numbers.{isNumber}
 use Rattle.text.specs.Ranges.{sizeAccepted, sideAccepted, allLong, firstBad, heightAccepted, sizeTest, lengthTest, sideTest, heightTest}
 use Rattle.text.proofs.Accepted.{size-is, side-is, height-passed}
-use Rattle.numerals.specs.Words.{decimal, fixed}
 use Rattle.numerals.proofs.Decimal.{decimal-short, fixed-length}
 use Rattle.writer.specs.Words.{none, metres, heightWord}
 use Rattle.writer.specs.Text.{Frame, frame, headerWords, lines, textOf}
@@ -29,7 +28,7 @@ use Rattle.writer.proofs.Accepted.{FrameAccepted, corner-short, frame-a
 use Rattle.writer.proofs.Forms.{height-small}
 use Rattle.writer.proofs.InnerWords.{none-length, count-none, count-some, factor-none, factor-some}
 use Rattle.writer.proofs.InnerHeader.{header-length}
-use Rattle.writer.proofs.InnerAnswers.{room-passes, text-length, heights-long, numbers-pass, numbers-long}
+use Rattle.writer.proofs.InnerAnswers.{room-passes, text-length, heights-long, numbers-long}
 
 -- ---- how long the words are
 

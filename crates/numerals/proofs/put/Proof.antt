@@ -1,5 +1,5 @@
 -- `numerals::put` meets its contract. Assumes nothing.
-use mathlib.Core.Path.{sym, _∙_}
+use mathlib.Core.Path.{sym}
 use lib.Seq.{set-out}
 use borrow.Author.Needs.{needs}
 use Rattle.numerals.proofs.put.Statement.{statement}

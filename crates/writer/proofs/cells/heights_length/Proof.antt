@@ -48,10 +48,13 @@ loop-again c =
     let p = c .before .before .before in
     let heights = p .before .args .heights .now in
     let e = c .height-length .ensures .0 ∙ ap length (height-read (getD heights (p .loop .x) (pos 0)) (sfits-of (c .before .height-length-arg .given))) in
-    counted-more heightWord (pos 0) heights (p .loop .x) (p .loop .total) (p .loop .inv) (omega arith) (c .height-length .result) e (omega (arith, c .height-length .ensures .1))
+    counted-more (p .loop .inv) (omega arith) (c .height-length .result) e (omega (arith, c .height-length .ensures .1))
 
 returns : tie.Need-returns Inv-loop μ-loop
-returns c = ?
+returns c =
+    let p = c .before in
+    let v = p .loop .inv in
+    (counted-all v (omega arith), omega (arith, v .few, v .within))
 
 pub heights-length-spec : {M : Type 1} → statement M
 heights-length-spec =

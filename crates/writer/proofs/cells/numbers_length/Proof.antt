@@ -46,7 +46,7 @@ loop-again : tie.Need-loop-again Inv-loop μ-loop
 loop-again c =
     let p = c .before .before .before in
     let s = p .before .before in
-    counted-more (wordOf (s .args .kind)) 0 (s .args .numbers .now) (p .loop .x) (p .loop .total) (p .loop .inv) (omega arith)
+    counted-more (p .loop .inv) (omega arith)
     (c .number-length .result) (c .number-length .ensures .0) (c .number-length .ensures .1)
 
 returns : tie.Need-returns Inv-loop μ-loop
@@ -54,7 +54,7 @@ returns c =
     let p = c .before in
     let v = p .loop .inv in
     let s = p .before .before in
-    (counted-all (wordOf (s .args .kind)) 0 (s .args .numbers .now) (p .loop .x) (p .loop .total) v (omega arith), omega (arith, v .few, v .within))
+    (counted-all v (omega arith), omega (arith, v .few, v .within))
 
 pub numbers-length-spec : {M : Type 1} → statement M
 numbers-length-spec =

@@ -1,22 +1,16 @@
--- `writer::cells::put_heights` meets its contract. Assumes nothing.
+-- `writer::cells::put_heights` meets its contract. The loop's invariant: the words from the cell x on are left to write. Assumes nothing.
 use mathlib.Core.Path.{ap}
-use Prim.Native.Nat.{_-_}
-use borrow.Author.Needs.{needs, sfits-of}
-use Rattle.numerals.proofs.Writing.{wrote-as}
+use Prim.Native.Nat.{_+_, _-_, _≤_}
 use native.Mathlib.Omega.{arith}
+use borrow.Author.Needs.{needs, sfits-of}
 use lib.IntN.{pos}
 use lib.ListN.{length, getD}
+use Rattle.numerals.proofs.Writing.{wrote-as}
 use Rattle.writer.specs.Words.{heightWord}
 use Rattle.writer.proofs.InnerWords.{height-read}
 use Rattle.writer.proofs.InnerCells.{Along, along-none, along-fits, along-more, along-all}
 use Rattle.writer.proofs.cells.put_heights.Statement.{statement}
 use Rattle.writer.proofs.cells.put_heights.Tie as tie
-use Rattle.writer.proofs.cells.put_heights.Reads as reads
-use Rattle.writer.proofs.cells.put_heights.Lts as lts
-use Rattle.numerals.proofs.put.Reads as put-reads
-use Rattle.writer.proofs.cells.column_after.Reads as column-after-reads
-use Rattle.writer.proofs.cells.gap.Reads as gap-reads
-use Rattle.writer.proofs.words.put_height.Reads as put-height-reads
 
 abbrev Inv-loop : tie.InvT-loop
 Inv-loop out₀ at columns heights next₀ column₀ x₀ out next column x = Along heightWord (pos 0) heights columns out₀ at out next column x
@@ -24,8 +18,25 @@ Inv-loop out₀ at columns heights next₀ column₀ x₀ out next column x = Al
 abbrev μ-loop : tie.MeasureT-loop
 μ-loop out₀ at columns heights next₀ column₀ x₀ out next column x = length heights - x
 
+-- the arguments, from the loop on; the loop, from a word that was put on; and that word, from the byte after it on
+abbrev start : tie.At-loop Inv-loop μ-loop → tie.Start Inv-loop μ-loop
+start l = l .before .before
+
+abbrev loop-at : tie.After-put-height Inv-loop μ-loop → tie.At-loop Inv-loop μ-loop
+loop-at m = m .before .before .before .before
+
+abbrev word-at : tie.After-slice-known3 Inv-loop μ-loop → tie.After-put-height Inv-loop μ-loop
+word-at c = c .before .before .before .before .before .before .before
+
+-- the next word and the byte after it have place in the room
+fits : (c : tie.In-loop Inv-loop μ-loop) →
+    let p = c .before .loop in
+    let s = start (c .before) in
+    p .next + length (heightWord (getD (s .args .heights .now) (p .x) (pos 0))) + 1 ≤ length (p .out)
+fits c = along-fits (c .before .loop .inv) (omega arith) (start (c .before) .pre .1)
+
 loop-holds : tie.Need-loop-holds Inv-loop μ-loop
-loop-holds c = let s = c .before in along-none heightWord (pos 0) (s .args .heights .now) (s .args .columns) (s .args .out .now) (s .args .at) (s .pre .0)
+loop-holds c = along-none _ _ _ _ _ _ (c .before .pre .0)
 
 mul-put-height : tie.Need-mul-put-height Inv-loop μ-loop
 mul-put-height c = search needs
@@ -34,29 +45,23 @@ shared-slice-copy-out-put-height : tie.Need-shared-slice-copy-out-put-height Inv
 shared-slice-copy-out-put-height c = omega arith
 
 put-height-requires : tie.Need-put-height-requires Inv-loop μ-loop
-put-height-requires c κs =
-    let l = c .before .before .before in
-    let p = l .loop in
-    let s = l .before .before in
-    let e = ap length (height-read (getD (s .args .heights .now) (p .x) (pos 0)) (sfits-of (c .put-height-arg2 .given))) in
-    omega (arith, along-fits heightWord (pos 0) (s .args .heights .now) (s .args .columns) (s .args .out .now) (s .args .at) (p .next) (p .column) (p .x) (p .inv) (omega arith) (s .pre .1), e)
+put-height-requires c κs = let s = start (c .before .before .before) in omega (arith, fits (c .before .before), ap length (height-read (getD (s .args .heights .now) (c .before .before .before .loop .x) (pos 0)) (sfits-of (c .put-height-arg2 .given))))
 
 gap-requires : tie.Need-gap-requires Inv-loop μ-loop
-gap-requires c κs = let l = c .before .before .before .before .before .before .before in l .loop .inv .column
+gap-requires c κs = loop-at (c .before .before .before) .loop .inv .column
 
 put-requires : tie.Need-put-requires Inv-loop μ-loop
 put-requires c κs = tt
 
 add-next : tie.Need-add-next Inv-loop μ-loop
 add-next c =
-    let l = c .before .before .before .before .before .before .before .before .before .before .before in
-    let p = l .loop in
-    let s = l .before .before in
-    let e = ap length (height-read (getD (s .args .heights .now) (p .x) (pos 0)) (sfits-of (c .before .before .before .before .before .before .before .before .put-height-arg2 .given))) in
-    omega (arith, c .before .before .before .before .before .before .before .put-height .ensures .ends, along-fits heightWord (pos 0) (s .args .heights .now) (s .args .columns) (s .args .out .now) (s .args .at) (p .next) (p .column) (p .x) (p .inv) (omega arith) (s .pre .1), p .inv .left .long, e)
+    let m = word-at c in
+    let l = loop-at m in
+    let e = ap length (height-read (getD (start l .args .heights .now) (l .loop .x) (pos 0)) (sfits-of (m .before .put-height-arg2 .given))) in
+    omega (arith, fits (m .before .before .before), m .put-height .ensures .ends, l .loop .inv .left .long, e)
 
 column-after-requires : tie.Need-column-after-requires Inv-loop μ-loop
-column-after-requires c κs = let l = c .before .before .before .before .before .before .before .before .before .before .before in l .loop .inv .column
+column-after-requires c κs = loop-at (word-at c) .loop .inv .column
 
 add-x : tie.Need-add-x Inv-loop μ-loop
 add-x c = omega arith
@@ -66,22 +71,16 @@ loop-less c = omega arith
 
 loop-again : tie.Need-loop-again Inv-loop μ-loop
 loop-again c =
-    let m = c .before .before .before .before .before .before .before .before in
-    let l = m .before .before .before .before in
-    let p = l .loop in
-    let s = l .before .before in
-    along-more heightWord (pos 0) (s .args .heights .now) (s .args .columns) (s .args .out .now) (s .args .at) (p .next) (p .column) (p .x) (p .inv) (omega arith)
-    (wrote-as (height-read (getD (s .args .heights .now) (p .x) (pos 0)) (sfits-of (m .before .put-height-arg2 .given))) (m .put-height .ensures)) (c .before .before .before .put .ensures) (c .before .before .before .before .gap .ensures) (c .column-after .ensures .0) (c .column-after .ensures .1)
+    let m = word-at (c .before) in
+    let w = wrote-as (height-read _ (sfits-of (m .before .put-height-arg2 .given))) (m .put-height .ensures) in
+    let k = c .column-after .ensures in
+    along-more (loop-at m .loop .inv) (omega arith) w (c .before .before .before .put .ensures) (c .before .before .before .before .gap .ensures) (k .0) (k .1)
 
 same-length : tie.Need-same-length Inv-loop μ-loop
 same-length c = c .before .loop .inv .left .long
 
 returns : tie.Need-returns Inv-loop μ-loop
-returns c =
-    let l = c .before in
-    let p = l .loop in
-    let s = l .before .before in
-    along-all heightWord (pos 0) (s .args .heights .now) (s .args .columns) (s .args .out .now) (s .args .at) (p .next) (p .column) (p .x) (p .inv) (omega arith)
+returns c = along-all (c .before .loop .inv) (omega arith)
 
 pub put-heights-spec : {M : Type 1} → statement M
 put-heights-spec =

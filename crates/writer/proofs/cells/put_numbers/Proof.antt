@@ -1,18 +1,12 @@
--- `writer::cells::put_numbers` meets its contract. Assumes nothing.
-use Prim.Native.Nat.{_-_}
-use borrow.Author.Needs.{needs}
+-- `writer::cells::put_numbers` meets its contract. The loop's invariant: the words from the cell x on are left to write. Assumes nothing.
+use Prim.Native.Nat.{_+_, _-_, _≤_}
 use native.Mathlib.Omega.{arith}
-use lib.ListN.{length}
+use borrow.Author.Needs.{needs}
+use lib.ListN.{length, getD}
 use Rattle.writer.specs.InnerCells.{wordOf}
 use Rattle.writer.proofs.InnerCells.{Along, along-none, along-fits, along-more, along-all}
 use Rattle.writer.proofs.cells.put_numbers.Statement.{statement}
 use Rattle.writer.proofs.cells.put_numbers.Tie as tie
-use Rattle.writer.proofs.cells.put_numbers.Reads as reads
-use Rattle.writer.proofs.cells.put_numbers.Lts as lts
-use Rattle.numerals.proofs.put.Reads as put-reads
-use Rattle.writer.proofs.cells.column_after.Reads as column-after-reads
-use Rattle.writer.proofs.cells.gap.Reads as gap-reads
-use Rattle.writer.proofs.words.put_number.Reads as put-number-reads
 
 abbrev Inv-loop : tie.InvT-loop
 Inv-loop out₀ at columns kind numbers next₀ column₀ x₀ out next column x = Along (wordOf kind) 0 numbers columns out₀ at out next column x
@@ -20,8 +14,25 @@ Inv-loop out₀ at columns kind numbers next₀ column₀ x₀ out next column x
 abbrev μ-loop : tie.MeasureT-loop
 μ-loop out₀ at columns kind numbers next₀ column₀ x₀ out next column x = length numbers - x
 
+-- the arguments, from the loop on; the loop, from a word that was put on; and that word, from the byte after it on
+abbrev start : tie.At-loop Inv-loop μ-loop → tie.Start Inv-loop μ-loop
+start l = l .before .before .before
+
+abbrev loop-at : tie.After-put-number Inv-loop μ-loop → tie.At-loop Inv-loop μ-loop
+loop-at m = m .before .before .before .before
+
+abbrev word-at : tie.After-slice-known3 Inv-loop μ-loop → tie.After-put-number Inv-loop μ-loop
+word-at c = c .before .before .before .before .before .before .before
+
+-- the next word and the byte after it have place in the room
+fits : (c : tie.In-loop Inv-loop μ-loop) →
+    let p = c .before .loop in
+    let s = start (c .before) in
+    p .next + length (wordOf (s .args .kind) (getD (s .args .numbers .now) (p .x) 0)) + 1 ≤ length (p .out)
+fits c = along-fits (c .before .loop .inv) (omega arith) (start (c .before) .pre .1)
+
 loop-holds : tie.Need-loop-holds Inv-loop μ-loop
-loop-holds c = let s = c .before .before in along-none (wordOf (s .args .kind)) 0 (s .args .numbers .now) (s .args .columns) (s .args .out .now) (s .args .at) (s .pre .0)
+loop-holds c = along-none _ _ _ _ _ _ (c .before .before .pre .0)
 
 mul-put-number : tie.Need-mul-put-number Inv-loop μ-loop
 mul-put-number c = search needs
@@ -30,27 +41,22 @@ shared-slice-read-put-number : tie.Need-shared-slice-read-put-number Inv-loop μ
 shared-slice-read-put-number c = omega arith
 
 put-number-requires : tie.Need-put-number-requires Inv-loop μ-loop
-put-number-requires c κs =
-    let l = c .before .before .before in
-    let p = l .loop in
-    let s = l .before .before .before in
-    omega (arith, along-fits (wordOf (s .args .kind)) 0 (s .args .numbers .now) (s .args .columns) (s .args .out .now) (s .args .at) (p .next) (p .column) (p .x) (p .inv) (omega arith) (s .pre .1))
+put-number-requires c κs = omega (arith, fits (c .before .before))
 
 gap-requires : tie.Need-gap-requires Inv-loop μ-loop
-gap-requires c κs = let l = c .before .before .before .before .before .before .before in l .loop .inv .column
+gap-requires c κs = loop-at (c .before .before .before) .loop .inv .column
 
 put-requires : tie.Need-put-requires Inv-loop μ-loop
 put-requires c κs = tt
 
 add-next : tie.Need-add-next Inv-loop μ-loop
 add-next c =
-    let l = c .before .before .before .before .before .before .before .before .before .before .before in
-    let p = l .loop in
-    let s = l .before .before .before in
-    omega (arith, c .before .before .before .before .before .before .before .put-number .ensures .ends, along-fits (wordOf (s .args .kind)) 0 (s .args .numbers .now) (s .args .columns) (s .args .out .now) (s .args .at) (p .next) (p .column) (p .x) (p .inv) (omega arith) (s .pre .1), p .inv .left .long)
+    let m = word-at c in
+    let l = loop-at m in
+    omega (arith, fits (m .before .before .before), m .put-number .ensures .ends, l .loop .inv .left .long)
 
 column-after-requires : tie.Need-column-after-requires Inv-loop μ-loop
-column-after-requires c κs = let l = c .before .before .before .before .before .before .before .before .before .before .before in l .loop .inv .column
+column-after-requires c κs = loop-at (word-at c) .loop .inv .column
 
 add-x : tie.Need-add-x Inv-loop μ-loop
 add-x c = omega arith
@@ -60,22 +66,16 @@ loop-less c = omega arith
 
 loop-again : tie.Need-loop-again Inv-loop μ-loop
 loop-again c =
-    let m = c .before .before .before .before .before .before .before .before in
-    let l = m .before .before .before .before in
-    let p = l .loop in
-    let s = l .before .before .before in
-    along-more (wordOf (s .args .kind)) 0 (s .args .numbers .now) (s .args .columns) (s .args .out .now) (s .args .at) (p .next) (p .column) (p .x) (p .inv) (omega arith)
-    (m .put-number .ensures) (c .before .before .before .put .ensures) (c .before .before .before .before .gap .ensures) (c .column-after .ensures .0) (c .column-after .ensures .1)
+    let m = word-at (c .before) in
+    let w = m .put-number .ensures in
+    let k = c .column-after .ensures in
+    along-more (loop-at m .loop .inv) (omega arith) w (c .before .before .before .put .ensures) (c .before .before .before .before .gap .ensures) (k .0) (k .1)
 
 same-length : tie.Need-same-length Inv-loop μ-loop
 same-length c = c .before .loop .inv .left .long
 
 returns : tie.Need-returns Inv-loop μ-loop
-returns c =
-    let l = c .before in
-    let p = l .loop in
-    let s = l .before .before .before in
-    along-all (wordOf (s .args .kind)) 0 (s .args .numbers .now) (s .args .columns) (s .args .out .now) (s .args .at) (p .next) (p .column) (p .x) (p .inv) (omega arith)
+returns c = along-all (c .before .loop .inv) (omega arith)
 
 pub put-numbers-spec : {M : Type 1} → statement M
 put-numbers-spec =

@@ -45,10 +45,14 @@ same-length c = search needs
 
 returns : tie.Need-returns
 returns c =
-    let w = c .before .before .before .before .before .before .put-natural .ensures in
-    let n = c .before .before .before .before .before .before .before .before .before .before .before .before .before .before .put-all .ensures in
-    let s = c .before .before .before .before .before .before .before .before .before .before .before .before .before .before .before .before .before .before in (
-      wrote-field (now (s .args .name)) (decimal (s .args .n)) (s .args .at) (n .0) (n .1) (c .before .before .before .before .before .before .before .before .before .before .put .ensures) (wrote-laid _ _ (w .0 .0) (w .0 .1)) (c .before .before .put2 .ensures),
+    let put = c .before .before .before .before .before .before in
+    let space = put .before .before .before .before in
+    let name = space .before .before .before .before in
+    let s = name .before .before .before .before in
+    let w = put .put-natural .ensures in
+    let n = name .put-all .ensures in
+    (
+      wrote-field (now (s .args .name)) (decimal (s .args .n)) (s .args .at) (n .0) (n .1) (space .put .ensures) (wrote-laid _ _ (w .0 .0) (w .0 .1)) (c .before .before .put2 .ensures),
       omega (arith, n .1, w .1, s .pre .1),
     )
 

@@ -34,20 +34,25 @@ put-requires-2 c κs = search needs
 
 add-result : tie.Need-add-result
 add-result c =
-    let w = c .before .before .before .before .before .before .put-hundredths .ensures in
-    let n = c .before .before .before .before .before .before .before .before .before .before .before .before .before .before .put-all .ensures in
-    let s = c .before .before .before .before .before .before .before .before .before .before .before .before .before .before .before .before .before .before in
-    omega (arith, n .1, w .ends, fixed-length 2 (s .args .n), decimal-short 19 (s .args .n / 100) (omega (arith, s .fits .n)), s .pre .1)
+    let put = c .before .before .before .before .before .before in
+    let name = put .before .before .before .before .before .before .before .before in
+    let s = name .before .before .before .before in
+    let w = put .put-hundredths .ensures in
+    omega (arith, name .put-all .ensures .1, w .ends, fixed-length 2 (s .args .n), decimal-short 19 (s .args .n / 100) (omega (arith, s .fits .n)), s .pre .1)
 
 same-length : tie.Need-same-length
 same-length c = search needs
 
 returns : tie.Need-returns
 returns c =
-    let w = c .before .before .before .before .before .before .put-hundredths .ensures in
-    let n = c .before .before .before .before .before .before .before .before .before .before .before .before .before .before .put-all .ensures in
-    let s = c .before .before .before .before .before .before .before .before .before .before .before .before .before .before .before .before .before .before in (
-      wrote-field (now (s .args .name)) (fixed 2 (s .args .n)) (s .args .at) (n .0) (n .1) (c .before .before .before .before .before .before .before .before .before .before .put .ensures) w (c .before .before .put2 .ensures),
+    let put = c .before .before .before .before .before .before in
+    let space = put .before .before .before .before in
+    let name = space .before .before .before .before in
+    let s = name .before .before .before .before in
+    let w = put .put-hundredths .ensures in
+    let n = name .put-all .ensures in
+    (
+      wrote-field (now (s .args .name)) (fixed 2 (s .args .n)) (s .args .at) (n .0) (n .1) (space .put .ensures) w (c .before .before .put2 .ensures),
       omega (arith, n .1, w .ends, fixed-length 2 (s .args .n), decimal-short 19 (s .args .n / 100) (omega (arith, s .fits .n)), s .pre .1),
     )
 

@@ -37,9 +37,8 @@ unsound-requires c κs = search needs
 
 returns : tie.Need-returns
 returns c =
-    let a = c .before .before .before .before .before .args in
     let k = c .before .before in
-    c .unsound .ensures ∙ sym (rows-refused (a .rows) (a .columns) (a .side) (a .x .now) (a .y .now) (a .cells) (sym (k .is-size .ensures) ∙ not-true (k .is-size .result) (c .before .if1 .taken)))
+    c .unsound .ensures ∙ sym (rows-refused _ _ _ _ _ _ (sym (k .is-size .ensures) ∙ not-true (k .is-size .result) (c .before .if1 .taken)))
 
 is-size-requires-2 : tie.Need-is-size-requires-2
 is-size-requires-2 c κs = search needs
@@ -49,9 +48,8 @@ unsound-requires-2 c κs = search needs
 
 returns-2 : tie.Need-returns-2
 returns-2 c =
-    let a = c .before .before .before .before .before .before .before .args in
     let k = c .before .before in
-    c .unsound2 .ensures ∙ sym (columns-refused (a .rows) (a .columns) (a .side) (a .x .now) (a .y .now) (a .cells) (sym (k .is-size2 .ensures) ∙ not-true (k .is-size2 .result) (c .before .if2 .taken)))
+    c .unsound2 .ensures ∙ sym (columns-refused _ _ _ _ _ _ (sym (k .is-size2 .ensures) ∙ not-true (k .is-size2 .result) (c .before .if2 .taken)))
 
 mul-if3 : tie.Need-mul-if3
 mul-if3 c = let a = c .before .before .before .before .before .before .args in omega (arith, area-few (a .rows) (a .columns) (rows-are (c .before .before)) (columns-are c))
@@ -61,9 +59,8 @@ unsound-requires-3 c κs = search needs
 
 returns-3 : tie.Need-returns-3
 returns-3 c =
-    let a = c .before .before .before .before .before .before .before .before .args in
     let k = c .before .before in
-    c .unsound3 .ensures ∙ sym (cells-refused (a .rows) (a .columns) (a .side) (a .x .now) (a .y .now) (a .cells) (rows-are (k .before .before)) (columns-are k) (c .before .if3 .taken))
+    c .unsound3 .ensures ∙ sym (cells-refused _ _ _ _ _ _ (rows-are (k .before .before)) (columns-are k) (c .before .if3 .taken))
 
 is-side-requires : tie.Need-is-side-requires
 is-side-requires c κs = search needs
@@ -73,12 +70,11 @@ unsound-requires-4 c κs = search needs
 
 returns-4 : tie.Need-returns-4
 returns-4 c =
-    let a = c .before .before .before .before .before .before .before .before .before .before .args in
     let l = c .before .before .before in
     let k = l .before in
     let i = c .before .before in
     c .unsound4 .ensures
-    ∙ sym (side-refused (a .rows) (a .columns) (a .side) (a .x .now) (a .y .now) (a .cells) (rows-are (k .before .before)) (columns-are k) (l .if3 .left) (sym (i .is-side .ensures) ∙ not-true (i .is-side .result) (c .before .if4 .taken)))
+    ∙ sym (side-refused _ _ _ _ _ _ (rows-are (k .before .before)) (columns-are k) (l .if3 .left) (sym (i .is-side .ensures) ∙ not-true (i .is-side .result) (c .before .if4 .taken)))
 
 is-number-requires : tie.Need-is-number-requires
 is-number-requires c κs = search needs
@@ -88,13 +84,12 @@ unsound-requires-5 c κs = search needs
 
 returns-5 : tie.Need-returns-5
 returns-5 c =
-    let a = c .before .before .before .before .before .before .before .before .before .before .before .before .args in
     let s = c .before .before .before in
     let l = s .before .before in
     let k = l .before in
     let i = c .before .before in
     c .unsound5 .ensures
-    ∙ sym (x-refused (a .rows) (a .columns) (a .side) (a .x .now) (a .y .now) (a .cells) (rows-are (k .before .before)) (columns-are k) (l .if3 .left) (side-is s) (sym (i .is-number .ensures) ∙ not-true (i .is-number .result) (c .before .if5 .taken)))
+    ∙ sym (x-refused _ _ _ _ _ _ (rows-are (k .before .before)) (columns-are k) (l .if3 .left) (side-is s) (sym (i .is-number .ensures) ∙ not-true (i .is-number .result) (c .before .if5 .taken)))
 
 is-number-requires-2 : tie.Need-is-number-requires-2
 is-number-requires-2 c κs = search needs
@@ -104,25 +99,23 @@ unsound-requires-6 c κs = search needs
 
 returns-6 : tie.Need-returns-6
 returns-6 c =
-    let a = c .before .before .before .before .before .before .before .before .before .before .before .before .before .before .args in
     let x = c .before .before .before in
     let s = x .before .before in
     let l = s .before .before in
     let k = l .before in
     let i = c .before .before in
     c .unsound6 .ensures
-    ∙ sym (y-refused (a .rows) (a .columns) (a .side) (a .x .now) (a .y .now) (a .cells) (rows-are (k .before .before)) (columns-are k) (l .if3 .left) (side-is s) (x-is x)
+    ∙ sym (y-refused _ _ _ _ _ _ (rows-are (k .before .before)) (columns-are k) (l .if3 .left) (side-is s) (x-is x)
     (sym (i .is-number2 .ensures) ∙ not-true (i .is-number2 .result) (c .before .if6 .taken)))
 
 returns-7 : tie.Need-returns-7
 returns-7 c =
-    let a = c .before .before .before .before .before .before .before .before .before .before .before .before .before .args in
     let x = c .before .before in
     let s = x .before .before in
     let l = s .before .before in
     let k = l .before in
     let i = c .before in
-    sym (frame-passed (a .rows) (a .columns) (a .side) (a .x .now) (a .y .now) (a .cells) (rows-are (k .before .before)) (columns-are k) (l .if3 .left) (side-is s) (x-is x)
+    sym (frame-passed _ _ _ _ _ _ (rows-are (k .before .before)) (columns-are k) (l .if3 .left) (side-is s) (x-is x)
     (sym (i .is-number2 .ensures) ∙ not-false (i .is-number2 .result) (c .if6 .left)))
 
 pub judge-spec : {M : Type 1} → statement M

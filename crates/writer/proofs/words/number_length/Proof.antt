@@ -15,7 +15,9 @@ enum-told : tie.Need-enum-told
 enum-told c = search needs
 
 returns : tie.Need-returns
-returns c = let s = c .before .before .before in (sym (ap length (count-none (s .args .n) (c .before .enum-told .given .1) (c .if1 .taken)) ∙ none-length), omega arith)
+returns c =
+    let s = c .before .before .before in
+    (sym (ap length (count-none (s .args .n) (c .before .enum-told .given .1) (c .if1 .taken)) ∙ none-length), omega arith)
 
 digit-count-requires : tie.Need-digit-count-requires
 digit-count-requires c κs = search needs

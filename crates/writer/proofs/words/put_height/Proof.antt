@@ -56,7 +56,8 @@ returns-2 c =
     let t = m .before .before .before .before .before .before .before in
     let s = t .before .before .before in
     let w = height-below (s .args .height) (s .fits .height) (t .before .if1 .left) (m .before .size .ensures .0) (t .if2 .taken) in
-    wrote-as (sym w) (wrote-then {a = 45 ∷ []} (wrote-byte (s .args .at) 45 (m .before .before .before .before .before .put .ensures)) (m .put-hundredths .ensures))
+    let minus = m .before .before .before .before .before .put .ensures in
+    wrote-as (sym w) (wrote-then {a = 45 ∷ []} (wrote-byte (s .args .at) 45 minus) (m .put-hundredths .ensures))
 
 size-requires-2 : tie.Need-size-requires-2
 size-requires-2 c κs = search needs

@@ -30,7 +30,9 @@ put-padded-requires : tie.Need-put-padded-requires
 put-padded-requires c κs = search needs
 
 add-result-2 : tie.Need-add-result-2
-add-result-2 c = omega (arith, c .before .before .put-padded .ensures .1, padded-length 2 (c .before .before .before .before .before .before .before .before .before .before .before .before .before .args .n))
+add-result-2 c =
+    let a = c .before .before .before .before .before .before .before .before .before .before .before .before .before .args in
+    omega (arith, c .before .before .put-padded .ensures .1, padded-length 2 (a .n))
 
 same-length : tie.Need-same-length
 same-length c = search needs
@@ -41,7 +43,8 @@ returns c =
     let p = c .before .before .before .before .before .before in
     let s = p .before .before .before .before in
     let n = s .put-natural .ensures .0 in
-    wrote-fixed 2 (s .before .before .before .args .n) (s .before .before .before .args .at) (n .0) (n .1) (p .put .ensures) (d .0) (d .1)
+    let a = s .before .before .before .args in
+    wrote-fixed 2 (a .n) (a .at) (n .0) (n .1) (p .put .ensures) (d .0) (d .1)
 
 pub put-hundredths-spec : {M : Type 1} → statement M
 put-hundredths-spec =
