@@ -64,7 +64,8 @@ module _ (room : List ℕ) (at n : ℕ) {now then : List ℕ} (i left : ℕ) (b 
 
 -- the same with digits that may be zeros
 module _ (room : List ℕ) (at n count : ℕ) {now : List ℕ} (i left : ℕ) (b : Back room at (padded count n) now i (padded i left)) where
-  pub padded-back : {then : List ℕ} → 0 < i → then ≡ set now (at + (i - 1)) (48 + left % 10) → Back room at (padded count n) then (i - 1) (padded (i - 1) (left / 10))
+  pub padded-back : {then : List ℕ} → 0 < i → then ≡ set now (at + (i - 1)) (48 + left % 10)
+      → Back room at (padded count n) then (i - 1) (padded (i - 1) (left / 10))
   padded-back h l = back-more room at (padded count n) b (padded (i - 1) (left / 10)) (48 + left % 10) (padded-more i left h) l
 
   pub padded-all : i ≤ 0 → now ≡ overlay room at (padded count n)

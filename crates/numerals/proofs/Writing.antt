@@ -13,7 +13,8 @@ use Rattle.numerals.specs.Writing.{overlay, Wrote}
 pub overlay-append : (room : List ℕ) (at : ℕ) (a b : List ℕ) → overlay (overlay room at a) (at + length a) b ≡ overlay room at (a ++ b)
 overlay-append room at [] b = ap (λ (k : ℕ). sets room k b) (add-zero at)
 overlay-append room at (x ∷ a) b =
-    ap (λ (k : ℕ). sets (sets (set room at x) (suc at) a) k b) (add-suc at (length a) ∙ sym (suc-add at (length a))) ∙ overlay-append (set room at x) (suc at) a b
+    ap (λ (k : ℕ). sets (sets (set room at x) (suc at) a) k b) (add-suc at (length a) ∙ sym (suc-add at (length a)))
+    ∙ overlay-append (set room at x) (suc at) a b
 
 -- a byte that comes after a run may be laid before it
 pub overlay-back : (room : List ℕ) (at : ℕ) (a : List ℕ) (x : ℕ) → overlay (set room (at + length a) x) at a ≡ overlay room at (a ++ (x ∷ []))
@@ -43,7 +44,9 @@ module _ {room mid after : List ℕ} {at next end : ℕ} {a b : List ℕ} where
   wrote-then p q =
       record {
         ends = q .ends ∙ omega (arith, p .ends, length-append a b);
-        laid = q .laid ∙ ap (λ (r : List ℕ). overlay r next b) (p .laid) ∙ ap (λ (k : ℕ). overlay (overlay room at a) k b) (p .ends) ∙ overlay-append room at a b;
+        laid =
+            q .laid ∙ ap (λ (r : List ℕ). overlay r next b) (p .laid) ∙ ap (λ (k : ℕ). overlay (overlay room at a) k b) (p .ends)
+            ∙ overlay-append room at a b;
       }
 
 module _ {room after : List ℕ} {at next : ℕ} {a : List ℕ} where
@@ -61,11 +64,13 @@ module _ (room : List ℕ) (at : ℕ) (bytes : List ℕ) {mid after : List ℕ} 
   wrote-more p q = wrote-as (sym (ap (λ (k : ℕ). take k bytes) (add-one i) ∙ take-suc bytes i 0 h)) (wrote-then p q)
 
 -- the whole of it
-pub wrote-all : {room after : List ℕ} {at next : ℕ} (bytes : List ℕ) (i : ℕ) → length bytes ≤ i → Wrote room at (take i bytes) next after → Wrote room at bytes next after
+pub wrote-all : {room after : List ℕ} {at next : ℕ} (bytes : List ℕ) (i : ℕ) → length bytes ≤ i → Wrote room at (take i bytes) next after
+    → Wrote room at bytes next after
 wrote-all bytes i h p = wrote-as (take-all i bytes h) p
 
 -- a word and the blank after it, before the rest of a line
-pub wrote-word : {room mid after : List ℕ} {at next end : ℕ} (w : List ℕ) {rest : List ℕ} → Wrote room at (w ++ (32 ∷ [])) next mid → Wrote mid next rest end after → Wrote room at (w ++ (32 ∷ rest)) end after
+pub wrote-word : {room mid after : List ℕ} {at next end : ℕ} (w : List ℕ) {rest : List ℕ} → Wrote room at (w ++ (32 ∷ [])) next mid
+    → Wrote mid next rest end after → Wrote room at (w ++ (32 ∷ rest)) end after
 wrote-word w {rest} p q = wrote-as (append-snoc w 32 rest) (wrote-then p q)
 
 -- ---- what is left to write of a whole: laid from `next` on, it makes the room what it has to be

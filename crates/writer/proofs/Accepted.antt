@@ -85,7 +85,13 @@ module _ (f : Frame) (n : ℕ) (e : verdict (frameTests f n) ≡ passed) where
       let x = verdict-passed _ _ (side .1) in
       let y = verdict-passed _ _ (x .1) in
       let sizes = size-passed (f .rows) (f .columns) (size .0) in (
-        record { rows = sizes .0; columns = sizes .1; side = side-passed (f .side) (side .0); x = corner-passed 1 (f .x) (x .0); y = corner-passed 2 (f .y) (y .0) },
+        record {
+          rows = sizes .0;
+          columns = sizes .1;
+          side = side-passed (f .side) (side .0);
+          x = corner-passed 1 (f .x) (x .0);
+          y = corner-passed 2 (f .y) (y .0);
+        },
         length-passed cells n [] (long .0) .0,
       )
 

@@ -84,7 +84,7 @@ module _ {A : Type 0} {w : A → List ℕ} {d : A} {cells : List A} where
           a .left .long,
           cells-length columns 0 (map w cells),
           cells-length columns c (map w (drop x cells)),
-          ap bytesOf (words-from w d cells x h)
+          ap bytesOf (words-from w d cells x h),
         )
 
     pub along-more : {mid then : List ℕ} {end b k : ℕ} → x < length cells → Wrote now next (w (getD cells x d)) end mid → then ≡ overlay mid end (b ∷ [])

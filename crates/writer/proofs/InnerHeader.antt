@@ -41,7 +41,8 @@ abbrev before : List ℕ → List ℕ → List (List (List ℕ)) → List (List 
 before name word rest = (name ∷ word ∷ []) ∷ rest
 
 pub header-length : (f : Frame)
-    → length (lines (headerWords f)) ≡ 65 + (length (decimal (f .columns)) + length (decimal (f .rows))) + (length (f .x) + length (f .y)) + length (fixed 2 (f .side))
+    → length (lines (headerWords f))
+    ≡ 65 + (length (decimal (f .columns)) + length (decimal (f .rows))) + (length (f .x) + length (f .y)) + length (fixed 2 (f .side))
 unfolding headerWords lines bytes none metres
 header-length f =
     let bare = before (bytes "nodata_value") none [] in
@@ -67,4 +68,5 @@ module _ (f : Frame) {r0 r1 r2 r3 r4 r5 r6 : List ℕ} {a b c d e g : ℕ} where
       → Wrote r0 0 (lines (headerWords f)) g r6
   unfolding lines headerWords metres
   wrote-header columns rows x y side no-data =
-      wrote-then columns (wrote-then rows (wrote-then x (wrote-then y (wrote-then side (wrote-as (sym (append-nil (line (bytes "nodata_value" ∷ none ∷ [])))) no-data)))))
+      let last = wrote-as (sym (append-nil (line (bytes "nodata_value" ∷ none ∷ [])))) no-data in
+      wrote-then columns (wrote-then rows (wrote-then x (wrote-then y (wrote-then side last))))

@@ -146,12 +146,14 @@ module _ (f : Frame) (c : Cells) (room : List ℕ) (other : Other (verdict (c .t
       second : verdict (frameTests f (c .number)) ≡ passed → (t : Test) → verdict (c .tests) ≡ t → ⊥
       second p passed q = passed-failed (sym (room-passes f c room p q (fits p q)) ∙ e)
       second p (failed n k) q =
-          failed-other (verdict (c .tests)) other q (is-13 (verdict-before (frameTests f (c .number) ++ c .tests) _ (verdict-after (frameTests f (c .number)) (c .tests) p ∙ q)))
+          failed-other (verdict (c .tests)) other q
+          (is-13 (verdict-before (frameTests f (c .number) ++ c .tests) _ (verdict-after (frameTests f (c .number)) (c .tests) p ∙ q)))
 
       first : (t : Test) → verdict (frameTests f (c .number)) ≡ t → ⊥
       first passed p = second p (verdict (c .tests)) refl
       first (failed n k) p =
-          failed-other (verdict (frameTests f (c .number))) (frame-other f (c .number)) p (is-13 (verdict-before (frameTests f (c .number) ++ c .tests) _ (verdict-before (frameTests f (c .number)) (c .tests) p)))
+          failed-other (verdict (frameTests f (c .number))) (frame-other f (c .number)) p
+          (is-13 (verdict-before (frameTests f (c .number) ++ c .tests) _ (verdict-before (frameTests f (c .number)) (c .tests) p)))
 
 -- ---- a room of n bytes
 

@@ -39,7 +39,8 @@ loop-again c =
     let p = l .loop in
     let a = l .before .before .before .args in (
       omega arith,
-      wrote-more (now (a .out)) (a .at) (now (a .bytes)) (p .i) (omega arith) (p .inv .1) (record { ends = omega arith; laid = c .before .before .put-past .ensures }),
+      wrote-more (now (a .out)) (a .at) (now (a .bytes)) (p .i) (omega arith) (p .inv .1)
+          (record { ends = omega arith; laid = c .before .before .put-past .ensures }),
     )
 
 same-length : tie.Need-same-length Inv-loop μ-loop

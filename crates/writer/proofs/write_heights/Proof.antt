@@ -63,7 +63,8 @@ returns c =
     let t = c .before .before in
     let s = start t in
     let b = c .before .first-bad .ensures in
-    let p = number-refuses (framed s) (cells s) (s .args .room .now) (sound t) (heights-fail (framed s) (s .args .heights .now) (sound t) (omega (arith, b, c .if1 .taken))) in
+    let fail = heights-fail (framed s) (s .args .heights .now) (sound t) (omega (arith, b, c .if1 .taken)) in
+    let p = number-refuses (framed s) (cells s) (s .args .room .now) (sound t) fail in
     (ap (λ (k : ℕ). Refused (record { number = 5; place = k })) b ∙ p .answers, p .leaves)
 
 length-requires : tie.Need-length-requires

@@ -45,7 +45,10 @@ shared-slice-copy-out-put-height : tie.Need-shared-slice-copy-out-put-height Inv
 shared-slice-copy-out-put-height c = omega arith
 
 put-height-requires : tie.Need-put-height-requires Inv-loop μ-loop
-put-height-requires c κs = let s = start (c .before .before .before) in omega (arith, fits (c .before .before), ap length (height-read (getD (s .args .heights .now) (c .before .before .before .loop .x) (pos 0)) (sfits-of (c .put-height-arg2 .given))))
+put-height-requires c κs =
+    let l = c .before .before .before in
+    let e = ap length (height-read (getD (start l .args .heights .now) (l .loop .x) (pos 0)) (sfits-of (c .put-height-arg2 .given))) in
+    omega (arith, fits (c .before .before), e)
 
 gap-requires : tie.Need-gap-requires Inv-loop μ-loop
 gap-requires c κs = loop-at (c .before .before .before) .loop .inv .column

@@ -50,9 +50,9 @@ returns c =
     let name = space .before .before .before .before in
     let s = name .before .before .before .before in
     let w = put .put-natural .ensures in
-    let n = name .put-all .ensures in
-    (
-      wrote-field (now (s .args .name)) (decimal (s .args .n)) (s .args .at) (n .0) (n .1) (space .put .ensures) (wrote-laid _ _ (w .0 .0) (w .0 .1)) (c .before .before .put2 .ensures),
+    let n = name .put-all .ensures in (
+      wrote-field (now (s .args .name)) (decimal (s .args .n)) (s .args .at) (n .0) (n .1)
+          (space .put .ensures) (wrote-laid _ _ (w .0 .0) (w .0 .1)) (c .before .before .put2 .ensures),
       omega (arith, n .1, w .1, s .pre .1),
     )
 

@@ -50,8 +50,7 @@ returns c =
     let name = space .before .before .before .before in
     let s = name .before .before .before .before in
     let w = put .put-hundredths .ensures in
-    let n = name .put-all .ensures in
-    (
+    let n = name .put-all .ensures in (
       wrote-field (now (s .args .name)) (fixed 2 (s .args .n)) (s .args .at) (n .0) (n .1) (space .put .ensures) w (c .before .before .put2 .ensures),
       omega (arith, n .1, w .ends, fixed-length 2 (s .args .n), decimal-short 19 (s .args .n / 100) (omega (arith, s .fits .n)), s .pre .1),
     )

@@ -52,7 +52,9 @@ returns-2 c =
     c .unsound2 .ensures ∙ sym (columns-refused _ _ _ _ _ _ (sym (k .is-size2 .ensures) ∙ not-true (k .is-size2 .result) (c .before .if2 .taken)))
 
 mul-if3 : tie.Need-mul-if3
-mul-if3 c = let a = c .before .before .before .before .before .before .args in omega (arith, area-few (a .rows) (a .columns) (rows-are (c .before .before)) (columns-are c))
+mul-if3 c =
+    let a = c .before .before .before .before .before .before .args in
+    omega (arith, area-few (a .rows) (a .columns) (rows-are (c .before .before)) (columns-are c))
 
 unsound-requires-3 : tie.Need-unsound-requires-3
 unsound-requires-3 c κs = search needs
@@ -74,7 +76,8 @@ returns-4 c =
     let k = l .before in
     let i = c .before .before in
     c .unsound4 .ensures
-    ∙ sym (side-refused _ _ _ _ _ _ (rows-are (k .before .before)) (columns-are k) (l .if3 .left) (sym (i .is-side .ensures) ∙ not-true (i .is-side .result) (c .before .if4 .taken)))
+    ∙ sym (side-refused _ _ _ _ _ _ (rows-are (k .before .before)) (columns-are k) (l .if3 .left)
+    (sym (i .is-side .ensures) ∙ not-true (i .is-side .result) (c .before .if4 .taken)))
 
 is-number-requires : tie.Need-is-number-requires
 is-number-requires c κs = search needs
@@ -89,7 +92,8 @@ returns-5 c =
     let k = l .before in
     let i = c .before .before in
     c .unsound5 .ensures
-    ∙ sym (x-refused _ _ _ _ _ _ (rows-are (k .before .before)) (columns-are k) (l .if3 .left) (side-is s) (sym (i .is-number .ensures) ∙ not-true (i .is-number .result) (c .before .if5 .taken)))
+    ∙ sym (x-refused _ _ _ _ _ _ (rows-are (k .before .before)) (columns-are k) (l .if3 .left) (side-is s)
+    (sym (i .is-number .ensures) ∙ not-true (i .is-number .result) (c .before .if5 .taken)))
 
 is-number-requires-2 : tie.Need-is-number-requires-2
 is-number-requires-2 c κs = search needs
