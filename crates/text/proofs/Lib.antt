@@ -15,6 +15,10 @@ pub mod InnerTested
 pub mod InnerRight
 pub mod InnerSaid
 pub mod Right
+pub mod Every
+pub mod Shifted
+pub mod Formed
+pub mod Pieces
 pub mod Carried
 pub mod Calls
 pub mod CornerWords

@@ -9,7 +9,7 @@ use lib.ListN.{length, getD}
 use Rattle.laws.specs.Tests.{Test, passed, verdict}
 use Rattle.laws.proofs.Verdicts.{test-passed, verdict-none, verdict-next, verdict-passed}
 use Rattle.text.specs.Quantities.{noDataHeight}
-use Rattle.text.specs.Numbers.{Form, formed, malformed, Number, numberAt, isFormed}
+use Rattle.text.specs.Numbers.{Form, formed, malformed, Number, numberAt, isFormed, isNumber}
 use Rattle.text.specs.Ranges.{sizeAccepted, sideAccepted, heightAccepted, heightTest}
 use Rattle.text.specs.Right.{Sign, plain, minus, Decimals, none, point, RightNumber}
 use Rattle.text.proofs.Right.{is-right}
@@ -19,9 +19,10 @@ use Rattle.writer.specs.Answers.{cornerTest, roomTest, frameTests, heigh
 
 -- a word of the right form
 abbrev pub NumberWord : List ℕ → Type 0
-NumberWord w = isFormed (numberAt w 0 (length w)) ≡ true
+NumberWord w = isNumber w ≡ true
 
 pub word-formed : (w : List ℕ) → NumberWord w → (x : Number) × (numberAt w 0 (length w) ≡ formed x)
+unfolding isNumber
 word-formed w = go (numberAt w 0 (length w))
   where
     go : (t : Form Number) → isFormed t ≡ true → (x : Number) × (t ≡ formed x)
@@ -48,7 +49,7 @@ pub record HeightsAccepted (f : Frame) (hs : List ℤ) : Type 0 where
 
 corner-passed : (place : ℕ) (w : List ℕ) → cornerTest place w ≡ passed → NumberWord w
 unfolding cornerTest
-corner-passed place w e = test-passed (isFormed (numberAt w 0 (length w))) 7 place e
+corner-passed place w e = test-passed (isNumber w) 7 place e
 
 -- a corner word has at most a minus, nine digits, a point and six digits
 pub corner-short : (w : List ℕ) → NumberWord w → length w ≤ 17

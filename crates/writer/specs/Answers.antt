@@ -6,7 +6,7 @@ use lib.Dec.{ltb}
 use lib.IntN.{ℤ}
 use lib.ListN.{length}
 use Rattle.laws.specs.Tests.{Test, passed, failed, test, verdict}
-use Rattle.text.specs.Numbers.{numberAt, isFormed}
+use Rattle.text.specs.Numbers.{isNumber}
 use Rattle.text.specs.Ranges.{sizeTest, lengthTest, sideTest, heightTest}
 use Rattle.numerals.specs.Writing.{overlay}
 use Rattle.writer.specs.Words.{heightWord, countWord, factorWord}
@@ -16,8 +16,8 @@ use Rattle.writer.specs.declared.Answer.the-variants.{Accepted, Refused}
 
 -- 7: a corner word of bad form, commas too; place: 1 for x, 2 for y
 unfoldable pub cornerTest : ℕ → List ℕ → Test
-unfolding numberAt
-cornerTest place w = test (isFormed (numberAt w 0 (length w))) 7 place
+unfolding isNumber
+cornerTest place w = test (isNumber w) 7 place
 
 -- 13: the full text is longer than the room
 unfoldable pub roomTest : List ℕ → List ℕ → Test

@@ -41,10 +41,10 @@ pub(crate) fn judge(
     if !text::is_side(side) {
         return unsound(3, 0);
     }
-    if x.len() == 0 {
+    if !text::is_number(x) {
         return unsound(7, 1);
     }
-    if y.len() == 0 {
+    if !text::is_number(y) {
         return unsound(7, 2);
     }
     Judgement::Sound

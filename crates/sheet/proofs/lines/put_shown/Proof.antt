@@ -9,7 +9,8 @@ use Rattle.text.specs.Quantities.{noDataHeight}
 use Rattle.text.proofs.Accepted.{bits-none, none-bits}
 use Rattle.numerals.specs.Words.{line}
 use Rattle.numerals.proofs.Writing.{wrote-as}
-use Rattle.sheet.proofs.InnerShown.{shown-none, shown-values, same-not}
+use Rattle.sheet.proofs.InnerShown.{shown-none, shown-values}
+use Rattle.text.proofs.Accepted.{same-not}
 use Rattle.sheet.proofs.lines.put_shown.Statement.{statement}
 use Rattle.sheet.proofs.lines.put_shown.Tie as tie
 

@@ -1,4 +1,5 @@
 -- `writer::cells::heights_length` meets its contract. Assumes nothing.
+use mathlib.Core.Path.{ap, _∙_}
 use Prim.Native.Nat.{_-_}
 use native.Mathlib.Omega.{arith}
 use lib.IntN.{pos}
@@ -20,22 +21,24 @@ abbrev μ-loop : tie.MeasureT-loop
 μ-loop heights total₀ x₀ total x = length heights - x
 
 loop-holds : tie.Need-loop-holds Inv-loop μ-loop
-loop-holds c = ?
+loop-holds c = counted-none heightWord (pos 0) _
 
 mul-height-length : tie.Need-mul-height-length Inv-loop μ-loop
-mul-height-length c = ?
+mul-height-length c = omega (arith, c .before .before .pre)
 
 shared-slice-copy-out-height-length : tie.Need-shared-slice-copy-out-height-length Inv-loop μ-loop
-shared-slice-copy-out-height-length c = ?
+shared-slice-copy-out-height-length c = omega arith
 
 height-length-requires : tie.Need-height-length-requires Inv-loop μ-loop
-height-length-requires c κs = ?
+height-length-requires c κs = tt
 
 add-total : tie.Need-add-total Inv-loop μ-loop
-add-total c = ?
+add-total c = omega (arith, c .height-length .ensures .1)
 
 add-total-2 : tie.Need-add-total-2 Inv-loop μ-loop
-add-total-2 c = ?
+add-total-2 c =
+    let p = c .before .before .before in
+    omega (arith, c .height-length .ensures .1, p .loop .inv .few, p .loop .inv .within, p .before .pre)
 
 add-x : tie.Need-add-x Inv-loop μ-loop
 add-x c = omega arith
