@@ -125,6 +125,59 @@ output() {
     "$lsmap" pit.asc --output /dev/stdout | cmp - sheet.txt || fail "--output to a device"
 }
 
+# holds FILE COLUMNS ROWS SIDE ROWS_OF_NUMBERS: a file is the text of a grid with the corners -12.500000 and 007.
+holds() {
+    printf 'ncols %s\nnrows %s\nxllcorner -12.500000\nyllcorner 007\ncellsize %s\nnodata_value -9999\n%b\n' \
+        "$2" "$3" "$4" "$5" | cmp - "$1" || fail "the text $1"
+}
+
+# The grids as texts: the pit, read again; heights, side and LS at their bounds; beside a sheet that nobody reads.
+texts() {
+    corners='xllcorner -12.500000 yllcorner 007'
+    printf 'NCOLS 3 nrows 3\n%s cellsize 10\n5 5 5\n5 2 4\n5 5 5' "$corners" >corners.asc
+    "$lsmap" corners.asc $printers --text deep/texts | cmp - "$root/host/pit.txt" || fail "the sheet beside the texts"
+    holds deep/texts/ground.asc 3 3 10.00 '5.00 5.00 5.00\n5.00 2.00 4.00\n5.00 5.00 5.00'
+    holds deep/texts/filled.asc 3 3 10.00 '5.00 5.00 5.00\n5.00 4.00 4.00\n5.00 5.00 5.00'
+    holds deep/texts/count.asc 3 3 10.00 '1 1 1\n1 6 9\n1 1 1'
+    holds deep/texts/ls.asc 3 3 10.00 '0.33088 0.54379 0.54379\n0.54379 0.00000 0.04810\n0.33088 0.54379 0.54379'
+    "$lsmap" deep/texts/ground.asc $printers --text again | cmp - "$root/host/pit.txt" || fail "the sheet of a text that was written"
+    diff -r deep/texts again || fail "the texts of a text that was written"
+    printf 'ncols 5 nrows 1 %s cellsize 1000 nodata_value 7 -0.05 0 -0 7 -500' "$corners" >bounds.asc
+    "$lsmap" - $printers --text again --quiet <bounds.asc >out
+    holds again/ground.asc 5 1 1000.00 '-0.05 0.00 0.00 -9999 -500.00'
+    holds again/count.asc 5 1 1000.00 '2 1 1 -9999 1'
+    holds again/ls.asc 5 1 1000.00 '0.00000 -9999 -9999 -9999 -9999'
+    printf 'ncols 1 nrows 1 %s cellsize 0.05 9000' "$corners" >bounds.asc
+    "$lsmap" bounds.asc --text again --quiet >>out
+    holds again/filled.asc 1 1 0.05 9000.00
+    [ ! -s out ] && [ "$(ls -A again | tr '\n' ' ')" = 'count.asc filled.asc ground.asc ls.asc ' ] || fail "--quiet, or a text's part is left"
+    ends 0 corners.asc $printers --text unread
+    diff -r deep/texts unread || fail "the texts beside a broken pipe"
+}
+
+# None of the four texts where one can't be written.
+no_texts() {
+    stops 1 'refused 12 at 54' 'comma.asc: refused 12' comma.asc --text none.d --quiet
+    stops 2 '' 'cannot make pit.asc' pit.asc --text pit.asc
+    stops 2 '' 'cannot write /proc/self/ground.asc' pit.asc --text /proc/self
+    stops 2 '' '--text: ./again/ls.asc is the field itself' again/ls.asc --text ./again
+    rm again/ls.asc
+    mkdir again/ls.asc
+    stops 2 '' 'cannot write again/ls.asc: Is a directory' pit.asc --text again
+    holds again/ground.asc 1 1 0.05 9000.00
+    [ "$(ls -A again | wc -l)" -eq 4 ] || fail "a text's part is left"
+}
+
+# Without a sheet: nothing is said of a field that is accepted.
+quiet() {
+    "$lsmap" pit.asc --quiet >out 2>err
+    "$lsmap" pit.asc --quiet --output - >>out 2>>err
+    [ ! -s out ] && [ ! -s err ] || fail "--quiet prints"
+    "$lsmap" pit.asc $printers --quiet --output quiet.txt
+    cmp quiet.txt "$root/host/pit.txt" || fail "--quiet with --output"
+    stops 1 'refused 12 at 54' 'comma.asc: refused 12' comma.asc --quiet
+}
+
 # A rough field of full size, on 64 KiB of stack; the library asks the system for no memory.
 full_size() {
     awk 'BEGIN { srand(1); print "ncols 1024 nrows 1024 xllcorner 0 yllcorner 0 cellsize 5"
@@ -165,4 +218,42 @@ pipes() {
     grep -qxE 'lsmap: 9 cells, 9 valid, longest trail 2, greatest LS 0\.54379, [0-9]+\.[0-9]{2} s' out || fail "the summary: $(cat out)"
     script -qec "'$lsmap' pit.asc 2>err" /dev/null >out
     [ ! -s err ] || fail "a summary for no terminal"
+    script -qec "'$lsmap' --quiet pit.asc" /dev/null >out
+    [ ! -s out ] || fail "--quiet on a terminal: $(cat out)"
+}
+
+# As many blocks of 512 bytes as lsmap may write to a file: more than the ground's text has, fewer than that of LS.
+limit() {
+    ulimit -c 0
+    ulimit -f $(($(wc -c <whole/ground.asc) / 512 + 1))
+}
+
+# unharmed WHAT: each text in the folder is the old one, or the new one where it had the time for all.
+unharmed() {
+    for name in ground filled count ls; do
+        [ "$(cat "kept/$name.asc")" = old ] || { [ "$1" = killed ] && cmp -s "kept/$name.asc" "whole/$name.asc"; } || fail "$1: half a text $name"
+    done
+}
+
+# A run that can't write its last text, or is ended while it writes, leaves no half text.
+broken_texts() {
+    mkdir kept
+    for name in ground filled count ls; do echo old >"kept/$name.asc"; done
+    "$lsmap" full.asc --text whole --quiet
+    got=0
+    (trap '' XFSZ; limit; "$lsmap" full.asc --text kept --quiet 2>err) || got=$?
+    [ "$got" -eq 2 ] && grep -qx 'lsmap: cannot write kept/ls.asc: File too large' err || fail "a text that may not grow"
+    [ "$(ls -A kept | wc -l)" -eq 4 ] || fail "a text's part is left"
+    unharmed 'a text that may not grow'
+    got=0
+    { (limit; exec "$lsmap" full.asc --text kept --quiet) || got=$?; } 2>err
+    [ "$got" -gt 128 ] || fail "lsmap goes on where a signal ends it"
+    unharmed 'ended while writing'
+    for seconds in 0.1 0.15 0.2 0.25 0.3 0.35 0.4; do
+        "$lsmap" full.asc --text kept --quiet &
+        sleep "$seconds"
+        kill -9 $! 2>err || true
+        wait $! 2>err || true
+        unharmed killed
+    done
 }

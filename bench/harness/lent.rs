@@ -3,8 +3,9 @@
 /// The settings of every measurement: the printer's, docs/RULES.md, 9 The printed sheet.
 pub const CUTOFF: f64 = 0.5;
 
-/// The grids and the workspace, lent to each side in turn and not cleared in between; and the number of valid cells and
-/// the longest trail that it answers.
+/// The grids, the workspace and the room for a text, lent to each side in turn and not cleared in between; the corner
+/// words of the text; and what a side answers: the number of valid cells and the longest trail, and the bytes of the
+/// text that it wrote.
 #[derive(Clone, PartialEq)]
 pub struct Lent {
     pub rows: usize,
@@ -17,7 +18,10 @@ pub struct Lent {
     pub lengths: Vec<u64>,
     pub factors: Vec<u32>,
     pub workspace: Vec<u32>,
+    pub corners: [Vec<u8>; 2],
+    pub room: Vec<u8>,
     pub answer: (u32, u32),
+    pub written: usize,
 }
 
 impl Lent {
@@ -40,15 +44,19 @@ impl Lent {
             lengths: vec![1; cells],
             factors: vec![1; cells],
             workspace: vec![1; cells],
+            corners: header.corners.map(|span| span.of(text).to_vec()),
+            room: vec![1; plain::room(header.rows, header.columns)],
             answer: (0, 0),
+            written: 0,
         })
     }
 }
 
-/// A side: reading a text into heights, header first, and mapping them.
+/// A side: reading a text into heights, header first; mapping them; and writing them into the room.
 #[derive(Clone, Copy)]
 pub struct Side {
     pub name: &'static str,
     pub read: fn(&[u8], &mut [i32]),
     pub map: fn(&mut Lent),
+    pub write: fn(&mut Lent),
 }

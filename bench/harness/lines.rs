@@ -1,6 +1,6 @@
 //! Measurements as lines, so that those of several layouts can be put together: layout, terrain, size, the milliseconds
-//! of both sides for the map and for the text, those of another commit's library for the map or `-`, the text's bytes,
-//! the peak.
+//! of both sides for the map, for reading the text and for writing one, those of another commit's library for the map
+//! or `-`, the bytes that are read and those that are written, the peak.
 
 use crate::files::field;
 use crate::layout::BYTES;
@@ -34,10 +34,10 @@ pub fn print(rounds: usize, folder: &Path) -> Result<(), String> {
     for terrain in TERRAINS {
         for (size, rounds) in [(SMALL, MORE_ROUNDS * rounds), (LARGE, rounds)] {
             let (text, lent) = field(&folder.join(format!("{terrain}-{size}.asc")))?;
-            let Found { map, text, before, bytes, peak } = measure(rounds, &text, lent);
-            let times = [map.measured, map.plain, text.measured, text.plain].map(word);
+            let Found { map, text, write, before, bytes, written, peak } = measure(rounds, &text, lent);
+            let times = [map, text, write].map(|pair| format!("{} {}", word(pair.measured), word(pair.plain)));
             let before = before.map_or(NONE.into(), word);
-            println!("{BYTES} {terrain} {size} {} {before} {bytes} {peak}", times.join(" "));
+            println!("{BYTES} {terrain} {size} {} {before} {bytes} {written} {peak}", times.join(" "));
         }
     }
     Ok(())
@@ -46,13 +46,17 @@ pub fn print(rounds: usize, folder: &Path) -> Result<(), String> {
 /// The measurement of a line.
 pub fn parse(line: &str) -> Option<Line> {
     let words: Vec<&str> = line.split_whitespace().collect();
-    let &[layout, terrain, size, map, plain_map, text, plain_text, before, bytes, peak] = &words[..] else {
-        return None;
+    let &[layout, terrain, size, ref times @ .., before, bytes, written, peak] = &words[..] else { return None };
+    let times: Option<Vec<f64>> = times.iter().map(|word| word.parse().ok()).collect();
+    let &[map, plain_map, text, plain_text, write, plain_write] = &times?[..] else { return None };
+    let found = Found {
+        map: Pair { measured: map, plain: plain_map },
+        text: Pair { measured: text, plain: plain_text },
+        write: Pair { measured: write, plain: plain_write },
+        before: if before == NONE { None } else { Some(before.parse().ok()?) },
+        bytes: bytes.parse().ok()?,
+        written: written.parse().ok()?,
+        peak: peak.parse().ok()?,
     };
-    let time = |word: &str| word.parse().ok();
-    let map = Pair { measured: time(map)?, plain: time(plain_map)? };
-    let text = Pair { measured: time(text)?, plain: time(plain_text)? };
-    let before = if before == NONE { None } else { Some(time(before)?) };
-    let found = Found { map, text, before, bytes: bytes.parse().ok()?, peak: peak.parse().ok()? };
     Some(Line { layout: layout.into(), terrain: terrain.into(), size: size.parse().ok()?, found })
 }

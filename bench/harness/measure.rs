@@ -23,14 +23,17 @@ impl Pair {
     }
 }
 
-/// What is found of one text: the two times, the map call's by the library of another commit, the text's bytes, and the
-/// KiB by which the first map call raised the peak.
+/// What is found of one text: the times of mapping, reading and writing, the map call's by the library of another
+/// commit, the bytes of the text that is read and of the one that is written, and the KiB by which the first map call
+/// raised the peak.
 #[derive(Clone, Copy)]
 pub struct Found {
     pub map: Pair,
     pub text: Pair,
+    pub write: Pair,
     pub before: Option<f64>,
     pub bytes: usize,
+    pub written: usize,
     pub peak: i64,
 }
 
@@ -45,8 +48,10 @@ impl Found {
         Found {
             map: self.map.or(&other.map),
             text: self.text.or(&other.text),
+            write: self.write.or(&other.write),
             before: self.before.zip(other.before).map(|(one, other)| one.min(other)),
             bytes: self.bytes,
+            written: self.written,
             peak: self.peak.max(other.peak),
         }
     }
@@ -63,23 +68,28 @@ fn in_turn(rounds: usize, sides: &[Side], mut call: impl FnMut(Side)) -> Vec<f64
     best
 }
 
-/// Measures one text, in lent grids that were made for it; all sides must give the same grids.
+/// Measures one text, in lent grids that were made for it; all sides must give the same grids and write the same bytes.
 pub fn measure(rounds: usize, text: &[u8], mut lent: Lent) -> Found {
     let others: Vec<(&Side, Lent)> = OTHERS.iter().map(|side| (side, lent.clone())).collect();
     (MEASURED.read)(text, &mut lent.ground);
     let peak = peak(|| (MEASURED.map)(&mut lent));
+    (MEASURED.write)(&mut lent);
     for (side, mut other) in others {
         (side.read)(text, &mut other.ground);
         (side.map)(&mut other);
-        assert!(lent == other, "{} and {} must give the same grids", MEASURED.name, side.name);
+        (side.write)(&mut other);
+        assert!(lent == other, "{} and {} must give the same grids and bytes", MEASURED.name, side.name);
     }
     let reading = in_turn(rounds, &[MEASURED, PLAIN], |side| (side.read)(text, &mut lent.ground));
+    let writing = in_turn(rounds, &[MEASURED, PLAIN], |side| (side.write)(&mut lent));
     let mapping = in_turn(rounds, &all(), |side| (side.map)(&mut lent));
     Found {
         map: Pair { measured: mapping[0], plain: mapping[1] },
         text: Pair { measured: reading[0], plain: reading[1] },
+        write: Pair { measured: writing[0], plain: writing[1] },
         before: mapping.get(2).copied(),
         bytes: text.len(),
+        written: lent.written,
         peak,
     }
 }

@@ -2,11 +2,11 @@
 //! library of another commit, through the same declarations with other names, which the build makes.
 
 #[path = "../../host/src/library.rs"]
-#[allow(dead_code, reason = "the default settings are the other program's")]
+#[allow(dead_code, reason = "the default settings and the texts of counts and LS are the other program's")]
 mod library;
 
 #[cfg(before)]
-#[allow(dead_code, reason = "the default settings are the other program's")]
+#[allow(dead_code, reason = "the default settings and the texts of counts and LS are the other program's")]
 mod before {
     include!(env!("BEFORE"));
 }
@@ -17,18 +17,21 @@ use std::mem::take;
 /// The side of a library that a module declares. Cutoffs as in every measurement, and no channels.
 macro_rules! side {
     ($name:literal, $library:ident) => {{
-        use $library::{Grids, Header, Settings};
+        use $library::{Corners, Grids, Header, Numbers, Settings};
 
         const SETTINGS: Settings = Settings { low: CUTOFF, high: CUTOFF, kind: 0, cells: 0, percentage: 0.0 };
 
         fn read(text: &[u8], heights: &mut [i32]) {
-            let header = $library::read_header(text).ok().expect("a terrain's text is accepted");
+            let (header, _) = $library::read_header(text).ok().expect("a terrain's text is accepted");
             let whole = $library::read_grid(text, heights).ok().expect("a terrain's text is accepted");
             assert_eq!((header.rows, header.columns), (whole.rows, whole.columns));
         }
 
+        fn header(lent: &Lent) -> Header {
+            Header { rows: lent.rows, columns: lent.columns, side: lent.side, no_data: 0 }
+        }
+
         fn map(lent: &mut Lent) {
-            let header = Header { rows: lent.rows, columns: lent.columns, side: lent.side, no_data: 0 };
             let mut grids = Grids {
                 filled: take(&mut lent.filled),
                 direction: take(&mut lent.direction),
@@ -37,7 +40,8 @@ macro_rules! side {
                 factors: take(&mut lent.factors),
                 workspace: take(&mut lent.workspace),
             };
-            let totals = $library::map(header, SETTINGS, &lent.ground, &mut grids).ok().expect("a terrain is accepted");
+            let totals = $library::map(header(lent), SETTINGS, &lent.ground, &mut grids);
+            let totals = totals.ok().expect("a terrain is accepted");
             lent.answer = (totals.valid, totals.longest);
             Grids {
                 filled: lent.filled,
@@ -49,7 +53,13 @@ macro_rules! side {
             } = grids;
         }
 
-        Side { name: $name, read, map }
+        fn write(lent: &mut Lent) {
+            let (header, corners) = (header(lent), Corners { x: &lent.corners[0], y: &lent.corners[1] });
+            let written = $library::write(header, corners, Numbers::Heights(&lent.ground), &mut lent.room);
+            lent.written = written.ok().expect("a terrain's heights are accepted");
+        }
+
+        Side { name: $name, read, map, write }
     }};
 }
 

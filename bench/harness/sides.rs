@@ -1,7 +1,7 @@
 //! The sides: the plain program and, where they are built, the proved library and that of another commit.
 
 use crate::lent::{Lent, Side, CUTOFF};
-use plain::{Channel, Grids, Settings};
+use plain::{Channel, Frame, Grids, Settings};
 
 fn plain_read(text: &[u8], heights: &mut [i32]) {
     let header = plain::read_header(text).expect("a terrain's text is accepted");
@@ -22,7 +22,13 @@ fn plain_map(lent: &mut Lent) {
     lent.answer = answer.expect("a terrain is accepted");
 }
 
-pub const PLAIN: Side = Side { name: "plain", read: plain_read, map: plain_map };
+fn plain_write(lent: &mut Lent) {
+    let [x, y] = &lent.corners;
+    let frame = Frame { rows: lent.rows, columns: lent.columns, side: lent.side, corners: [x, y] };
+    lent.written = plain::write_heights(frame, &lent.ground, &mut lent.room).expect("a terrain's heights are accepted");
+}
+
+pub const PLAIN: Side = Side { name: "plain", read: plain_read, map: plain_map, write: plain_write };
 
 /// The side that is measured: the proved library, or the plain program itself where that is not built.
 #[cfg(rattle)]

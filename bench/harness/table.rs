@@ -9,9 +9,14 @@ fn growth(small: f64, large: f64) -> f64 {
     (large / small).log2() / ((LARGE * LARGE) as f64 / (SMALL * SMALL) as f64).log2()
 }
 
-/// Bytes of the text by the measured side's time, in MB/s.
-fn speed(found: &Found) -> f64 {
+/// Bytes of the text that is read by the measured side's time for it, in MB/s.
+fn text_speed(found: &Found) -> f64 {
     found.bytes as f64 / 1e3 / found.text.measured
+}
+
+/// The same of the text that is written.
+fn write_speed(found: &Found) -> f64 {
+    found.written as f64 / 1e3 / found.write.measured
 }
 
 /// The best of each side over the layouts, and the greatest peak.
@@ -22,14 +27,18 @@ fn best(lines: &[Line], terrain: &str, size: usize) -> Option<Found> {
 
 fn print_row(terrain: &str, small: &Found, large: &Found) {
     print!(
-        "{terrain:8} {:8.2} {:8.2} {:6.3} {:8.2} {:8.2} {:6.3} {:6.0} {:7.3} {:7.3} {:6}",
+        "{terrain:8} {:8.2} {:8.2} {:6.3} {:8.2} {:8.2} {:6.3} {:6.0} {:8.2} {:8.2} {:6.3} {:6.0} {:7.3} {:7.3} {:6}",
         large.map.measured,
         large.map.plain,
         large.map.ratio(),
         large.text.measured,
         large.text.plain,
         large.text.ratio(),
-        speed(large),
+        text_speed(large),
+        large.write.measured,
+        large.write.plain,
+        large.write.ratio(),
+        write_speed(large),
         growth(small.map.measured, large.map.measured),
         growth(small.map.plain, large.map.plain),
         large.peak,
@@ -44,14 +53,17 @@ fn print_row(terrain: &str, small: &Found, large: &Found) {
 fn print_lines(lines: &[Line], terrain: &str, small: &Found, large: &Found) {
     println!("ratio whole {terrain} {:.3}", large.map.ratio());
     println!("ratio text {terrain} {:.3}", large.text.ratio());
+    println!("ratio write {terrain} {:.3}", large.write.ratio());
     if let Some(ratio) = large.ratio_before() {
         println!("ratio before {terrain} {ratio:.3}");
     }
     println!("growth {terrain} {:.3}", growth(small.map.measured, large.map.measured));
-    println!("speed text {terrain} {:.0}", speed(large));
+    println!("speed text {terrain} {:.0}", text_speed(large));
+    println!("speed write {terrain} {:.0}", write_speed(large));
+    println!("speed write-by-text {terrain} {:.3}", write_speed(large) / text_speed(large));
     for line in lines.iter().filter(|line| line.terrain == terrain && line.size == LARGE) {
-        let (map, text) = (line.found.map.ratio(), line.found.text.ratio());
-        println!("layout {} {terrain} whole {map:.3} text {text:.3}", line.layout);
+        let [map, text, write] = [line.found.map, line.found.text, line.found.write].map(|pair| pair.ratio());
+        println!("layout {} {terrain} whole {map:.3} text {text:.3} write {write:.3}", line.layout);
     }
 }
 
@@ -59,8 +71,10 @@ fn print_lines(lines: &[Line], terrain: &str, small: &Found, large: &Found) {
 fn print_head(before: bool) {
     let (upper, lower) = if before { ("   before", "       ms  ratio") } else { ("", "") };
     println!("{} beside plain, {LARGE} x {LARGE} cells, best over rounds and layouts, processor time", MEASURED.name);
-    println!("             map    plain            text    plain                    map   plain   peak{upper}");
-    println!("terrain       ms       ms  ratio       ms       ms  ratio   MB/s  growth  growth    KiB{lower}");
+    print!("             map    plain            text    plain           ");
+    println!("        write    plain                    map   plain   peak{upper}");
+    print!("terrain       ms       ms  ratio       ms       ms  ratio   MB/s");
+    println!("       ms       ms  ratio   MB/s  growth  growth    KiB{lower}");
 }
 
 /// Prints the table and the plain lines.

@@ -1,7 +1,7 @@
-//! A plain, unverified program of the rules of docs/RULES.md, with the algorithms of crates/text, crates/terrain and
-//! crates/factor: what their speed is measured against. It makes no comparison that those make only for want of a proof
-//! of the order in which a stage works. Every grid is the caller's. The stages are not inlined, so that a profiler sees
-//! each.
+//! A plain, unverified program of the rules of docs/RULES.md, with the algorithms of crates/text, crates/terrain,
+//! crates/factor and crates/writer: what their speed is measured against. It makes no comparison that those make only
+//! for want of a proof of the order in which a stage works. Every grid is the caller's. The stages are not inlined, so
+//! that a profiler sees each.
 
 mod cells;
 mod direction;
@@ -17,15 +17,19 @@ mod slope;
 mod text;
 mod thresholds;
 mod trail;
+mod write;
 
 pub use map::{map, Grids};
 pub use settings::{Channel, Settings};
-pub use text::{read_grid, read_header, Header};
+pub use text::{read_grid, read_header, Header, Span};
+pub use write::{room, write_counts, write_factors, write_heights, Frame};
 
-/// docs/RULES.md, 1 Quantities: NoData as a height, as a code and as a factor, which is its fall too.
+/// docs/RULES.md, 1 Quantities: NoData as a height, as a code and as a factor, which is its fall too; and a factor that
+/// is too long.
 pub const NODATA: i32 = -999_900;
 pub const NO_CODE: u8 = 255;
 pub const NO_FACTOR: u32 = u32::MAX;
+pub const TOO_LONG: u32 = u32::MAX - 1;
 
 /// docs/RULES.md, 3 Numbers of refusal: number and place.
 #[derive(Clone, Copy, Debug, PartialEq, Eq)]

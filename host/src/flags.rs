@@ -21,11 +21,13 @@ impl Field {
     }
 }
 
-/// What the flags ask for. Without an output the sheet goes to standard output.
+/// What the flags ask for. Without an output the sheet goes to standard output, unless it is to be quiet.
 pub struct Flags {
     pub settings: Settings,
     pub output: Option<PathBuf>,
     pub grids: Option<PathBuf>,
+    pub text: Option<PathBuf>,
+    pub quiet: bool,
     pub verbose: bool,
 }
 
@@ -85,6 +87,8 @@ impl Flags {
             "--channel" => set_channel(&mut self.settings, &text(flag, words)?)?,
             "--output" => self.output = Some(value(flag, words)?).filter(|v| v != "-").map(PathBuf::from),
             "--grids" => self.grids = Some(value(flag, words)?.into()),
+            "--text" => self.text = Some(value(flag, words)?.into()),
+            "--quiet" => self.quiet = true,
             "--verbose" => self.verbose = true,
             _ => return Err(format!("{}: no such flag", flag.escape_debug())),
         }
@@ -106,7 +110,7 @@ fn only(fields: Vec<OsString>) -> Result<Field, String> {
 /// only without them the fields, for a word behind a wrong flag may have been meant as its value.
 pub fn read(words: impl Iterator<Item = OsString>, settings: Settings) -> Result<Asked, String> {
     let mut words = words.peekable();
-    let mut flags = Flags { settings, output: None, grids: None, verbose: false };
+    let mut flags = Flags { settings, output: None, grids: None, text: None, quiet: false, verbose: false };
     let (mut fields, mut wrong) = (Vec::new(), Vec::new());
     while let Some(word) = words.next() {
         match &*word.to_string_lossy() {
@@ -153,14 +157,17 @@ mod tests {
         assert_eq!(name, "a.asc");
         assert_eq!((flags.settings.low, flags.settings.high), (0.7, 0.5));
         assert_eq!(channel_text(&flags.settings), "percent:1");
-        assert_eq!((flags.output, flags.grids, flags.verbose), (None, None, false));
+        assert_eq!((flags.output, flags.grids, flags.text), (None, None, None));
+        assert_eq!((flags.quiet, flags.verbose), (false, false));
     }
 
     #[test]
     fn each_flag_sets_its_own() {
-        let (_, flags) = wanted("--low 0.29 --output out --verbose a.asc --high -0 --grids g");
+        let (_, flags) = wanted("--low 0.29 --output out --verbose a.asc --high -0 --grids g --text t");
         assert_eq!((flags.settings.low, flags.settings.high.to_bits()), (0.29, (-0.0f64).to_bits()));
-        assert_eq!((flags.output, flags.grids, flags.verbose), (Some("out".into()), Some("g".into()), true));
+        assert_eq!((flags.output, flags.grids), (Some("out".into()), Some("g".into())));
+        assert_eq!((flags.text, flags.quiet, flags.verbose), (Some("t".into()), false, true));
+        assert!(wanted("--quiet a.asc").1.quiet);
         assert_eq!(wanted("a.asc --low 0.1 --low 0.2").1.settings.low, 0.2);
     }
 
@@ -204,6 +211,7 @@ mod tests {
         assert_eq!(wrong("--low=0.5 a.asc"), "--low=0.5: no such flag");
         assert_eq!(wrong("--deep 3 a.asc -x"), "--deep: no such flag; -x: no such flag");
         assert_eq!(wrong("a.asc --low --grids"), "--low wants a value; --grids wants a value");
+        assert_eq!(wrong("--text --quiet a.asc"), "--text wants a value");
         assert_eq!(wrong("--output -- a.asc"), "--output wants a value");
         assert!(wrong("a.asc --low half --deep").ends_with("handed on; --deep: no such flag"));
     }

@@ -10,6 +10,10 @@ unsafe extern "C" {
         columns: &mut usize,
         side: &mut u32,
         no_data: &mut i64,
+        x_first: &mut usize,
+        x_length: &mut usize,
+        y_first: &mut usize,
+        y_length: &mut usize,
     ) -> u32;
 
     fn lsmap_read_grid(
@@ -53,6 +57,56 @@ unsafe extern "C" {
         valid: &mut u32,
         longest: &mut u32,
     ) -> u32;
+
+    fn lsmap_room(rows: usize, columns: usize) -> usize;
+
+    fn lsmap_write_heights(
+        rows: usize,
+        columns: usize,
+        side: u32,
+        x_corner: *const u8,
+        x_corner_len: usize,
+        y_corner: *const u8,
+        y_corner_len: usize,
+        heights: *const i32,
+        heights_len: usize,
+        room: *mut u8,
+        room_len: usize,
+        place: &mut usize,
+        length: &mut usize,
+    ) -> u32;
+
+    fn lsmap_write_counts(
+        rows: usize,
+        columns: usize,
+        side: u32,
+        x_corner: *const u8,
+        x_corner_len: usize,
+        y_corner: *const u8,
+        y_corner_len: usize,
+        counts: *const u32,
+        counts_len: usize,
+        room: *mut u8,
+        room_len: usize,
+        place: &mut usize,
+        length: &mut usize,
+    ) -> u32;
+
+    fn lsmap_write_factors(
+        rows: usize,
+        columns: usize,
+        side: u32,
+        x_corner: *const u8,
+        x_corner_len: usize,
+        y_corner: *const u8,
+        y_corner_len: usize,
+        factors: *const u32,
+        factors_len: usize,
+        room: *mut u8,
+        room_len: usize,
+        place: &mut usize,
+        length: &mut usize,
+    ) -> u32;
 }
 
 /// A refusal's number and place.
@@ -69,6 +123,13 @@ pub struct Header {
     pub columns: usize,
     pub side: u32,
     pub no_data: i64,
+}
+
+/// The words of the two corners, as the text has them.
+#[derive(Clone, Copy)]
+pub struct Corners<'a> {
+    pub x: &'a [u8],
+    pub y: &'a [u8],
 }
 
 /// The two cutoffs and the channel rule as the library takes them: kind 0 is none, 1 cells, 2 a percentage.
@@ -89,6 +150,14 @@ pub struct Grids {
     pub lengths: Vec<u64>,
     pub factors: Vec<u32>,
     pub workspace: Vec<u32>,
+}
+
+/// A grid that is to be written as a text.
+#[derive(Clone, Copy)]
+pub enum Numbers<'a> {
+    Heights(&'a [i32]),
+    Counts(&'a [u32]),
+    Factors(&'a [u32]),
 }
 
 /// The number of valid cells and the steps of the longest trail.
@@ -116,31 +185,32 @@ fn answer<T>(number: u32, place: usize, value: T) -> Result<T, Refusal> {
     if number == 0 { Ok(value) } else { Err(Refusal { number, place }) }
 }
 
-/// Reads the header alone or, where heights are lent, the whole text into them, in cm.
-fn read(text: &[u8], heights: Option<&mut [i32]>) -> Result<Header, Refusal> {
-    let (mut place, mut header) = (0, Header::default());
-    let Header { rows, columns, side, no_data } = &mut header;
-    let (start, length) = (text.as_ptr(), text.len());
+/// The header call.
+pub fn read_header(text: &[u8]) -> Result<(Header, Corners<'_>), Refusal> {
+    let (mut place, mut h) = (0, Header::default());
+    let (mut x_first, mut x_length, mut y_first, mut y_length) = (0, 0, 0, 0);
     #[rustfmt::skip]
     let number = unsafe {
-        match heights {
-            None => lsmap_read_header(start, length, &mut place, rows, columns, side, no_data),
-            Some(lent) => lsmap_read_grid(
-                start, length, lent.as_mut_ptr(), lent.len(), &mut place, rows, columns, side, no_data,
-            ),
-        }
+        lsmap_read_header(
+            text.as_ptr(), text.len(), &mut place, &mut h.rows, &mut h.columns, &mut h.side, &mut h.no_data,
+            &mut x_first, &mut x_length, &mut y_first, &mut y_length,
+        )
     };
-    answer(number, place, header)
+    let corners = Corners { x: &text[x_first..x_first + x_length], y: &text[y_first..y_first + y_length] };
+    answer(number, place, (h, corners))
 }
 
-/// The header call.
-pub fn read_header(text: &[u8]) -> Result<Header, Refusal> {
-    read(text, None)
-}
-
-/// The grid call.
+/// The grid call: reads the whole text into the heights, in cm.
 pub fn read_grid(text: &[u8], heights: &mut [i32]) -> Result<Header, Refusal> {
-    read(text, Some(heights))
+    let (mut place, mut h) = (0, Header::default());
+    #[rustfmt::skip]
+    let number = unsafe {
+        lsmap_read_grid(
+            text.as_ptr(), text.len(), heights.as_mut_ptr(), heights.len(),
+            &mut place, &mut h.rows, &mut h.columns, &mut h.side, &mut h.no_data,
+        )
+    };
+    answer(number, place, h)
 }
 
 /// The library's default settings.
@@ -168,4 +238,31 @@ pub fn map(h: Header, s: Settings, ground: &[i32], g: &mut Grids) -> Result<Tota
         )
     };
     answer(number, place, t)
+}
+
+/// The bytes in which every text of a shape has room.
+pub fn room(h: Header) -> usize {
+    unsafe { lsmap_room(h.rows, h.columns) }
+}
+
+/// Writes a grid as a text into the room: the text's length.
+pub fn write(h: Header, c: Corners, grid: Numbers, room: &mut [u8]) -> Result<usize, Refusal> {
+    let (mut place, mut length) = (0, 0);
+    let (x, x_len, y, y_len) = (c.x.as_ptr(), c.x.len(), c.y.as_ptr(), c.y.len());
+    let (start, end) = (room.as_mut_ptr(), room.len());
+    #[rustfmt::skip]
+    let number = unsafe {
+        match grid {
+            Numbers::Heights(g) => lsmap_write_heights(
+                h.rows, h.columns, h.side, x, x_len, y, y_len, g.as_ptr(), g.len(), start, end, &mut place, &mut length,
+            ),
+            Numbers::Counts(g) => lsmap_write_counts(
+                h.rows, h.columns, h.side, x, x_len, y, y_len, g.as_ptr(), g.len(), start, end, &mut place, &mut length,
+            ),
+            Numbers::Factors(g) => lsmap_write_factors(
+                h.rows, h.columns, h.side, x, x_len, y, y_len, g.as_ptr(), g.len(), start, end, &mut place, &mut length,
+            ),
+        }
+    };
+    answer(number, place, length)
 }

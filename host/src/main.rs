@@ -9,14 +9,17 @@ mod number;
 mod output;
 mod sheet;
 mod summary;
+mod texts;
 
 use flags::{Asked, Field, Flags};
-use library::{Grids, Header, Refusal, Settings, Totals};
+use library::{Corners, Grids, Header, Refusal, Settings, Totals};
 use output::Output;
 use std::fs;
 use std::io::{self, ErrorKind, IsTerminal, Read, Write};
+use std::path::PathBuf;
 use std::process::ExitCode;
 use std::time::Instant;
+use texts::Texts;
 
 const HELP: &str = include_str!("help.txt");
 
@@ -24,8 +27,9 @@ const HELP: &str = include_str!("help.txt");
 const VERSION: Option<&str> = option_env!("LSMAP_VERSION");
 
 /// An accepted field with its grids.
-pub struct Map {
+pub struct Map<'a> {
     pub header: Header,
+    pub corners: Corners<'a>,
     pub totals: Totals,
     pub ground: Vec<i32>,
     pub grids: Grids,
@@ -75,29 +79,45 @@ fn read(field: &Field) -> io::Result<Vec<u8>> {
 }
 
 /// Has the library read and map a text.
-fn map(name: &str, text: &[u8], settings: Settings) -> Result<Map, Stop> {
+fn map<'a>(name: &str, text: &'a [u8], settings: Settings) -> Result<Map<'a>, Stop> {
     let of_text = |r, h| Stop::Refused(r, format!("{name}: {}", messages::of_text(text, r, h)));
-    let header = library::read_header(text).map_err(|r| of_text(r, None))?;
+    let (header, corners) = library::read_header(text).map_err(|r| of_text(r, None))?;
     let mut ground = vec![0; header.rows * header.columns];
     let header = library::read_grid(text, &mut ground).map_err(|r| of_text(r, Some(header)))?;
     let mut grids = Grids::new(ground.len());
     let totals = library::map(header, settings, &ground, &mut grids)
         .map_err(|r| Stop::Refused(r, format!("{name}: {}", messages::of_map(r, header))))?;
-    Ok(Map { header, totals, ground, grids })
+    Ok(Map { header, corners, totals, ground, grids })
 }
 
-/// Writes the sheet to standard output, or to a file that appears when it is whole; the grids before it.
+/// Writes the sheet to standard output, or to a file that appears when it is whole; the grids and the texts before it.
 fn write(map: &Map, flags: &Flags) -> Result<(), Stop> {
     let name = flags.output.as_deref().map_or("standard output".into(), |path| path.to_string_lossy());
     let failed = |e| cannot_write(&name, &e);
     let output = flags.output.as_deref().map(Output::begin).transpose().map_err(failed)?;
-    if let Some(folder) = &flags.grids {
-        grids::write(folder, map).map_err(Stop::CouldNotRun)?;
-    }
+    write_grids(map, flags).map_err(Stop::CouldNotRun)?;
     match output {
+        None if flags.quiet => Ok(()),
         None => sheet::write(&mut io::stdout().lock(), map).map_err(failed),
         Some(mut output) => sheet::write(&mut output.file, map).and_then(|()| output.finish()).map_err(failed),
     }
+}
+
+/// Writes the grids and the texts, which take their places when all else is there.
+fn write_grids(map: &Map, flags: &Flags) -> Result<(), String> {
+    let texts = flags.text.as_deref().map(|folder| texts::store(folder, map)).transpose()?;
+    if let Some(folder) = &flags.grids {
+        grids::write(folder, map)?;
+    }
+    texts.map_or(Ok(()), Texts::finish)
+}
+
+/// A file to be written that is the field itself, with its flag.
+fn field_itself(field: &Field, flags: &Flags) -> Option<(&'static str, PathBuf)> {
+    let Field::File(field) = field else { return None };
+    let output = flags.output.iter().map(|path| ("--output", path.clone()));
+    let texts = flags.text.iter().flat_map(|folder| texts::paths(folder)).map(|path| ("--text", path));
+    output.chain(texts).find(|(_, path)| output::same(field, path))
 }
 
 /// Reads, maps and writes one field.
@@ -106,16 +126,14 @@ fn run(field: &Field, flags: &Flags) -> Result<(), Stop> {
     if flags.verbose {
         tell_settings(&flags.settings);
     }
-    if let (Field::File(path), Some(output)) = (field, &flags.output)
-        && output::same(path, output)
-    {
-        return Err(Stop::CouldNotRun(format!("--output: {} is the field itself", output.display())));
+    if let Some((flag, path)) = field_itself(field, flags) {
+        return Err(Stop::CouldNotRun(format!("{flag}: {} is the field itself", path.display())));
     }
     let name = field.name();
     let text = read(field).map_err(|e| Stop::CouldNotRun(format!("cannot read {name}: {}", reason(&e))))?;
     let map = map(&name, &text, flags.settings)?;
     write(&map, flags)?;
-    if io::stderr().is_terminal() {
+    if !flags.quiet && io::stderr().is_terminal() {
         tell(&summary::line(&map, start.elapsed().as_secs_f64()));
     }
     Ok(())

@@ -89,6 +89,18 @@ pub fn of_map(refusal: Refusal, header: Header) -> String {
     format!("refused {number} at {place}: {what}")
 }
 
+/// The message for a refusal of a write call. What lsmap hands on there was accepted before, so the fault is its own.
+pub fn of_write(refusal: Refusal) -> String {
+    let Refusal { number, place } = refusal;
+    let what = match (number, place) {
+        (7, 1) => "the word handed on for xllcorner is no number",
+        (7, _) => "the word handed on for yllcorner is no number",
+        (13, _) => "the text is longer than the room for it",
+        _ => expected(number),
+    };
+    format!("refused {number} at {place}: {what}; that should not happen and is a fault of lsmap")
+}
+
 #[cfg(test)]
 mod tests {
     use super::*;
@@ -162,5 +174,17 @@ mod tests {
         assert!(said(4, 3).starts_with("refused 4 at 3: --channel percent:P takes"));
         assert!(said(5, 5).starts_with("refused 5 at 5: row 1, column 2: a height is"));
         assert!(said(2, 0).starts_with("refused 2 at 0: a lent grid has the wrong length"));
+    }
+
+    #[test]
+    fn a_text_that_is_not_written_is_a_fault_of_lsmap() {
+        let said = |number, place| of_write(Refusal { number, place });
+        assert!(
+            said(7, 1).starts_with("refused 7 at 1: the word handed on for xllcorner is no number; that should not")
+        );
+        assert!(said(7, 2).starts_with("refused 7 at 2: the word handed on for yllcorner is no number;"));
+        assert!(said(13, 0).starts_with("refused 13 at 0: the text is longer than the room for it;"));
+        assert!(said(5, 8).starts_with("refused 5 at 8: a height is from -500 to 9000 m"));
+        assert!([1, 2, 3, 5, 7, 13].iter().all(|&number| said(number, 0).ends_with("is a fault of lsmap")));
     }
 }

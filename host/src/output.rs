@@ -40,8 +40,14 @@ impl Output {
         }
     }
 
-    /// Puts the whole file into its place.
+    /// Has the system store what was written; a device or a pipe has nothing to store.
+    pub fn store(&self) -> io::Result<()> {
+        if self.part.is_some() { self.file.sync_all() } else { Ok(()) }
+    }
+
+    /// Puts the whole file, once it is stored, into its place.
     pub fn finish(mut self) -> io::Result<()> {
+        self.store()?;
         if let Some(part) = &self.part {
             fs::rename(part, &self.place)?;
         }

@@ -3,25 +3,38 @@
 
 mod library;
 
-use library::{Grids, Refusal, Settings};
+use library::{Grids, Numbers, Refusal, Settings};
 
 const STACK: usize = 64 * 1024;
 
-/// Reads and maps a field, and says what was answered.
-fn calls(text: &[u8], ground: &mut [i32], grids: &mut Grids, settings: Settings) -> Result<(), Refusal> {
-    library::read_header(text)?;
+/// What is lent: the ground, the grids of its map, and the room for a text.
+struct Lent {
+    ground: Vec<i32>,
+    grids: Grids,
+    room: Vec<u8>,
+}
+
+/// Reads, maps and writes a field.
+fn calls(text: &[u8], settings: Settings, lent: &mut Lent) -> Result<(), Refusal> {
+    let Lent { ground, grids, room } = lent;
+    let (_, corners) = library::read_header(text)?;
     let header = library::read_grid(text, ground)?;
-    library::map(header, settings, ground, grids).map(|_| ())
+    library::map(header, settings, ground, grids)?;
+    library::write(header, corners, Numbers::Heights(&grids.filled), room)?;
+    library::write(header, corners, Numbers::Counts(&grids.count), room)?;
+    library::write(header, corners, Numbers::Factors(&grids.factors), room)?;
+    Ok(())
 }
 
 fn main() {
     let name = std::env::args_os().nth(1).expect("stack FIELD.asc");
     let text = std::fs::read(name).expect("a file that can be read");
-    let cells = library::read_header(&text).map_or(0, |h| h.rows * h.columns);
-    let (mut ground, mut grids) = (vec![0; cells], Grids::new(cells));
+    let header = library::read_header(&text).map(|(header, _)| header).unwrap_or_default();
+    let cells = header.rows * header.columns;
+    let mut lent = Lent { ground: vec![0; cells], grids: Grids::new(cells), room: vec![0; library::room(header)] };
     let settings = library::default_settings();
     let thread = std::thread::Builder::new().stack_size(STACK);
-    let running = thread.spawn(move || calls(&text, &mut ground, &mut grids, settings));
+    let running = thread.spawn(move || calls(&text, settings, &mut lent));
     match running.expect("a thread").join().expect("an answer") {
         Ok(()) => println!("accepted within {STACK} bytes of stack"),
         Err(r) => println!("refused {} at {} within {STACK} bytes of stack", r.number, r.place),

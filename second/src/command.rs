@@ -1,20 +1,24 @@
 //! What the command line asks for, and doing it.
 
-use crate::checks::{compare, full, selfcheck};
+use crate::checks::{compare, full, selfcheck, texts};
 use crate::rules::grid::MOST_ROWS;
+use crate::rules::grid_texts::{grid_texts, NAMES};
 use crate::rules::program::Program;
+use crate::rules::refusal::Refusal;
 use crate::rules::sheet::sheet;
 use crate::texts::{cases, telling, terrains};
 use std::io::{self, Read, Write};
 
 pub const USAGE: &str = "usage: second sheet [--program PROGRAM] < TEXT    PROGRAM: printer job; printer if not named
        second sheets [--program PROGRAM] < STREAM
+       second text [--program PROGRAM] GRID < TEXT       GRID: ground filled count ls
        second cases SEED N
        second telling SEED N
        second count-telling < STREAM
        second terrain NAME SIZE SEED     NAME: fractal noise flat plane pit spiral comb; SIZE: 1 to 1024
        second compare [--program PROGRAM] SEED N PRINTER...
        second full SIZE PROGRAM...
+       second texts SEED N PROGRAM...
        second selfcheck";
 
 /// A command with its words read; programs are given as their words.
@@ -22,12 +26,14 @@ pub const USAGE: &str = "usage: second sheet [--program PROGRAM] < TEXT    PROGR
 pub enum Command<'a> {
     Sheet { program: Program },
     Sheets { program: Program },
+    Text { program: Program, grid: usize },
     Cases { seed: u64, number: usize },
     Telling { seed: u64, number: usize },
     CountTelling,
     Terrain { kind: usize, size: usize, seed: u64 },
     Compare { program: Program, seed: u64, number: usize, printer: &'a [&'a str] },
     Full { size: usize, program: &'a [&'a str] },
+    Texts { seed: u64, number: usize, program: &'a [&'a str] },
     Selfcheck,
 }
 
@@ -38,6 +44,11 @@ fn whole<T: std::str::FromStr>(word: &str) -> Option<T> {
 /// The rows and columns of a terrain.
 fn size(word: &str) -> Option<usize> {
     whole(word).filter(|size| (1..=MOST_ROWS).contains(size))
+}
+
+/// The grid of this name.
+fn grid(name: &str) -> Option<usize> {
+    NAMES.iter().position(|&known| known == name)
 }
 
 fn standard_input() -> io::Result<Vec<u8>> {
@@ -51,6 +62,12 @@ fn sheets(stream: &[u8], program: Program) -> io::Result<String> {
     let texts = cases::texts(stream)?;
     let numbered = |(number, text): (usize, &&[u8])| format!("case {number}\n{}", sheet(text, program.settings()));
     Ok(texts.iter().enumerate().map(numbered).collect())
+}
+
+/// The text of a grid of a field's map; a refusal as a sheet has it.
+fn grid_text(text: &[u8], program: Program, grid: usize) -> Vec<u8> {
+    let refused = |Refusal { number, place }| format!("refused {number} at {place}\n").into_bytes();
+    grid_texts(text, program.settings()).map_or_else(refused, |texts| texts[grid].clone())
 }
 
 /// The number of telling texts in a framed stream.
@@ -70,11 +87,12 @@ impl<'a> Command<'a> {
         }
     }
 
-    /// A command that prints or compares a program's sheets.
+    /// A command that prints or compares a program's sheets, or prints a text under its settings.
     fn for_program(program: Program, name: &str, words: &'a [&'a str]) -> Option<Command<'a>> {
         Some(match (name, words) {
             ("sheet", []) => Command::Sheet { program },
             ("sheets", []) => Command::Sheets { program },
+            ("text", [name]) => Command::Text { program, grid: grid(name)? },
             ("compare", [seed, number, printer @ ..]) if !printer.is_empty() => {
                 Command::Compare { program, seed: whole(seed)?, number: whole(number)?, printer }
             }
@@ -92,6 +110,9 @@ impl<'a> Command<'a> {
                 Command::Terrain { kind: terrains::kind(name)?, size: size(rows)?, seed: whole(seed)? }
             }
             ["full", rows, program @ ..] if !program.is_empty() => Command::Full { size: size(rows)?, program },
+            ["texts", seed, number, program @ ..] if !program.is_empty() => {
+                Command::Texts { seed: whole(seed)?, number: whole(number)?, program }
+            }
             ["selfcheck"] => Command::Selfcheck,
             _ => return None,
         })
@@ -103,12 +124,14 @@ impl<'a> Command<'a> {
         match *self {
             Command::Sheet { program } => output.write_all(sheet(&standard_input()?, program.settings()).as_bytes()),
             Command::Sheets { program } => output.write_all(sheets(&standard_input()?, program)?.as_bytes()),
+            Command::Text { program, grid } => output.write_all(&grid_text(&standard_input()?, program, grid)),
             Command::Cases { seed, number } => output.write_all(&cases::stream(cases::case, seed, number)),
             Command::Telling { seed, number } => output.write_all(&cases::stream(telling::text, seed, number)),
             Command::CountTelling => writeln!(output, "{}", count_telling(&standard_input()?)?),
             Command::Terrain { kind, size, seed } => output.write_all(&terrains::terrain_text(kind, size, seed)),
             Command::Compare { program, seed, number, printer } => compare::compare(program, seed, number, printer),
             Command::Full { size, program } => full::compare(size, program),
+            Command::Texts { seed, number, program } => texts::compare(seed, number, program),
             Command::Selfcheck => {
                 selfcheck::selfcheck();
                 Ok(())
@@ -128,6 +151,8 @@ mod tests {
         assert_eq!(Command::of(&["count-telling"]), Some(Command::CountTelling));
         let full = Command::Full { size: 1_024, program: &["valgrind", "lsmap"] };
         assert_eq!(Command::of(&["full", "1024", "valgrind", "lsmap"]), Some(full));
+        let texts = Command::Texts { seed: 1, number: 50, program: &["lsmap"] };
+        assert_eq!(Command::of(&["texts", "1", "50", "lsmap"]), Some(texts));
         for (kind, (name, ..)) in terrains::TERRAINS.iter().enumerate() {
             assert_eq!(Command::of(&["terrain", name, "1", "0"]), Some(Command::Terrain { kind, size: 1, seed: 0 }));
             assert!(USAGE.contains(name));
@@ -142,6 +167,8 @@ mod tests {
         assert_eq!(Command::of(&["sheet", "--program", "printer"]), Some(Command::Sheet { program: printer }));
         assert_eq!(Command::of(&["sheets"]), Some(Command::Sheets { program: printer }));
         assert_eq!(Command::of(&["sheets", "--program", "job"]), Some(Command::Sheets { program: job }));
+        assert_eq!(Command::of(&["text", "ground"]), Some(Command::Text { program: printer, grid: 0 }));
+        assert_eq!(Command::of(&["text", "--program", "job", "ls"]), Some(Command::Text { program: job, grid: 3 }));
         let compare = |program| Some(Command::Compare { program, seed: 1, number: 10, printer: &["valgrind", "job"] });
         assert_eq!(Command::of(&["compare", "1", "10", "valgrind", "job"]), compare(printer));
         assert_eq!(Command::of(&["compare", "--program", "job", "1", "10", "valgrind", "job"]), compare(job));
@@ -149,7 +176,7 @@ mod tests {
 
     #[test]
     fn other_words_are_a_usage_error() {
-        let wrong: [&[&str]; 20] = [
+        let wrong: [&[&str]; 24] = [
             &[],
             &["sheet", "field.asc"],
             &["sheet", "--program"],
@@ -170,6 +197,10 @@ mod tests {
             &["compare", "--program", "Job", "1", "10", "target/bin/job"],
             &["full", "256"],
             &["full", "big", "target/lsmap"],
+            &["text"],
+            &["text", "length"],
+            &["text", "ls", "--program", "job"],
+            &["texts", "1", "50"],
         ];
         wrong.iter().for_each(|words| assert_eq!(Command::of(words), None));
     }

@@ -1,4 +1,5 @@
-//! The second program: the reader, the map and the sheet of docs/RULES.md once more, literal rather than fast.
+//! The second program: the reader, the map, the sheet and the writer of docs/RULES.md once more, literal rather than
+//! fast.
 
 mod checks;
 mod command;

@@ -2,7 +2,8 @@
 ghost use mathlib.Core.Path.{_≡_};
 ghost use Rattle.text.specs.Answers.{outcomeOf};
 ghost use Rattle.factor.specs.Answers.{told};
-ghost use Rattle.fullsize.specs.Lent.{readingAfter, mappingAfter};
+ghost use Rattle.writer.specs.Answers as W;
+ghost use Rattle.fullsize.specs.Lent.{readingAfter, cornersAfter, mappingAfter, writingAfter};
 
 // Hands out the answer of a reading.
 pub(crate) fn hand_out_reading(
@@ -36,6 +37,22 @@ pub(crate) fn hand_out_reading(
     }
 }
 
+// Hands out where the corner words stand.
+pub(crate) fn hand_out_corners(
+    corners: text::Corners,
+    x_first: &mut usize,
+    x_length: &mut usize,
+    y_first: &mut usize,
+    y_length: &mut usize,
+)
+    ensures { λ _. ⌜ cornersAfter «x_first» «x_length» «y_first» «y_length» ≡ corners ⌝ }
+{
+    *x_first = corners.x.first;
+    *x_length = corners.x.length;
+    *y_first = corners.y.first;
+    *y_length = corners.y.length;
+}
+
 // Hands out the answer of a map call.
 pub(crate) fn hand_out_mapping(
     answer: factor::Answer,
@@ -59,6 +76,24 @@ pub(crate) fn hand_out_mapping(
             *place = refusal.place;
             *valid = 0;
             *longest = 0;
+            refusal.number
+        }
+    }
+}
+
+// Hands out the answer of a call that writes a text.
+pub(crate) fn hand_out_writing(answer: writer::Answer, place: &mut usize, length: &mut usize) -> u32
+    ensures { λ r. ⌜ writingAfter r place length ≡ W.told answer ⌝ }
+{
+    match answer {
+        writer::Answer::Accepted { length: bytes } => {
+            *place = 0;
+            *length = bytes;
+            0
+        }
+        writer::Answer::Refused(refusal) => {
+            *place = refusal.place;
+            *length = 0;
             refusal.number
         }
     }

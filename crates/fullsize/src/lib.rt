@@ -7,16 +7,20 @@ mod answers;
 mod crossing;
 
 ghost use mathlib.Core.Path.{_≡_};
-ghost use Rattle.text.specs.Answers.{headerAnswer, gridAnswer};
+ghost use Rattle.text.specs.Answers.{headerAnswer, cornersAnswer, gridAnswer};
 ghost use Rattle.settings.specs.Settings.{defaultSettings};
 ghost use Rattle.terrain.specs.Drainage.{Trails, Totals, Surface};
 ghost use Rattle.factor.specs.Answers.{answer, after, told, lentBefore, lentAfter};
+ghost use Rattle.writer.specs.Text.{frame};
+ghost use Rattle.writer.specs.Answers.{heightCells, countCells, factorCells};
+ghost use Rattle.writer.specs.Answers as W;
+ghost use Rattle.writer.specs.Rooms.{roomFor, Holds};
 ghost use Rattle.fullsize.specs.Outcomes.{gridReading};
 ghost use Rattle.fullsize.specs.Crossing.{numbersOf, settingsOf};
-ghost use Rattle.fullsize.specs.Lent.{readingAfter, mappingAfter, numbersAfter};
+ghost use Rattle.fullsize.specs.Lent.{readingAfter, cornersAfter, mappingAfter, numbersAfter, writingAfter};
 use settings::Settings;
 
-// Reads the header alone: `text::read_header`.
+// Reads the header alone: `text::read_header`. The last four numbers tell where the words of the two corner numbers stand.
 #[no_mangle]
 pub extern "C" fn lsmap_read_header(
     text: &[u8],
@@ -25,10 +29,18 @@ pub extern "C" fn lsmap_read_header(
     columns: &mut usize,
     side: &mut u32,
     no_data: &mut i64,
+    x_first: &mut usize,
+    x_length: &mut usize,
+    y_first: &mut usize,
+    y_length: &mut usize,
 ) -> u32
-    ensures { λ r. ⌜ readingAfter r place rows columns side no_data ≡ headerAnswer (now (text .entry)) ⌝ }
+    ensures answers { λ r. ⌜ readingAfter r place rows columns side no_data ≡ headerAnswer (now (text .entry)) ⌝ }
+    ensures corners { λ _. ⌜ cornersAfter «x_first» «x_length» «y_first» «y_length» ≡ cornersAnswer (now (text .entry)) ⌝ }
 {
-    let answer = text::read_header(text);
+    let read = text::read_header(text);
+    let answer = read.answer;
+    let corners = read.corners;
+    answers::hand_out_corners(corners, x_first, x_length, y_first, y_length);
     answers::hand_out_reading(answer, place, rows, columns, side, no_data)
 }
 
@@ -113,4 +125,79 @@ pub extern "C" fn lsmap_map(
         workspace,
     );
     answers::hand_out_mapping(answer, place, valid, longest)
+}
+
+// Writes ground or filled heights as a text into the lent room: `writer::write_heights`.
+#[no_mangle]
+pub extern "C" fn lsmap_write_heights(
+    rows: usize,
+    columns: usize,
+    side: u32,
+    x_corner: &[u8],
+    y_corner: &[u8],
+    heights: &[i32],
+    room: &mut [u8],
+    place: &mut usize,
+    length: &mut usize,
+) -> u32
+    ensures answers { λ r. ⌜ writingAfter r place length ≡ W.told (W.answer (frame rows columns side (now («x_corner» .entry)) (now («y_corner» .entry)))
+        (heightCells (frame rows columns side (now («x_corner» .entry)) (now («y_corner» .entry))) (now (heights .entry))) (now (room .entry))) ⌝ }
+    ensures leaves { λ _. ⌜ now (room .exit) ≡ W.after (frame rows columns side (now («x_corner» .entry)) (now («y_corner» .entry)))
+        (heightCells (frame rows columns side (now («x_corner» .entry)) (now («y_corner» .entry))) (now (heights .entry))) (now (room .entry)) ⌝ }
+{
+    let answer = writer::write_heights(rows, columns, side, x_corner, y_corner, heights, room);
+    answers::hand_out_writing(answer, place, length)
+}
+
+// Writes flow counts: `writer::write_counts`.
+#[no_mangle]
+pub extern "C" fn lsmap_write_counts(
+    rows: usize,
+    columns: usize,
+    side: u32,
+    x_corner: &[u8],
+    y_corner: &[u8],
+    counts: &[u32],
+    room: &mut [u8],
+    place: &mut usize,
+    length: &mut usize,
+) -> u32
+    ensures answers { λ r. ⌜ writingAfter r place length ≡ W.told (W.answer (frame rows columns side (now («x_corner» .entry)) (now («y_corner» .entry)))
+        (countCells (now (counts .entry))) (now (room .entry))) ⌝ }
+    ensures leaves { λ _. ⌜ now (room .exit) ≡ W.after (frame rows columns side (now («x_corner» .entry)) (now («y_corner» .entry)))
+        (countCells (now (counts .entry))) (now (room .entry)) ⌝ }
+{
+    let answer = writer::write_counts(rows, columns, side, x_corner, y_corner, counts, room);
+    answers::hand_out_writing(answer, place, length)
+}
+
+// Writes LS: `writer::write_factors`.
+#[no_mangle]
+pub extern "C" fn lsmap_write_factors(
+    rows: usize,
+    columns: usize,
+    side: u32,
+    x_corner: &[u8],
+    y_corner: &[u8],
+    factors: &[u32],
+    room: &mut [u8],
+    place: &mut usize,
+    length: &mut usize,
+) -> u32
+    ensures answers { λ r. ⌜ writingAfter r place length ≡ W.told (W.answer (frame rows columns side (now («x_corner» .entry)) (now («y_corner» .entry)))
+        (factorCells (now (factors .entry))) (now (room .entry))) ⌝ }
+    ensures leaves { λ _. ⌜ now (room .exit) ≡ W.after (frame rows columns side (now («x_corner» .entry)) (now («y_corner» .entry)))
+        (factorCells (now (factors .entry))) (now (room .entry)) ⌝ }
+{
+    let answer = writer::write_factors(rows, columns, side, x_corner, y_corner, factors, room);
+    answers::hand_out_writing(answer, place, length)
+}
+
+// How many bytes a room needs for any text of a shape: `writer::room`.
+#[no_mangle]
+pub extern "C" fn lsmap_room(rows: usize, columns: usize) -> usize
+    ensures is { λ r. ⌜ r ≡ roomFor rows columns ⌝ }
+    ensures holds { λ r. ⌜ Holds rows columns r ⌝ }
+{
+    writer::room(rows, columns)
 }

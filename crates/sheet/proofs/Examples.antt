@@ -5,7 +5,7 @@ use Prim.Native.String.{String}
 use Rattle.text.specs.Bytes.{bytes}
 use Rattle.text.specs.Words.{run, wordStart, wordEnd, word}
 use Rattle.text.specs.Numbers.{value, countFormAt, decimals, numberAt, firstComma, commaDecimal, read, count, number, measure}
-use Rattle.text.specs.Headers.{named, name, corner, side, field, anyMeasure, noData, extent, corners, sideAndNoData, header}
+use Rattle.text.specs.Headers.{named, name, corner, side, field, anyMeasure, noData, extent, corners, sideAndNoData, head, header}
 use Rattle.text.specs.Heights.{height, heights, end, body, grid}
 use Rattle.text.specs.Ranges.{sizeTest, lengthTest, sideTest, heightTest}
 use Rattle.settings.specs.Settings.{quotient, settingsTest}
@@ -43,5 +43,5 @@ examples =
     record { text = "ncols 1024 nrows 3 xllcorner 0 yllcorner 0 cellsize 0"; sheet = "refused 3 at 52\n" } ∷ []
 
 pub examples-hold : map (λ (x : Example). sheetOf (bytes (x .text)) half) examples ≡ map (λ (x : Example). bytes (x .sheet)) examples
-unfolding examples sheetOf bytes half run wordStart wordEnd word value countFormAt decimals numberAt firstComma commaDecimal read count number measure named name corner side field anyMeasure noData extent corners sideAndNoData header height heights end body grid sizeTest lengthTest sideTest settingsTest heightTest
+unfolding examples sheetOf bytes half run wordStart wordEnd word value countFormAt decimals numberAt firstComma commaDecimal read count number measure named name corner side field anyMeasure noData extent corners sideAndNoData head header height heights end body grid sizeTest lengthTest sideTest settingsTest heightTest
 examples-hold = refl

@@ -1,22 +1,18 @@
 -- Laws of a sheet's lines: what a cell shows, by its ground, and the lines of one cell more. Assumes nothing.
 use mathlib.Core.Path.{_≡_, refl, ap, ap₂}
-use mathlib.Core.Bool.{Bool, true, false, cond, _&&_}
+use mathlib.Core.Bool.{Bool, true, false, cond}
 use mathlib.Core.List.{List, _∷_, _++_}
 use Prim.Native.Nat.{ℕ, _+_, _/_, _%_}
 use native.Mathlib.Numerals.{add-one}
 use lib.ListN.{replicate}
-use lib.Dec.{leb}
-use lib.IntN.{ℤ, pos, negsuc}
-use borrow.Author.Tests.{lt-leb}
-use native.Mathlib.Omega.{arith}
-use native.Mathlib.Decide.{decLt, ℕ-discrete}
+use lib.IntN.{ℤ}
 use Rattle.text.specs.Bytes.{bytes}
 use Rattle.text.specs.Heights.{same}
 use Rattle.text.specs.Quantities.{noDataHeight}
-use Rattle.sheet.specs.Words.{decimal, line}
+use Rattle.numerals.specs.Words.{decimal, line}
 use Rattle.sheet.specs.Lines.{valueWords, shownWords, cellLine, Grids, cellOf, cellLines}
-use Rattle.sheet.specs.InnerWriting.{Wrote}
-use Rattle.sheet.proofs.InnerWriting.{wrote-none, wrote-as, wrote-then}
+use Rattle.numerals.specs.Writing.{Wrote}
+use Rattle.numerals.proofs.Writing.{wrote-none, wrote-as, wrote-then}
 use Rattle.sheet.specs.declared.lines.Cell.{Cell}
 
 either : (b : Bool) (w v x y : List ℕ) (xs ys : List (List ℕ)) → line (w ∷ v ∷ cond b (x ∷ xs) (y ∷ ys)) ≡ w ++ (32 ∷ (v ++ (32 ∷ line (cond b (x ∷ xs) (y ∷ ys)))))
@@ -37,22 +33,6 @@ shown-none c h = ap (λ (b : Bool). cond b (replicate 6 (bytes "-")) (valueWords
 pub shown-values : (c : Cell) → same (c .ground) noDataHeight ≡ false → shownWords c ≡ valueWords c
 unfolding shownWords
 shown-values c h = ap (λ (b : Bool). cond b (replicate 6 (bytes "-")) (valueWords c)) h
-
--- a height is NoData, or the test says that it is not
-pub same-not : (z : ℤ) → (z ≡ noDataHeight → ⊥) → same z noDataHeight ≡ false
-same-not (pos n) d = refl
-same-not (negsuc n) d =
-    elim (ℕ-discrete n 999899) [
-      | yes e ↦ absurd (d (ap negsuc e))
-      | no f ↦ elim (decLt n 999899) [
-        | yes h ↦ rw (lt-leb 999899 n h)
-        | no g ↦ rw (lt-leb n 999899 (omega arith)) (and-off (leb 999899 n))
-      ]
-    ]
-  where
-    and-off : (b : Bool) → (b && false) ≡ false
-    and-off true = refl
-    and-off false = refl
 
 -- ---- the lines of a map's cells
 

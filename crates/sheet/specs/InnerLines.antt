@@ -2,7 +2,7 @@
 use mathlib.Core.List.{List, [], _∷_}
 use Prim.Native.Nat.{ℕ}
 use Rattle.text.specs.Bytes.{bytes}
-use Rattle.sheet.specs.Words.{decimal}
+use Rattle.numerals.specs.Words.{decimal}
 use Rattle.sheet.specs.Lines.{factorWord}
 use Rattle.sheet.specs.declared.lines.Cell.{Cell}
 use Rattle.sheet.specs.declared.lines.Shape.{Shape}

@@ -1,16 +1,9 @@
 -- What a function that writes into a room promises: the place that it answers counts all that there was to write. Only inner functions cite this file. Assumes nothing.
-use mathlib.Core.Path.{_≡_}
 use mathlib.Core.List.{List}
-use Prim.Native.Nat.{ℕ, _+_, _≤_}
-use lib.ListN.{length}
+use Prim.Native.Nat.{ℕ, _≤_}
 use denote.Ref.{now}
 use Rattle.laws.specs.Slices.{Slice}
-use Rattle.sheet.specs.Writing.{overlay}
-
--- the bytes were written from a place on; `next` is the place after them
-pub record Wrote (room : List ℕ) (at : ℕ) (bytes : List ℕ) (next : ℕ) (after : List ℕ) : Type 0 where
-  pub ends : next ≡ at + length bytes
-  pub laid : after ≡ overlay room at bytes
+use Rattle.numerals.specs.Writing.{Wrote}
 
 -- the bytes are put into the lent room from the place `at` on, and `next`, the place after them, is not past `most`
 abbrev pub Puts : Slice ℕ → ℕ → List ℕ → ℕ → ℕ → Type 0

@@ -1,6 +1,4 @@
 -- What the promise of `print` cites
-pub mod Words
-pub mod Writing
 pub mod Lines
 pub mod Sheet
 -- What only inner functions cite

@@ -9,7 +9,7 @@ use Rattle.text.specs.Bytes.{bytes}
 use Rattle.text.specs.Heights.{same}
 use Rattle.text.specs.Quantities.{noDataHeight}
 use Rattle.factor.specs.Cell.{tooLong}
-use Rattle.sheet.specs.Words.{decimal, integer, line}
+use Rattle.numerals.specs.Words.{decimal, integer, line}
 use Rattle.sheet.specs.declared.lines.Cell.{Cell}
 use Rattle.sheet.specs.declared.lines.Shape.{Shape}
 

@@ -10,7 +10,7 @@ ghost use Prim.Native.Nat.{_*_, _≤_};
 ghost use lib.IntN.{pos};
 ghost use lib.ListN.{length, replicate};
 ghost use Rattle.factor.specs.Answers.{lent, lentBefore};
-ghost use Rattle.sheet.specs.Writing.{overlay};
+ghost use Rattle.numerals.specs.Writing.{overlay};
 ghost use Rattle.sheet.specs.InnerWriting.{Puts};
 ghost use Rattle.sheet.specs.InnerGrids.{LentLong};
 ghost use Rattle.sheet.specs.Sheet.{mapSheet, gridSheet, zeros, sheetOf};
@@ -147,7 +147,9 @@ pub fn print(text: &[u8], settings: Settings, sheet: &mut [u8]) -> usize
     if 32768 < text.len() {
         return lines::put_refusal(sheet, 11, 32768);
     }
-    let head = answers::head_of(text::read_header(text));
+    let read = text::read_header(text);
+    let answer = read.answer;
+    let head = answers::head_of(answer);
     if head.number != 0 {
         return lines::put_refusal(sheet, head.number, head.place);
     }

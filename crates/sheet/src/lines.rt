@@ -2,7 +2,7 @@
 ghost use mathlib.Core.List.{[], _∷_, _++_};
 ghost use Prim.Native.Nat.{_+_, _*_, _≤_, _<_, _^_};
 ghost use lib.ListN.{length};
-ghost use Rattle.sheet.specs.Words.{decimal, integer, line};
+ghost use Rattle.numerals.specs.Words.{decimal, integer, line};
 ghost use Rattle.sheet.specs.InnerWriting.{Puts};
 ghost use Rattle.sheet.specs.InnerGrids.{gridsBefore, Long};
 ghost use Rattle.sheet.specs.InnerLines.{lengthWords, flowWords, summaryWords, placeWords};

@@ -1,20 +1,16 @@
-// Writing bytes and numbers into a lent room. Each function writes from the place `at` on, as far as the room goes, and answers
-// the place after all that there was to write.
+// Writing bytes and numbers into a lent room, by the calls of the crate `numerals`. Each function writes from the place `at` on, as far
+// as the room goes, and answers the place after all that there was to write.
 ghost use mathlib.Core.List.{[], _∷_};
-ghost use mathlib.Core.Path.{_≡_};
-ghost use Prim.Native.Nat.{_<_, _≤_, _-_, _^_};
-ghost use lib.IntN.{natAbs};
-ghost use Rattle.sheet.specs.Words.{decimal, integer};
-ghost use Rattle.sheet.specs.InnerWriting.{Wrote};
+ghost use Prim.Native.Nat.{_<_, _-_, _^_};
+ghost use Rattle.numerals.specs.Words.{decimal, integer};
+ghost use Rattle.numerals.specs.Writing.{Wrote};
 
 // One byte.
 pub(crate) fn put(out: &mut [u8], at: usize, b: u8) -> usize
     requires { ⌜ at < 2 ^ 64 - 1 ⌝ }
     ensures { λ r. ⌜ Wrote (now (out .entry)) at (b ∷ []) r (now (out .exit)) ⌝ }
 {
-    if at < out.len() {
-        out[at] = b;
-    }
+    numerals::put(out, at, b);
     at + 1
 }
 
@@ -23,13 +19,7 @@ pub(crate) fn put_all(out: &mut [u8], at: usize, bytes: &[u8]) -> usize
     requires { ⌜ at < 2 ^ 62 ⌝ }
     ensures { λ r. ⌜ Wrote (now (out .entry)) at (now (bytes .entry)) r (now (out .exit)) ⌝ }
 {
-    let mut next = at;
-    let mut i = 0;
-    while i < bytes.len() {
-        next = put(out, next, bytes[i]);
-        i += 1;
-    }
-    next
+    at + numerals::put_all(out, at, bytes)
 }
 
 // The decimal digits of `n`.
@@ -37,22 +27,7 @@ pub(crate) fn put_natural(out: &mut [u8], at: usize, n: u64) -> usize
     requires { ⌜ at < 2 ^ 62 ⌝ }
     ensures { λ r. ⌜ Wrote (now (out .entry)) at (decimal n) r (now (out .exit)) ⌝ }
 {
-    if n < 10 {
-        return put(out, at, 48 + n as u8);
-    }
-    let next = put_natural(out, at, n / 10);
-    put(out, next, 48 + (n % 10) as u8)
-}
-
-// `z` without its sign.
-fn size(z: i32) -> u64
-    ensures { λ r. ⌜ (r ≡ natAbs z) × (r ≤ 2147483648) ⌝ }
-{
-    if z < 0 {
-        let wide = z as i64;
-        return (0 - wide) as u64;
-    }
-    z as u64
+    at + numerals::put_natural(out, at, n)
 }
 
 // `z` in decimal digits, with a minus where it is below 0.
@@ -62,7 +37,7 @@ pub(crate) fn put_integer(out: &mut [u8], at: usize, z: i32) -> usize
 {
     if z < 0 {
         let next = put(out, at, b'-');
-        return put_natural(out, next, size(z));
+        return put_natural(out, next, numerals::size(z));
     }
-    put_natural(out, at, size(z))
+    put_natural(out, at, numerals::size(z))
 }

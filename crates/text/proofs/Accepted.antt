@@ -5,18 +5,20 @@ use mathlib.Core.Bool.{Bool, true, false, not, _&&_}
 use Prim.Native.Nat.{ℕ, _*_, _≤_, _<_}
 use native.Mathlib.Nat.{le-trans, mul-le-mul-right}
 use native.Mathlib.Omega.{arith}
+use native.Mathlib.Decide.{decLt, ℕ-discrete}
 use lib.ListN.{getD}
-use lib.IntN.{ℤ}
+use lib.IntN.{ℤ, pos, negsuc}
 use lib.Dec.{ltb, leb, eqb}
 use mir.Syntax.{w32}
 use mir.Val.{SFits, toZ, ofZ}
 use mir.Facts.{toZ-ofZ}
-use borrow.Author.Tests.{leb-true, ltb-false, lt-ltb, le-ltb, eqb-true, not-false, not-true}
+use borrow.Author.Tests.{leb-true, lt-leb, ltb-false, lt-ltb, le-ltb, eqb-true, not-false, not-true}
 use Rattle.laws.specs.Tests.{passed, failed}
 use Rattle.laws.proofs.Tests.{and-both, and-false-left, and-false-right}
 use Rattle.laws.proofs.Verdicts.{test-yes, test-no, test-passed}
 use Rattle.laws.proofs.First.{first-before}
 use Rattle.text.specs.Quantities.{noDataHeight}
+use Rattle.text.specs.Heights.{same}
 use Rattle.text.specs.Ranges.{sizeAccepted, sideAccepted, heightAccepted, firstBad, allLong, sizeTest, lengthTest, sideTest, heightTest}
 
 -- ---- sizes
@@ -114,6 +116,22 @@ bits-none z f e = sym (toZ-ofZ f) ∙ ap (toZ w32) e
 
 pub none-bits : (z : ℤ) → (ofZ w32 z ≡ 4293967396 → ⊥) → z ≡ noDataHeight → ⊥
 none-bits z d e = d (ap (ofZ w32) e)
+
+-- a height is NoData, or the test says that it is not
+pub same-not : (z : ℤ) → (z ≡ noDataHeight → ⊥) → same z noDataHeight ≡ false
+same-not (pos n) d = refl
+same-not (negsuc n) d =
+    elim (ℕ-discrete n 999899) [
+      | yes e ↦ absurd (d (ap negsuc e))
+      | no f ↦ elim (decLt n 999899) [
+        | yes h ↦ rw (lt-leb 999899 n h)
+        | no g ↦ rw (lt-leb n 999899 (omega arith)) (and-off (leb 999899 n))
+      ]
+    ]
+  where
+    and-off : (b : Bool) → (b && false) ≡ false
+    and-off true = refl
+    and-off false = refl
 
 module _ (n : ℕ) (ground : List ℤ) where
   pub good-before : (x : ℕ) → x < firstBad n ground → heightAccepted (getD ground x noDataHeight) ≡ true

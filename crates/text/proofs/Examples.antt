@@ -1,5 +1,6 @@
 -- The rules' examples of the text, computed from the definitions. Assumes nothing.
 use mathlib.Core.Path.{_≡_, refl}
+use mathlib.Core.Bool.{true, false}
 use mathlib.Core.List.{List, [], _∷_, _++_, map}
 use Prim.Native.Nat.{ℕ, _+_}
 use Prim.Native.String.{String}
@@ -8,10 +9,11 @@ use lib.ListN.{length, replicate}
 use Rattle.text.specs.Bytes.{bytes}
 use Rattle.text.specs.Reader.{Step, got, refused}
 use Rattle.text.specs.Words.{run, wordStart, wordEnd, word}
-use Rattle.text.specs.Numbers.{Placed, value, countFormAt, decimals, numberAt, firstComma, commaDecimal, read, count, number, measure}
-use Rattle.text.specs.Headers.{named, name, corner, side, field, anyMeasure, noData, extent, corners, sideAndNoData, header}
+use Rattle.text.specs.Numbers.{Placed, value, countFormAt, decimals, numberAt, isNumber, firstComma, commaDecimal, read, count, number, measure}
+use Rattle.text.specs.Headers.{named, name, corner, side, field, anyMeasure, noData, extent, corners, sideAndNoData, head, header}
 use Rattle.text.specs.Heights.{height, heights, end, body, grid}
-use Rattle.text.specs.Answers.{GridOutcome, headerAnswer, gridAnswer}
+use Rattle.text.specs.Answers.{GridOutcome, headerAnswer, noSpan, cornersAnswer, gridAnswer}
+use Rattle.text.specs.declared.Span.{Span}
 
 -- ---- numbers, each as the only word of a text
 
@@ -48,6 +50,18 @@ singles =
 pub singles-hold : map (λ (x : Single). readOf (measure (bytes (x .text)) 0)) singles ≡ map (λ (x : Single). x .gives) singles
 unfolding singles bytes run wordStart wordEnd word value decimals numberAt firstComma commaDecimal read number measure
 singles-hold = refl
+
+-- ---- bytes by themselves: which are a number's word
+
+unfoldable pub alone : List String
+alone = "0" ∷ "-0" ∷ "12.5" ∷ "123456789" ∷ "-999999999.123456" ∷ []
+
+unfoldable pub notAlone : List String
+notAlone = "" ∷ "-" ∷ "+5" ∷ ".5" ∷ "5." ∷ "12,5" ∷ " 5" ∷ "5 " ∷ "5x" ∷ "--5" ∷ "1.2.3" ∷ "1234567890" ∷ "1.1234567" ∷ "1.123456 " ∷ []
+
+pub alone-hold : (map (λ (x : String). isNumber (bytes x)) alone ≡ replicate 5 true) × (map (λ (x : String). isNumber (bytes x)) notAlone ≡ replicate 14 false)
+unfolding alone notAlone bytes run value decimals numberAt isNumber
+alone-hold = (refl, refl)
 
 -- ---- whole texts, with so many heights lent, each 77 beforehand
 
@@ -98,7 +112,7 @@ toldOf r = record { number = r .answer .number; place = r .answer .place; height
 
 pub wholes-hold : map (λ (x : Whole). toldOf (gridAnswer (markers (x .lent)) (bytes (x .text)))) wholes
     ≡ map (λ (x : Whole). record { number = x .number; place = x .place; heights = x .heights }) wholes
-unfolding wholes bytes run wordStart wordEnd word value countFormAt decimals numberAt firstComma commaDecimal read count number measure named name corner side field anyMeasure noData extent corners sideAndNoData header height heights end body grid
+unfolding wholes bytes run wordStart wordEnd word value countFormAt decimals numberAt firstComma commaDecimal read count number measure named name corner side field anyMeasure noData extent corners sideAndNoData head header height heights end body grid
 wholes-hold = refl
 
 -- ---- words that are not right: number, and place from the word's first byte
@@ -160,21 +174,44 @@ abbrev pub claimed : String → Broken → ℕ × ℕ
 claimed before x = (x .number, length (bytes before) + x .place)
 
 pub numbers-break : map (λ (b : String). map (found b) numbers) beforeNumbers ≡ map (λ (b : String). map (claimed b) numbers) beforeNumbers
-unfolding numbers beforeNumbers bytes run wordStart wordEnd word value countFormAt decimals numberAt firstComma commaDecimal read count number measure named name corner side field anyMeasure noData extent corners sideAndNoData header height heights end body grid
+unfolding numbers beforeNumbers bytes run wordStart wordEnd word value countFormAt decimals numberAt firstComma commaDecimal read count number measure named name corner side field anyMeasure noData extent corners sideAndNoData head header height heights end body grid
 numbers-break = refl
 
 pub counts-break : map (λ (b : String). map (found b) counts) beforeCounts ≡ map (λ (b : String). map (claimed b) counts) beforeCounts
-unfolding counts beforeCounts bytes run wordStart wordEnd word value countFormAt decimals numberAt firstComma commaDecimal read count number measure named name corner side field anyMeasure noData extent corners sideAndNoData header height heights end body grid
+unfolding counts beforeCounts bytes run wordStart wordEnd word value countFormAt decimals numberAt firstComma commaDecimal read count number measure named name corner side field anyMeasure noData extent corners sideAndNoData head header height heights end body grid
 counts-break = refl
 
 -- ---- the header call: it judges nothing after the header, but the eleventh word belongs to it
 
 pub header-alone : headerAnswer (bytes "ncols 2 nrows 1 xllcorner 0 yllcorner 0 cellsize 12.5 1,0")
     ≡ record { number = 0; place = 0; rows = 1; columns = 2; side = pos 1250; noData = negℤ (pos 999900) }
-unfolding bytes run wordStart wordEnd word value countFormAt decimals numberAt firstComma commaDecimal read count number measure named name corner side field anyMeasure noData extent corners sideAndNoData header
+unfolding bytes run wordStart wordEnd word value countFormAt decimals numberAt firstComma commaDecimal read count number measure named name corner side field anyMeasure noData extent corners sideAndNoData head header
 header-alone = refl
 
 pub eleventh-word : headerAnswer (bytes "ncols 2 nrows 1 xllcorner 0 yllcorner 0 cellsize 12.5 nan")
     ≡ record { number = 6; place = 54; rows = 0; columns = 0; side = pos 0; noData = pos 0 }
-unfolding bytes run wordStart wordEnd word value countFormAt decimals numberAt firstComma commaDecimal read count number measure named name corner side field anyMeasure noData extent corners sideAndNoData header
+unfolding bytes run wordStart wordEnd word value countFormAt decimals numberAt firstComma commaDecimal read count number measure named name corner side field anyMeasure noData extent corners sideAndNoData head header
 eleventh-word = refl
+
+-- ---- the corners: where their words stand, zeros at a refusal
+
+pub record Cornered : Type 0 where
+  pub text : String
+  pub x : Span
+  pub y : Span
+
+abbrev pub span : ℕ → ℕ → Span
+span first length = record { first = first; length = length }
+
+unfoldable pub cornered : List Cornered
+cornered =
+    record { text = "ncols 1 nrows 1 xllcorner 0 yllcorner 12 cellsize 10"; x = span 26 1; y = span 38 2 } ∷
+    record { text = "\t ncols 2\r\nnrows 1 xllcorner \t-12.500000\n\nyllcorner 7\tcellsize 10 1 2"; x = span 30 10; y = span 52 1 } ∷
+    record { text = "ncols 1 nrows 1 xllcorner 999999999.123456 yllcorner -0 cellsize 10 nodata_value 5"; x = span 26 16; y = span 53 2 } ∷
+    record { text = "ncols 1 nrows 1 xllcorner -12.5 yllcorner 7 cellsize 0"; x = noSpan; y = noSpan } ∷
+    record { text = "ncols 1 nrows 1 xllcorner -12.5 yllcorner 7,5 cellsize 10"; x = noSpan; y = noSpan } ∷
+    record { text = ""; x = noSpan; y = noSpan } ∷ []
+
+pub cornered-hold : map (λ (r : Cornered). cornersAnswer (bytes (r .text))) cornered ≡ map (λ (r : Cornered). record { x = r .x; y = r .y }) cornered
+unfolding cornered bytes run wordStart wordEnd word value countFormAt decimals numberAt firstComma commaDecimal read count number measure named name corner side field anyMeasure noData extent corners sideAndNoData head
+cornered-hold = refl

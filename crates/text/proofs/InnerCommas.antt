@@ -16,7 +16,7 @@ use Rattle.text.specs.Numbers.{Form, formed, malformed, digit, value, af
 use Rattle.text.proofs.Bytes.{digit-range}
 use Rattle.text.proofs.InnerRuns.{run-stop, run-lower, run-fails, run-passes, run-after, run-same}
 use Rattle.text.proofs.Ends.{byte-within, end-byte, end-digits, end-lower}
-use Rattle.text.proofs.InnerForms.{sign-within, sign-end}
+use Rattle.text.proofs.InnerForms.{number-at, sign-within, sign-end}
 
 -- a comma stands within the text
 pub comma-next : (s : List ℕ) (d : ℕ) → getD s d 0 ≡ 44 → d + 1 ≤ length s
@@ -82,7 +82,7 @@ count-no-comma s a e h =
 
 -- ---- whether decimals, or a number's word, are right: by the digits' ends and the byte after the whole ones alone
 
-decimals-formed : (s : List ℕ) (e p : ℕ) (m : Bool) (x f : ℕ) → f ≡ run digit s p 6 → isFormed (decimals s e m x p) ≡ cond (eqb f p) false (eqb f e)
+pub decimals-formed : (s : List ℕ) (e p : ℕ) (m : Bool) (x f : ℕ) → f ≡ run digit s p 6 → isFormed (decimals s e m x p) ≡ cond (eqb f p) false (eqb f e)
 unfolding decimals
 decimals-formed s e p m x f h = go (eqb f p) (eqb f e) refl refl
   where
@@ -125,7 +125,7 @@ module _ (s : List ℕ) (a b : ℕ) (h : a < length s) (first : solid (getD s a 
   d-from = subst (λ (j : ℕ). b ≤ j) (sym ends) (run-lower digit s b 9)
 
   word-end : e ≡ wordEnd s d
-  word-end = sign-end s a b h first sign ∙ end-digits s b 9 d (sign-within s a b h first sign) ends
+  word-end = sign-end s a b h first sign ∙ end-digits s b 9 d (sign-within s a b h sign) ends
 
   d-within : d ≤ e
   d-within = subst (λ (j : ℕ). d ≤ j) (sym word-end) (end-lower s d)
@@ -164,8 +164,7 @@ module _ (s : List ℕ) (a b : ℕ) (h : a < length s) (first : solid (getD s a 
 
   -- the definition at these places, in the text itself and with a point at its first comma
   at : numberAt s a e ≡ wholeAndDecimals s e (ltb a b) b d
-  unfolding numberAt
-  at = rw (← sign, ← ends)
+  at = number-at s a e b d sign ends
 
   at-point : (l : firstComma s a e < e) → numberAt (set s (firstComma s a e) 46) a e ≡ wholeAndDecimals (set s (firstComma s a e) 46) e (ltb a b) b d
   unfolding numberAt

@@ -2,7 +2,7 @@
 use mathlib.Core.Path.{_≡_, refl, sym, ap, _∙_, subst}
 use mathlib.Core.Bool.{Bool, true, false, true≢false}
 use mathlib.Core.List.{List}
-use Prim.Native.Nat.{ℕ, _≤_, _<_}
+use Prim.Native.Nat.{ℕ, _-_, _≤_, _<_}
 use native.Mathlib.Nat.{le-of-lt}
 use native.Mathlib.Omega.{arith}
 use borrow.Author.Tests.{lt-ltb, le-ltb, leb-true}
@@ -15,11 +15,13 @@ use mir.Val.{Fits as FitsIn}
 use Rattle.laws.proofs.Tests.{and-both}
 use Rattle.text.specs.Bytes.{bytes}
 use Rattle.text.specs.Quantities.{sideIn}
-use Rattle.text.specs.Reader.{got, refused, Reader}
+use Rattle.text.specs.Reader.{Step, got, refused, Reader}
 use Rattle.text.specs.Words.{wordStart, word}
 use Rattle.text.specs.Numbers.{number, measure, count}
 use Rattle.text.specs.Headers as H
-use Rattle.text.specs.Headers.{letter, letterNext, named, name, corner, side, field, anyMeasure, absentNoData, noData, extent, corners, sideAndNoData, header}
+use Rattle.text.specs.Headers.{letter, letterNext, named, name, corner, side, field, anyMeasure, absentNoData, noData}
+use Rattle.text.specs.Headers.{extent, corners, sideAndNoData, head}
+use Rattle.text.specs.declared.Corners.{Corners}
 use Rattle.text.specs.declared.Refusal.{Refusal}
 use Rattle.text.specs.declared.words.Cursor.{Cursor}
 use Rattle.text.specs.declared.words.Word as W
@@ -40,6 +42,12 @@ use Rattle.text.specs.declared.headers.Sided.the-variants.{Side, NoSide}
 use Rattle.text.specs.declared.headers.Length as L
 use Rattle.text.specs.declared.headers.Lengthed.{Lengthed}
 use Rattle.text.specs.declared.headers.Lengthed.the-variants.{Length, NoLength}
+use Rattle.text.specs.declared.headers.Corner as K
+use Rattle.text.specs.declared.headers.Cornered.{Cornered}
+use Rattle.text.specs.declared.headers.Cornered.the-variants.{Corner, NoCorner}
+use Rattle.text.specs.declared.headers.Pair as P
+use Rattle.text.specs.declared.headers.Paired.{Paired}
+use Rattle.text.specs.declared.headers.Paired.the-variants.{Pair, NoPair}
 use Rattle.text.specs.declared.headers.Extent.{Extent}
 use Rattle.text.specs.declared.headers.Extended.{Extended}
 use Rattle.text.specs.declared.headers.Extended.the-variants as E
@@ -47,7 +55,9 @@ use Rattle.text.specs.declared.headers.Moved.{Moved}
 use Rattle.text.specs.declared.headers.Moved.the-variants.{On, Off}
 use Rattle.text.specs.InnerWords.{wordOf, Inside}
 use Rattle.text.specs.InnerNumbers.{numberedOf, measuredOf, countedOf, CountFits}
-use Rattle.text.specs.InnerHeaders.{movedOf, sidedOf, lengthedOf, extentOf, extendedOf, Fits}
+use Rattle.text.specs.InnerHeaders.{movedOf, sidedOf, lengthedOf, corneredOf, pairedOf, extentOf, extendedOf, Fits}
+use Rattle.text.proofs.Ends.{end-lower}
+use Rattle.text.proofs.Right.{NextWord, number-next}
 
 -- ---- a header name
 
@@ -86,9 +96,15 @@ module _ (s : List ℕ) (at : ℕ) (r : Numbered) (m : numberedOf r ≡ number s
   unfolding corner
   corner-none f e = rw (sym m ∙ ap numberedOf e)
 
-  pub corner-on : (x : D.Number) → r ≡ Number x → got tt (x .rest .at) ≡ corner s at
-  unfolding corner
-  corner-on x e = rw (sym m ∙ ap numberedOf e)
+  module _ (x : D.Number) (e : r ≡ Number x) where
+    pub corner-from : x .start ≤ x .rest .at
+    corner-from =
+        let w = subst (NextWord s at) (sym m ∙ ap numberedOf e) (number-next s at) in
+        omega (arith, w .1, w .2, end-lower s (wordStart s at))
+
+    pub corner-on : got (record { first = x .start; length = x .rest .at - x .start }) (x .rest .at) ≡ corner s at
+    unfolding corner
+    corner-on = rw (sym m ∙ ap numberedOf e)
 
 module _ (s : List ℕ) (at : ℕ) (r : Measured) (m : measuredOf r ≡ measure s at) where
   pub any-none : (f : Refusal) → r ≡ NoMeasure f → refused (f .number) (f .place) ≡ anyMeasure s at
@@ -150,47 +166,53 @@ extent-fits c r x y e q h k = record { rows-few = subst CountFits q k; columns-f
 
 -- ---- the corners
 
-module _ (s : List ℕ) (at : ℕ) (r : Moved) (m : movedOf r ≡ field (bytes "xllcorner") corner s at) where
-  pub corners-off : (f : Refusal) → r ≡ Off f → refused (f .number) (f .place) ≡ corners s at
+module _ (s : List ℕ) (at : ℕ) (c : Cornered) (m : corneredOf c ≡ field (bytes "xllcorner") corner s at) where
+  pub corners-no-x : (f : Refusal) → c ≡ NoCorner f → refused (f .number) (f .place) ≡ corners s at
   unfolding corners
-  corners-off f e = rw (sym m ∙ ap movedOf e)
+  corners-no-x f e = rw (sym m ∙ ap corneredOf e)
 
-  pub corners-on : (k : Cursor) → r ≡ On k → field (bytes "yllcorner") corner s (k .at) ≡ corners s at
-  unfolding corners
-  corners-on k e = rw (sym m ∙ ap movedOf e)
+  module _ (x : K.Corner) (e : c ≡ Corner x) (r : Cornered) (l : corneredOf r ≡ field (bytes "yllcorner") corner s (x .rest .at)) where
+    pub corners-no-y : (f : Refusal) → r ≡ NoCorner f → refused (f .number) (f .place) ≡ corners s at
+    unfolding corners
+    corners-no-y f q = rw (sym m ∙ ap corneredOf e, sym l ∙ ap corneredOf q)
+
+    pub corners-on : (y : K.Corner) → r ≡ Corner y → got (record { x = x .span; y = y .span }) (y .rest .at) ≡ corners s at
+    unfolding corners
+    corners-on y q = rw (sym m ∙ ap corneredOf e, sym l ∙ ap corneredOf q)
 
 -- ---- the side and the NoData number
 
-module _ (x : H.Extent) (s : List ℕ) (at : ℕ) (c : Sided) (m : sidedOf c ≡ field (bytes "cellsize") side s at) where
-  pub last-no-side : (f : Refusal) → c ≡ NoSide f → refused (f .number) (f .place) ≡ sideAndNoData x s at
+module _ (x : H.Extent) (k : Corners) (s : List ℕ) (at : ℕ) (c : Sided) (m : sidedOf c ≡ field (bytes "cellsize") side s at) where
+  pub last-no-side : (f : Refusal) → c ≡ NoSide f → refused (f .number) (f .place) ≡ sideAndNoData x k s at
   unfolding sideAndNoData
   last-no-side f e = rw (sym m ∙ ap sidedOf e)
 
   module _ (y : S.Side) (e : c ≡ Side y) (r : Lengthed) (l : lengthedOf r ≡ noData s (y .rest .at)) where
-    pub last-no-data : (f : Refusal) → r ≡ NoLength f → refused (f .number) (f .place) ≡ sideAndNoData x s at
+    pub last-no-data : (f : Refusal) → r ≡ NoLength f → refused (f .number) (f .place) ≡ sideAndNoData x k s at
     unfolding sideAndNoData
     last-no-data f q = rw (sym m ∙ ap sidedOf e, sym l ∙ ap lengthedOf q)
 
     pub last-on : (z : L.Length) → r ≡ Length z
-        → got (record { rows = x .rows; columns = x .columns; side = pos (y .cm); noData = z .cm }) (z .rest .at) ≡ sideAndNoData x s at
+        → got (record { header = record { rows = x .rows; columns = x .columns; side = pos (y .cm); noData = z .cm }; corners = k }) (z .rest .at)
+        ≡ sideAndNoData x k s at
     unfolding sideAndNoData
     last-on z q = rw (sym m ∙ ap sidedOf e, sym l ∙ ap lengthedOf q)
 
 -- ---- the header
 
 module _ (s : List ℕ) (at : ℕ) (r : Extended) (m : extendedOf r ≡ extent s at) where
-  pub header-no-extent : (f : Refusal) → r ≡ E.NoExtent f → refused (f .number) (f .place) ≡ header s at
-  unfolding header
-  header-no-extent f e = rw (sym m ∙ ap extendedOf e)
+  pub head-no-extent : (f : Refusal) → r ≡ E.NoExtent f → refused (f .number) (f .place) ≡ head s at
+  unfolding head
+  head-no-extent f e = rw (sym m ∙ ap extendedOf e)
 
-  module _ (x : Extent) (e : r ≡ E.Extent x) (k : Moved) (l : movedOf k ≡ corners s (x .rest .at)) where
-    pub header-no-corners : (f : Refusal) → k ≡ Off f → refused (f .number) (f .place) ≡ header s at
-    unfolding header
-    header-no-corners f q = rw (sym m ∙ ap extendedOf e, sym l ∙ ap movedOf q)
+  module _ (x : Extent) (e : r ≡ E.Extent x) (k : Paired) (l : pairedOf k ≡ corners s (x .rest .at)) where
+    pub head-no-corners : (f : Refusal) → k ≡ NoPair f → refused (f .number) (f .place) ≡ head s at
+    unfolding head
+    head-no-corners f q = rw (sym m ∙ ap extendedOf e, sym l ∙ ap pairedOf q)
 
-    pub header-on : (j : Cursor) → k ≡ On j → sideAndNoData (extentOf x) s (j .at) ≡ header s at
-    unfolding header
-    header-on j q = rw (sym m ∙ ap extendedOf e, sym l ∙ ap movedOf q)
+    pub head-on : (j : P.Pair) → k ≡ Pair j → (t : Step H.Head) → t ≡ sideAndNoData (extentOf x) (j .corners) s (j .rest .at) → t ≡ head s at
+    unfolding head
+    head-on j q t o = rw (sym m ∙ ap extendedOf e, sym l ∙ ap pairedOf q) o
 
 -- ---- a side that is allowed fits its type
 

@@ -115,7 +115,12 @@ module _ (s : List ℕ) (p x q : ℕ) (w : HundredthsFrom s p x q) (minus : Bool
 
 -- ---- the whole number: the sign ends at b and the digits at d
 
-module _ (s : List ℕ) (a b : ℕ) (h : a < length s) (first : solid (getD s a 0) ≡ true) (sign : b ≡ afterSign s a) where
+-- the definition at these places, up to any end e
+pub number-at : (s : List ℕ) (a e b d : ℕ) → b ≡ afterSign s a → d ≡ run digit s b 9 → numberAt s a e ≡ wholeAndDecimals s e (ltb a b) b d
+unfolding numberAt
+number-at s a e b d sign ends = rw (← sign, ← ends)
+
+module _ (s : List ℕ) (a b : ℕ) (h : a < length s) (sign : b ≡ afterSign s a) where
   pub sign-within : b ≤ length s
   sign-within = subst (λ (j : ℕ). j ≤ length s) (sym sign) (go (eqb (getD s a 0) 45))
     where
@@ -123,6 +128,7 @@ module _ (s : List ℕ) (a b : ℕ) (h : a < length s) (first : solid (getD s a 
       go true = omega arith
       go false = omega arith
 
+module _ (s : List ℕ) (a b : ℕ) (h : a < length s) (first : solid (getD s a 0) ≡ true) (sign : b ≡ afterSign s a) where
   pub sign-end : wordEnd s a ≡ wordEnd s b
   sign-end = go (eqb (getD s a 0) 45) sign
     where
@@ -132,12 +138,10 @@ module _ (s : List ℕ) (a b : ℕ) (h : a < length s) (first : solid (getD s a 
 
   module _ (v d : ℕ) (w : DigitsFrom s b 9 v d) where
     word-end : wordEnd s a ≡ wordEnd s d
-    word-end = sign-end ∙ end-digits s b 9 d sign-within (w .ends)
+    word-end = sign-end ∙ end-digits s b 9 d (sign-within s a b h sign) (w .ends)
 
-    -- the definition at these places
     at : numberAt s a (wordEnd s a) ≡ wholeAndDecimals s (wordEnd s a) (ltb a b) b d
-    unfolding numberAt
-    at = rw (← sign, ← w .ends)
+    at = number-at s a (wordEnd s a) b d sign (w .ends)
 
     pub point-within : getD s d 0 ≡ 46 → d + 1 ≤ length s
     point-within z = omega (arith, byte-within s d (λ n. omega arith))

@@ -222,13 +222,13 @@ module _ (h : H.Header) (k : ℕ) (s : List ℕ) (at : ℕ) where
 
 -- ---- the whole text
 
-module _ (lent : List ℤ) (s : List ℕ) (r : Headed) (m : headedOf r ≡ H.header s 0) where
+module _ (lent : List ℤ) (s : List ℕ) (r : Headed) (m : headedOf r ≡ H.head s 0) where
   pub grid-off : (f : Refusal) → r ≡ NoHead f → record { answer = refusal (f .number) (f .place); heights = lent } ≡ gridAnswer lent s
-  unfolding grid
+  unfolding grid H.header
   grid-off f e = rw (sym m ∙ ap headedOf e)
 
   pub grid-on : (x : D.Head) → r ≡ Head x → bodyAnswer (headerOf (x .header)) lent s (x .rest .at) ≡ gridAnswer lent s
-  unfolding grid
+  unfolding grid H.header
   grid-on x e = rw (sym m ∙ ap headedOf e) (go (body (headerOf (x .header)) (length lent) s (x .rest .at)))
     where
       go : (y : Step (List ℤ)) → bodyOutcome (headerOf (x .header)) lent y ≡ gridOutcome lent (after y (λ hs. give (record { header = headerOf (x .header); heights = hs })) s)

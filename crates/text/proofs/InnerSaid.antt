@@ -27,7 +27,7 @@ abbrev pub Says : {A : Type 0} → (List ℕ → Type 0) → List ℕ → ℕ �
 Says Right w a (formed x) = Right w
 Says Right w a (malformed p) = (a ≤ p) × BreaksAt Right w (p - a)
 
-says-right : {A : Type 0} (Right : List ℕ → Type 0) (w : List ℕ) (a : ℕ) (r : Form A) → isFormed r ≡ true → Says Right w a r → Right w
+pub says-right : {A : Type 0} (Right : List ℕ → Type 0) (w : List ℕ) (a : ℕ) (r : Form A) → isFormed r ≡ true → Says Right w a r → Right w
 says-right Right w a (formed x) e h = h
 says-right Right w a (malformed p) e h = absurd (true≢false (sym e))
 

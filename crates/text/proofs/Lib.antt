@@ -6,6 +6,7 @@ pub mod InnerRuns
 pub mod InnerValues
 pub mod InnerForms
 pub mod InnerCommas
+pub mod InnerAlone
 pub mod InnerSteps
 pub mod InnerNames
 pub mod InnerFields
@@ -14,4 +15,10 @@ pub mod InnerTested
 pub mod InnerRight
 pub mod InnerSaid
 pub mod Right
+pub mod Every
+pub mod Shifted
+pub mod Formed
+pub mod Pieces
+pub mod Carried
 pub mod Calls
+pub mod CornerWords

@@ -1,21 +1,27 @@
 -- RULES 2.3: which words are right, and where refusals 7 and 12 stand in a word that is not. Assumes nothing.
-use mathlib.Core.Path.{_≡_, refl, sym, subst, _∙_}
+use mathlib.Core.Path.{_≡_, refl, sym, ap, subst, _∙_}
 use mathlib.Core.Bool.{Bool, true, false, true≢false}
 use mathlib.Core.List.{List}
 use Prim.Native.Nat.{ℕ, _-_, _≤_, _<_}
+use native.Mathlib.Nat.{le-refl}
+use native.Mathlib.Decide.{decLt}
 use native.Mathlib.Omega.{arith}
 use borrow.Author.Tests.{ltb-true}
 use lib.Dec.{ltb}
-use lib.ListN.{length, getD, set}
+use lib.ListN.{length, getD, set, List·getD-eq-default}
+use lib.Seq.{take-length}
 use Rattle.laws.proofs.Tests.{and-both}
 use Rattle.text.specs.Quantities.{extentIn}
-use Rattle.text.specs.Reader.{refused, check, give, _>>_}
+use Rattle.text.specs.Reader.{Step, got, refused, after, check, give, _>>_}
 use Rattle.text.specs.Words.{solid, wordStart, wordEnd}
-use Rattle.text.specs.Numbers.{formed, malformed, Number, numberAt, countFormAt, isFormed, firstComma, commaDecimal, count, number}
-use Rattle.text.specs.Right.{RightNumber, RightCount, BreaksAt, CommaAt, wordAt, Neither}
-use Rattle.text.proofs.Ends.{first-solid, end-lower}
+use Rattle.text.specs.Numbers.{Form, formed, malformed, Number, numberAt, countFormAt, isFormed, firstComma, commaDecimal}
+use Rattle.text.specs.Numbers.{digit, isNumber, Placed, formedOr, read, count, number}
+use Rattle.text.specs.Right.{Digits, RightNumber, RightCount, BreaksAt, CommaAt, wordAt, Neither}
+use Rattle.text.proofs.Ends.{byte-within, first-solid, word-found, word-none, end-lower}
 use Rattle.text.proofs.InnerCommas.{count-no-comma}
-use Rattle.text.proofs.InnerSaid.{Says, number-says, count-says, comma-in, word-some, word-in, end-digit, end-point, Told, told}
+use Rattle.text.proofs.InnerRight.{broken}
+use Rattle.text.proofs.InnerAlone.{alone-empty}
+use Rattle.text.proofs.InnerSaid.{Says, says-right, number-says, count-says, comma-in, word-some, word-in, end-digit, end-point, Told, told}
 
 -- ---- a word that begins at a
 
@@ -52,12 +58,61 @@ module _ (s : List ℕ) (a : ℕ) (h : a < length s) (first : solid (getD s a 0)
       let t = and-both (ltb c e) (isFormed (numberAt (set s c 46) a e)) q in
       comma-in s a e (word-some s a h first) (word-in s a h first) (end-digit s a h first) (end-point s a h first) (ltb-true c e (t .0)) (t .1)
 
+-- ---- bytes by themselves: those of a number's word are a right number, and those of a right number a number's word
+
+-- what their form says
+alone-form : (w : List ℕ) → 0 < length w → Says RightNumber w 0 (numberAt w 0 (length w))
+alone-form w h =
+    let past : getD w (length w) 0 ≡ 0 = List·getD-eq-default w 0 {n = length w} (le-refl (length w)) in
+    subst (λ (u : List ℕ). Says RightNumber u 0 (numberAt w 0 (length w))) (take-length w)
+    (number-says w 0 (length w) h (le-refl (length w)) (ap digit past) (λ z. omega arith))
+
+digits-inside : (w : List ℕ) (i j : ℕ) → Digits w i j → 0 < length w
+digits-inside w i j d = omega (arith, byte-within w i (λ z. true≢false (sym (d .each i (le-refl i) (d .some)) ∙ ap digit z)))
+
+pub is-right : (w : List ℕ) → isNumber w ≡ true → RightNumber w
+unfolding isNumber
+is-right w e =
+    elim (decLt 0 (length w)) [
+      | yes h ↦ says-right RightNumber w 0 (numberAt w 0 (length w)) e (alone-form w h)
+      | no h ↦ absurd (true≢false (sym e ∙ sym (alone-empty w (omega arith))))
+    ]
+
+pub right-is : (w : List ℕ) → RightNumber w → isNumber w ≡ true
+unfolding isNumber
+right-is w r = go (numberAt w 0 (length w)) (alone-form w (digits-inside w (r .b) (r .d) (r .whole)))
+  where
+    go : (x : Form Number) → Says RightNumber w 0 x → isFormed x ≡ true
+    go (formed x) h = refl
+    go (malformed p) h = absurd (broken RightNumber w (p - 0) (h .1) r)
+
 -- ---- the next word from the place i, as a number and as a count
+
+-- a number that was read is the next word, and reading goes on behind it
+abbrev pub NextWord : List ℕ → ℕ → Step (Placed Number) → Type 0
+NextWord s i (got x e) = (wordStart s i < length s) × (x .place ≡ wordStart s i) × (e ≡ wordEnd s (wordStart s i))
+NextWord s i (refused n p) = Unit
 
 module _ (s : List ℕ) (i : ℕ) where
   number-told : Told numberAt RightNumber s (wordStart s i) (number s i)
   unfolding number
   number-told = told numberAt RightNumber s (λ a x. give (record { place = a; is = x })) (λ a e x. tt) i (number-form s)
+
+  pub number-next : NextWord s i (number s i)
+  unfolding number read
+  number-next =
+      let a = wordStart s i in
+      elim (decLt a (length s)) [
+        | yes h ↦ rw (word-found s i a refl h) (go h (numberAt s a (wordEnd s a)) (commaDecimal numberAt s a (wordEnd s a)))
+        | no h ↦ rw (word-none s i a refl (omega arith)) tt
+      ]
+    where
+      go : wordStart s i < length s → (r : Form Number) (q : Bool)
+          → NextWord s i (after (formedOr q (firstComma s (wordStart s i) (wordEnd s (wordStart s i))) r s (wordEnd s (wordStart s i)))
+          (λ x. give (record { place = wordStart s i; is = x })) s)
+      go h (formed x) q = (h, refl, refl)
+      go h (malformed p) true = tt
+      go h (malformed p) false = tt
 
   -- refusal 7 of a number stands where the word breaks
   pub number-7 : (p : ℕ) → number s i ≡ refused 7 p → (wordStart s i ≤ p) × BreaksAt RightNumber (wordAt s (wordStart s i)) (p - wordStart s i)

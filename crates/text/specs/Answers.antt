@@ -6,6 +6,8 @@ use lib.ListN.{length}
 use Rattle.text.specs.Reader.{Step, got, refused}
 use Rattle.text.specs.Headers as H
 use Rattle.text.specs.Heights as G
+use Rattle.text.specs.declared.Span.{Span}
+use Rattle.text.specs.declared.Corners.{Corners}
 use Rattle.text.specs.declared.Header.{Header}
 use Rattle.text.specs.declared.Answer.{Answer}
 use Rattle.text.specs.declared.Answer.the-variants.{Accepted, Refused}
@@ -34,6 +36,17 @@ headerOutcome (refused n p) = refusal n p
 
 abbrev pub headerAnswer : List ℕ → Outcome
 headerAnswer s = headerOutcome (H.header s 0)
+
+-- It also tells each corner word's first byte and length, zeros at a refusal.
+abbrev pub noSpan : Span
+noSpan = record { first = 0; length = 0 }
+
+abbrev pub cornersOutcome : Step H.Head → Corners
+cornersOutcome (got h i) = h .corners
+cornersOutcome (refused n p) = record { x = noSpan; y = noSpan }
+
+abbrev pub cornersAnswer : List ℕ → Corners
+cornersAnswer s = cornersOutcome (H.head s 0)
 
 -- the answer with the lent heights afterwards
 pub record GridOutcome : Type 0 where

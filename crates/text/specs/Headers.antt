@@ -1,5 +1,5 @@
 -- RULES 2.2: the header. Assumes nothing.
-use Prim.Native.Nat.{ℕ, suc, _+_, _*_}
+use Prim.Native.Nat.{ℕ, suc, _+_, _-_, _*_}
 use mathlib.Core.Bool.{Bool, true, false, cond, _&&_}
 use mathlib.Core.List.{List, [], _∷_}
 use lib.Dec.{leb, ltb, eqb}
@@ -7,9 +7,11 @@ use lib.IntN.{ℤ, pos, negℤ}
 use lib.ListN.{getD, length}
 use Rattle.text.specs.Bytes.{bytes}
 use Rattle.text.specs.Quantities.{sideIn}
-use Rattle.text.specs.Reader.{Reader, got, _>>=_, _>>_, give, check}
+use Rattle.text.specs.Reader.{Reader, got, _>>=_, _>>_, give, here, check}
 use Rattle.text.specs.Words.{wordStart, Word, word}
 use Rattle.text.specs.Numbers.{count, number, measure}
+use Rattle.text.specs.declared.Span.{Span}
+use Rattle.text.specs.declared.Corners.{Corners}
 
 -- Letter case is ignored.
 abbrev pub lower : ℕ → ℕ
@@ -30,11 +32,12 @@ name n = do
   ok ← isNamed n w
   check ok 6 (w .start)
 
--- Corner numbers are checked for form only.
-unfoldable pub corner : Reader Unit
+-- Corner numbers are checked for form only; what is kept of one is where its word stands.
+unfoldable pub corner : Reader Span
 corner = do
   x ← number
-  give (tt {0})
+  e ← here
+  give (record { first = x .place; length = e - x .place })
 
 -- 9, 12, 7, 8, then 3: cell side out of range
 unfoldable pub side : Reader ℤ
@@ -78,6 +81,11 @@ pub record Header : Type 0 where
   pub side : ℤ
   pub noData : ℤ
 
+-- the header with where its corner words stand
+pub record Head : Type 0 where
+  pub header : Header
+  pub corners : Corners
+
 -- The header is ncols, nrows, xllcorner, yllcorner, cellsize in that order, each followed by its number.
 unfoldable pub extent : Reader Extent
 extent = do
@@ -85,19 +93,25 @@ extent = do
   r ← field (bytes "nrows") count
   give (record { rows = r; columns = c })
 
-unfoldable pub corners : Reader Unit
+unfoldable pub corners : Reader Corners
 corners = do
-  field (bytes "xllcorner") corner
-  field (bytes "yllcorner") corner
+  x ← field (bytes "xllcorner") corner
+  y ← field (bytes "yllcorner") corner
+  give (record { x = x; y = y })
 
-unfoldable pub sideAndNoData : Extent → Reader Header
-sideAndNoData e = do
+unfoldable pub sideAndNoData : Extent → Corners → Reader Head
+sideAndNoData e c = do
   m ← field (bytes "cellsize") side
   n ← noData
-  give (record { rows = e .rows; columns = e .columns; side = m; noData = n })
+  give (record { header = record { rows = e .rows; columns = e .columns; side = m; noData = n }; corners = c })
+
+unfoldable pub head : Reader Head
+head = do
+  e ← extent
+  c ← corners
+  sideAndNoData e c
 
 unfoldable pub header : Reader Header
 header = do
-  e ← extent
-  corners
-  sideAndNoData e
+  h ← head
+  give (h .header)

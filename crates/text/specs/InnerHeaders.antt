@@ -4,12 +4,18 @@ use lib.IntN.{ℤ, pos}
 use Rattle.text.specs.Reader.{Step, got, refused}
 use Rattle.text.specs.Headers as H
 use Rattle.text.specs.Answers.{headerOf}
+use Rattle.text.specs.declared.Span.{Span}
+use Rattle.text.specs.declared.Corners.{Corners}
 use Rattle.text.specs.declared.headers.Moved.{Moved}
 use Rattle.text.specs.declared.headers.Moved.the-variants.{On, Off}
 use Rattle.text.specs.declared.headers.Sided.{Sided}
 use Rattle.text.specs.declared.headers.Sided.the-variants.{Side, NoSide}
 use Rattle.text.specs.declared.headers.Lengthed.{Lengthed}
 use Rattle.text.specs.declared.headers.Lengthed.the-variants.{Length, NoLength}
+use Rattle.text.specs.declared.headers.Cornered.{Cornered}
+use Rattle.text.specs.declared.headers.Cornered.the-variants.{Corner, NoCorner}
+use Rattle.text.specs.declared.headers.Paired.{Paired}
+use Rattle.text.specs.declared.headers.Paired.the-variants.{Pair, NoPair}
 use Rattle.text.specs.declared.headers.Extent.{Extent}
 use Rattle.text.specs.declared.headers.Extended.{Extended}
 use Rattle.text.specs.declared.headers.Extended.the-variants as E
@@ -30,6 +36,14 @@ abbrev pub lengthedOf : Lengthed → Step ℤ
 lengthedOf (Length x) = got (x .cm) (x .rest .at)
 lengthedOf (NoLength f) = refused (f .number) (f .place)
 
+abbrev pub corneredOf : Cornered → Step Span
+corneredOf (Corner x) = got (x .span) (x .rest .at)
+corneredOf (NoCorner f) = refused (f .number) (f .place)
+
+abbrev pub pairedOf : Paired → Step Corners
+pairedOf (Pair x) = got (x .corners) (x .rest .at)
+pairedOf (NoPair f) = refused (f .number) (f .place)
+
 abbrev pub extentOf : Extent → H.Extent
 extentOf e = record { rows = e .rows; columns = e .columns }
 
@@ -37,8 +51,8 @@ abbrev pub extendedOf : Extended → Step H.Extent
 extendedOf (E.Extent e) = got (extentOf e) (e .rest .at)
 extendedOf (E.NoExtent f) = refused (f .number) (f .place)
 
-abbrev pub headedOf : Headed → Step H.Header
-headedOf (Head x) = got (headerOf (x .header)) (x .rest .at)
+abbrev pub headedOf : Headed → Step H.Head
+headedOf (Head x) = got (record { header = headerOf (x .header); corners = x .corners }) (x .rest .at)
 headedOf (NoHead f) = refused (f .number) (f .place)
 
 -- ---- rows and columns that were accepted

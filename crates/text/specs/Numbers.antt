@@ -4,7 +4,7 @@ use mathlib.Core.Bool.{Bool, true, false, not, cond, _&&_}
 use mathlib.Core.List.{List}
 use lib.IntN.{ℤ, pos, negℤ}
 use lib.Dec.{leb, ltb, eqb}
-use lib.ListN.{getD, set}
+use lib.ListN.{length, getD, set}
 use Rattle.text.specs.Quantities.{extentIn}
 use Rattle.text.specs.Reader.{Reader, got, refused, _>>=_, _>>_, give, check}
 use Rattle.text.specs.Words.{run, Word, word}
@@ -74,6 +74,11 @@ numberAt s a e = let b = afterSign s a in wholeAndDecimals s e (ltb a b) b (run 
 abbrev pub isFormed : {A : Type 0} → Form A → Bool
 isFormed (formed x) = true
 isFormed (malformed p) = false
+
+-- the bytes w, and all of them, are a number's word
+unfoldable pub isNumber : List ℕ → Bool
+unfolding numberAt
+isNumber w = isFormed (numberAt w 0 (length w))
 
 abbrev pub comma : ℕ → Bool
 comma b = eqb b 44

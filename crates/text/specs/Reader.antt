@@ -27,6 +27,10 @@ _>>_ m k = m >>= (λ a. k)
 abbrev pub give : {A : Type 0} → A → Reader A
 give a s i = got a i
 
+-- the place that reading has come to
+abbrev pub here : Reader ℕ
+here s i = got i i
+
 -- a test with the number and the place of the refusal where it fails
 abbrev pub check : Bool → ℕ → ℕ → Reader Unit
 check ok n p s i = cond ok (got tt i) (refused n p)

@@ -9,6 +9,8 @@ use lib.Seq.{slice}
 use Rattle.text.specs.Reader.{Step, got, refused}
 use Rattle.text.specs.Words.{wordStart, wordEnd}
 use Rattle.text.specs.Numbers.{digit}
+use Rattle.text.specs.declared.Span.{Span}
+use Rattle.text.specs.declared.Corners.{Corners}
 
 -- one or more digits, from the place i up to j
 pub record Digits (w : List ℕ) (i j : ℕ) : Type 0 where
@@ -64,6 +66,15 @@ pub record CommaAt (Right : List ℕ → Type 0) (w : List ℕ) (k : ℕ) : Type
 -- the word of a text that begins at a
 abbrev pub wordAt : List ℕ → ℕ → List ℕ
 wordAt s a = slice a (wordEnd s a) s
+
+-- a right number stands there in the text
+pub record NumberIn (s : List ℕ) (w : Span) : Type 0 where
+  pub within : w .first + w .length ≤ length s
+  pub right : RightNumber (slice (w .first) (w .first + w .length) s)
+
+pub record CornersIn (s : List ℕ) (c : Corners) : Type 0 where
+  pub x : NumberIn s (c .x)
+  pub y : NumberIn s (c .y)
 
 -- neither 7 nor 12
 abbrev pub Neither : {A : Type 0} → Step A → Type 0

@@ -5,11 +5,14 @@ ghost use lib.ListN.{length};
 ghost use Rattle.text.specs.Quantities.{sideIn};
 ghost use Rattle.text.specs.Numbers.{count};
 ghost use Rattle.text.specs.Headers.{lower, letter, letterNext, named, name};
-ghost use Rattle.text.specs.Headers.{corner, side, field, anyMeasure, noData, extent, corners, sideAndNoData, header};
+ghost use Rattle.text.specs.Headers.{corner, side, field, anyMeasure, noData, extent, corners, sideAndNoData, head};
 ghost use Rattle.text.specs.InnerNumbers.{countedOf, CountFits};
-ghost use Rattle.text.specs.InnerHeaders.{movedOf, sidedOf, lengthedOf, extentOf, extendedOf, ExtendedFits, headedOf, Fits, HeadFits};
+ghost use Rattle.text.specs.InnerHeaders.{movedOf, sidedOf, lengthedOf, corneredOf, pairedOf};
+ghost use Rattle.text.specs.InnerHeaders.{extentOf, extendedOf, ExtendedFits, headedOf, Fits, HeadFits};
+use crate::Corners;
 use crate::Header;
 use crate::Refusal;
+use crate::Span;
 use crate::numbers;
 use crate::numbers::Counted;
 use crate::numbers::Measured;
@@ -61,9 +64,32 @@ pub(crate) enum Lengthed {
     NoLength(Refusal),
 }
 
-// The header with the cursor after it.
+// Where a corner number's word stands, with the cursor after it.
+pub(crate) struct Corner {
+    pub(crate) span: Span,
+    pub(crate) rest: Cursor,
+}
+
+pub(crate) enum Cornered {
+    Corner(Corner),
+    NoCorner(Refusal),
+}
+
+// Where both corner words stand, with the cursor after them.
+pub(crate) struct Pair {
+    pub(crate) corners: Corners,
+    pub(crate) rest: Cursor,
+}
+
+pub(crate) enum Paired {
+    Pair(Pair),
+    NoPair(Refusal),
+}
+
+// The header and its corner words with the cursor after it.
 pub(crate) struct Head {
     pub(crate) header: Header,
+    pub(crate) corners: Corners,
     pub(crate) rest: Cursor,
 }
 
@@ -149,27 +175,33 @@ fn count_field(s: &[u8], k: Cursor, n: &[u8]) -> Counted
     }
 }
 
-// A corner number, of which only the form is judged.
-fn read_corner(s: &[u8], k: Cursor) -> Moved
-    ensures { λ r. ⌜ movedOf r ≡ corner (now (s .entry)) (k .at) ⌝ }
+// Where a corner number stands, of which only the form is judged.
+fn read_corner(s: &[u8], k: Cursor) -> Cornered
+    ensures { λ r. ⌜ corneredOf r ≡ corner (now (s .entry)) (k .at) ⌝ }
 {
     let x = k.number(s);
     match x {
-        Numbered::NoNumber(refusal) => Moved::Off(refusal),
+        Numbered::NoNumber(refusal) => Cornered::NoCorner(refusal),
         Numbered::Number(y) => {
             let rest = y.rest;
-            Moved::On(rest)
+            Cornered::Corner(Corner {
+                span: Span {
+                    first: y.start,
+                    length: rest.at - y.start,
+                },
+                rest,
+            })
         }
     }
 }
 
 // The name `n` and a corner number.
-fn corner_field(s: &[u8], k: Cursor, n: &[u8]) -> Moved
-    ensures { λ r. ⌜ movedOf r ≡ field (now (n .entry)) corner (now (s .entry)) (k .at) ⌝ }
+fn corner_field(s: &[u8], k: Cursor, n: &[u8]) -> Cornered
+    ensures { λ r. ⌜ corneredOf r ≡ field (now (n .entry)) corner (now (s .entry)) (k .at) ⌝ }
 {
     let m = read_name(s, k, n);
     match m {
-        Moved::Off(refusal) => Moved::Off(refusal),
+        Moved::Off(refusal) => Cornered::NoCorner(refusal),
         Moved::On(rest) => read_corner(s, rest),
     }
 }
@@ -294,20 +326,38 @@ fn read_extent(s: &[u8], k: Cursor) -> Extended
 }
 
 // The two corner numbers.
-fn read_corners(s: &[u8], k: Cursor) -> Moved
-    ensures { λ r. ⌜ movedOf r ≡ corners (now (s .entry)) (k .at) ⌝ }
+fn read_corners(s: &[u8], k: Cursor) -> Paired
+    ensures { λ r. ⌜ pairedOf r ≡ corners (now (s .entry)) (k .at) ⌝ }
 {
-    let x = corner_field(s, k, b"xllcorner");
-    match x {
-        Moved::Off(refusal) => Moved::Off(refusal),
-        Moved::On(rest) => corner_field(s, rest, b"yllcorner"),
+    let a = corner_field(s, k, b"xllcorner");
+    match a {
+        Cornered::NoCorner(refusal) => Paired::NoPair(refusal),
+        Cornered::Corner(x) => {
+            let next = x.rest;
+            let b = corner_field(s, next, b"yllcorner");
+            match b {
+                Cornered::NoCorner(refusal) => Paired::NoPair(refusal),
+                Cornered::Corner(y) => {
+                    let x_span = x.span;
+                    let y_span = y.span;
+                    let rest = y.rest;
+                    Paired::Pair(Pair {
+                        corners: Corners {
+                            x: x_span,
+                            y: y_span,
+                        },
+                        rest,
+                    })
+                }
+            }
+        }
     }
 }
 
-// The cell side and the NoData number, after the extent `e`.
-fn read_side_and_no_data(s: &[u8], k: Cursor, e: Extent) -> Headed
+// The cell side and the NoData number, after the extent `e` and the corners.
+fn read_side_and_no_data(s: &[u8], k: Cursor, e: Extent, corners: Corners) -> Headed
     requires { ⌜ Fits (e .rows) (e .columns) ⌝ }
-    ensures { λ r. ⌜ (headedOf r ≡ sideAndNoData (extentOf e) (now (s .entry)) (k .at)) × HeadFits r ⌝ }
+    ensures { λ r. ⌜ (headedOf r ≡ sideAndNoData (extentOf e) corners (now (s .entry)) (k .at)) × HeadFits r ⌝ }
 {
     let c = side_field(s, k, b"cellsize");
     match c {
@@ -326,6 +376,7 @@ fn read_side_and_no_data(s: &[u8], k: Cursor, e: Extent) -> Headed
                             side: side.cm,
                             no_data: no_data.cm,
                         },
+                        corners,
                         rest,
                     })
                 }
@@ -336,7 +387,7 @@ fn read_side_and_no_data(s: &[u8], k: Cursor, e: Extent) -> Headed
 
 // The header that begins at `k`.
 pub(crate) fn read(s: &[u8], k: Cursor) -> Headed
-    ensures { λ r. ⌜ (headedOf r ≡ header (now (s .entry)) (k .at)) × HeadFits r ⌝ }
+    ensures { λ r. ⌜ (headedOf r ≡ head (now (s .entry)) (k .at)) × HeadFits r ⌝ }
 {
     let x = read_extent(s, k);
     match x {
@@ -345,8 +396,12 @@ pub(crate) fn read(s: &[u8], k: Cursor) -> Headed
             let next = e.rest;
             let m = read_corners(s, next);
             match m {
-                Moved::Off(refusal) => Headed::NoHead(refusal),
-                Moved::On(rest) => read_side_and_no_data(s, rest, e),
+                Paired::NoPair(refusal) => Headed::NoHead(refusal),
+                Paired::Pair(p) => {
+                    let corners = p.corners;
+                    let rest = p.rest;
+                    read_side_and_no_data(s, rest, e, corners)
+                }
             }
         }
     }

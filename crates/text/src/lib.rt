@@ -9,8 +9,9 @@ mod ranges;
 mod words;
 
 ghost use mathlib.Core.Path.{_≡_};
-ghost use Rattle.text.specs.Answers.{outcomeOf, gridOutcomeOf, headerAnswer, gridAnswer};
+ghost use Rattle.text.specs.Answers.{outcomeOf, gridOutcomeOf, headerAnswer, cornersAnswer, gridAnswer};
 use headers::Headed;
+pub use numbers::is_number;
 pub use ranges::first_bad;
 pub use ranges::is_height;
 pub use ranges::is_side;
@@ -34,22 +35,57 @@ pub struct Header {
     pub no_data: i64,
 }
 
-// The answer of both calls.
+// What both calls answer.
 pub enum Answer {
     Accepted(Header),
     Refused(Refusal),
 }
 
+// Where a word stands: its first byte and its length.
+pub struct Span {
+    pub first: usize,
+    pub length: usize,
+}
+
+// Where the words of the two corner numbers stand; zeros at a refusal.
+pub struct Corners {
+    pub x: Span,
+    pub y: Span,
+}
+
+// The answer of the header call.
+pub struct HeaderAnswer {
+    pub answer: Answer,
+    pub corners: Corners,
+}
+
 // Reads the header alone, and judges nothing after it.
-pub fn read_header(text: &[u8]) -> Answer
-    ensures { λ r. ⌜ outcomeOf r ≡ headerAnswer (now (text .entry)) ⌝ }
+pub fn read_header(text: &[u8]) -> HeaderAnswer
+    ensures answers { λ r. ⌜ outcomeOf (r .answer) ≡ headerAnswer (now (text .entry)) ⌝ }
+    ensures corners { λ r. ⌜ r .corners ≡ cornersAnswer (now (text .entry)) ⌝ }
 {
     let h = headers::read(text, Cursor { at: 0 });
     match h {
-        Headed::NoHead(refusal) => Answer::Refused(refusal),
+        Headed::NoHead(refusal) => HeaderAnswer {
+            answer: Answer::Refused(refusal),
+            corners: Corners {
+                x: Span {
+                    first: 0,
+                    length: 0,
+                },
+                y: Span {
+                    first: 0,
+                    length: 0,
+                },
+            },
+        },
         Headed::Head(x) => {
             let header = x.header;
-            Answer::Accepted(header)
+            let corners = x.corners;
+            HeaderAnswer {
+                answer: Answer::Accepted(header),
+                corners,
+            }
         }
     }
 }

@@ -6,7 +6,7 @@ ghost use lib.Dec.{eqb};
 ghost use lib.ListN.{length, getD};
 ghost use Rattle.text.specs.Reader.{refused};
 ghost use Rattle.text.specs.Words.{run, solid, wordEnd};
-ghost use Rattle.text.specs.Numbers.{digit, digitOf, zero, afterSign, value, numberAt, decimals, isFormed, commaDecimal, centimetres, number};
+ghost use Rattle.text.specs.Numbers.{digit, digitOf, zero, afterSign, value, numberAt, decimals, isFormed, isNumber, commaDecimal, centimetres, number};
 ghost use Rattle.text.specs.Numbers as D;
 ghost use Rattle.text.specs.InnerNumbers.{Limit, DigitsFrom, HundredthsFrom, TailFrom, Parsed, numberedOf, SizeFits, measuredOf, countedOf, CountFits};
 use crate::Refusal;
@@ -222,6 +222,30 @@ fn read_form(s: &[u8], a: usize) -> Form
         };
     }
     Form::Malformed { at: d }
+}
+
+// Whether the bytes of `word` are those of a number's word.
+pub fn is_number(word: &[u8]) -> bool
+    ensures { λ r. ⌜ r ≡ isNumber (now (word .entry)) ⌝ }
+{
+    if word.len() == 0 {
+        return false;
+    }
+    let b = after_sign(word, 0);
+    let w = read_digits(word, b, 9);
+    let d = w.end;
+    if d == b {
+        return false;
+    }
+    if byte_at(word, d) != 46 {
+        return d == word.len();
+    }
+    let t = read_digits(word, d + 1, 6);
+    let f = t.end;
+    if f == d + 1 {
+        return false;
+    }
+    f == word.len()
 }
 
 // Whether the word that begins at `a`, which is no number, would be one if its first comma were a point. Only then do its whole

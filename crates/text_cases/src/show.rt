@@ -38,7 +38,9 @@ fn second_line(lines: &[u8]) -> usize
 
 fn answers(text: &[u8], heights: &mut [i32]) {
     write(b"header");
-    write_answer(text::read_header(text));
+    let read = text::read_header(text);
+    let answer = read.answer;
+    write_answer(answer);
     write(b"\ngrid");
     write_answer(text::read_grid(text, heights));
     write(b":");

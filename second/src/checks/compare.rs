@@ -25,7 +25,7 @@ fn printed(printer: &[&str], text: &[u8]) -> io::Result<Vec<u8>> {
 }
 
 /// Where the text of a difference is kept: beside this program.
-fn difference_file() -> io::Result<PathBuf> {
+pub fn difference_file() -> io::Result<PathBuf> {
     Ok(std::env::current_exe()?.with_file_name("difference.txt"))
 }
 

@@ -85,7 +85,7 @@ fn same_terrain(table: &Table, kind: usize, size: usize, program: &[&str], made:
     std::fs::write(&file, &text)?;
     let grids = made.join("grids");
     std::fs::create_dir_all(&grids)?;
-    let header = read_header(&text).map_err(|refusal| fault(format!("{refusal:?}")))?;
+    let (header, _) = read_header(&text).map_err(|refusal| fault(format!("{refusal:?}")))?;
     let mut ground = vec![0; header.shape.cells()];
     read_grid(&text, &mut ground).map_err(|refusal| fault(format!("{refusal:?}")))?;
     let mut line = String::new();

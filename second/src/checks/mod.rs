@@ -6,3 +6,4 @@ mod fast_ways;
 pub mod full;
 mod second_ways;
 pub mod selfcheck;
+pub mod texts;

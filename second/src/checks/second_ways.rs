@@ -10,6 +10,7 @@ use crate::rules::map::{map, Map};
 use crate::rules::settings::{percents, Channel, Settings};
 use crate::rules::text::{read_grid, read_header};
 use crate::rules::trail::onward;
+use crate::rules::write::{room, write, Frame, Numbers};
 use crate::texts::fields::{self, Field};
 use crate::texts::seed::Seed;
 use crate::texts::spelling::{text, Manner};
@@ -136,7 +137,7 @@ pub fn any_settings(seed: &mut Seed) -> Settings {
     Settings { low: seed.below(101) as f64 / 100.0, high: seed.below(101) as f64 / 100.0, channel }
 }
 
-/// The reader gives a field back, and the map's grids hold in the second way too.
+/// The reader gives a field back, the writer its ground, and the map's grids hold in the second way too.
 pub fn field(number: usize) {
     let mut seed = Seed::of(1, number as u64);
     let shape = Shape { rows: 1 + seed.below(12), columns: 1 + seed.below(12) };
@@ -157,7 +158,22 @@ fn read_back(seed: &mut Seed, field: &Field, ground: &[i32]) {
     let bytes = text(seed, Manner::Mixed, field).bytes;
     let mut lent = vec![0; ground.len()];
     let header = read_grid(&bytes, &mut lent).expect("a field's text is accepted");
-    assert_eq!(read_header(&bytes), Ok(header));
+    let (alone, corners) = read_header(&bytes).expect("a field's header is accepted");
+    assert_eq!(alone, header);
     assert_eq!((header.shape, header.side, header.nodata), (field.shape, field.side, field.nodata.unwrap_or(-999_900)));
     assert_eq!(lent, ground);
+    let corners = corners.map(|span| span.of(&bytes));
+    written_back(Frame { shape: header.shape, side: header.side, corners }, ground);
+}
+
+/// A ground that is written and read again is the same, and so are its shape, side and corner words.
+fn written_back(frame: Frame, ground: &[i32]) {
+    let mut text = vec![0; room(frame.shape)];
+    let length = write(frame, Numbers::Heights(ground), &mut text).expect("a field's heights are accepted");
+    text.truncate(length);
+    let mut lent = vec![0; ground.len()];
+    let header = read_grid(&text, &mut lent).expect("a text that was written is accepted");
+    let (_, corners) = read_header(&text).expect("a text that was written is accepted");
+    assert_eq!((header.shape, header.side), (frame.shape, frame.side));
+    assert_eq!((corners.map(|span| span.of(&text)), &lent[..]), (frame.corners, ground));
 }

@@ -1,10 +1,11 @@
-//! The rules of docs/RULES.md read literally: the reader, the map and the sheet.
+//! The rules of docs/RULES.md read literally: the reader, the map, the sheet and the writer.
 
 mod big;
 pub mod direction;
 pub mod factor;
 pub mod fill;
 pub mod grid;
+pub mod grid_texts;
 pub mod length;
 pub mod map;
 mod number;
@@ -14,3 +15,4 @@ pub mod settings;
 pub mod sheet;
 pub mod text;
 pub mod trail;
+pub mod write;

@@ -24,3 +24,4 @@ pub const ENDS: u32 = 9;
 pub const AFTER: u32 = 10;
 pub const PRINTER: u32 = 11;
 pub const COMMA: u32 = 12;
+pub const ROOM: u32 = 13;

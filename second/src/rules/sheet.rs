@@ -18,7 +18,7 @@ pub fn read_small(text: &[u8]) -> Result<(Header, Vec<i32>), Refusal> {
     if text.len() > MOST_BYTES {
         return refuse(refusal::PRINTER, MOST_BYTES);
     }
-    let cells = read_header(text)?.shape.cells();
+    let cells = read_header(text)?.0.shape.cells();
     if cells > MOST_CELLS {
         return refuse(refusal::PRINTER, 0);
     }

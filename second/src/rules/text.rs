@@ -12,6 +12,20 @@ pub struct Header {
     pub nodata: i64,
 }
 
+/// Where a corner word stands in the text: its first byte and its length.
+#[derive(Clone, Copy, Debug, PartialEq, Eq)]
+pub struct Span {
+    pub first: usize,
+    pub length: usize,
+}
+
+impl Span {
+    /// The word that stands there.
+    pub fn of(self, text: &[u8]) -> &[u8] {
+        &text[self.first..self.first + self.length]
+    }
+}
+
 /// The NoData number where the header has none, in cm.
 const USUAL_NODATA: i64 = -999_900;
 
@@ -78,9 +92,9 @@ impl<'a> Words<'a> {
         Ok(count)
     }
 
-    /// Corner numbers are checked for form only.
-    fn corner(&mut self) -> Result<(), Refusal> {
-        self.right(Form::Number).map(|_| ())
+    /// Corner numbers are checked for form only; the header call tells each one's first byte and length.
+    fn corner(&mut self) -> Result<Span, Refusal> {
+        self.right(Form::Number).map(|word| Span { first: word.place, length: word.bytes.len() })
     }
 
     /// Cell side, NoData and heights become cm exactly: form, then fineness. Place and cm.
@@ -122,24 +136,24 @@ impl<'a> Words<'a> {
     }
 
     /// The header: ncols, nrows, xllcorner, yllcorner, cellsize in that order, each followed by its number.
-    fn header(&mut self) -> Result<Header, Refusal> {
+    fn header(&mut self) -> Result<(Header, [Span; 2]), Refusal> {
         self.name("ncols")?;
         let columns = self.count()?;
         self.name("nrows")?;
         let rows = self.count()?;
         self.name("xllcorner")?;
-        self.corner()?;
+        let x = self.corner()?;
         self.name("yllcorner")?;
-        self.corner()?;
+        let y = self.corner()?;
         self.name("cellsize")?;
         let side = self.side()?;
         let nodata = self.nodata()?;
-        Ok(Header { shape: Shape { rows, columns }, side, nodata })
+        Ok((Header { shape: Shape { rows, columns }, side, nodata }, [x, y]))
     }
 }
 
-/// Reads the header alone and judges nothing after it.
-pub fn read_header(text: &[u8]) -> Result<Header, Refusal> {
+/// Reads the header alone, tells where the two corner words stand, and judges nothing after it.
+pub fn read_header(text: &[u8]) -> Result<(Header, [Span; 2]), Refusal> {
     Words::of(text).header()
 }
 
@@ -147,7 +161,7 @@ pub fn read_header(text: &[u8]) -> Result<Header, Refusal> {
 /// lent grid.
 pub fn read_grid(text: &[u8], lent: &mut [i32]) -> Result<Header, Refusal> {
     let mut words = Words::of(text);
-    let header = words.header()?;
+    let (header, _) = words.header()?;
     if lent.len() != header.shape.cells() {
         return refuse(refusal::LENT, 0);
     }
@@ -216,7 +230,9 @@ mod tests {
         assert_eq!((refused(b"ncols 3 nro"), refused(b"ncols 3 nrows")), ((6, 8), (9, 13)));
         let header = b"NCOLS 2\r\nnRows\t003 xllcorner 0.5 yllcorner -1 cellsize 1.25 NODATA_value -0.01 ?";
         let read = Header { shape: Shape { rows: 3, columns: 2 }, side: 125, nodata: -1 };
-        assert_eq!(read_header(header), Ok(read));
+        let corners = [Span { first: 29, length: 3 }, Span { first: 43, length: 2 }];
+        assert_eq!(read_header(header), Ok((read, corners)));
+        assert_eq!(corners.map(|span| span.of(header)), [&b"0.5"[..], b"-1"]);
     }
 
     /// The lent length is tested right after the header; a refusal changes no lent grid.

@@ -7,11 +7,11 @@ use native.Mathlib.Omega.{arith}
 use lib.ListN.{length}
 use denote.Ref.{now}
 use Rattle.text.specs.Answers.{headerAnswer}
-use Rattle.sheet.specs.Writing.{overlay}
-use Rattle.sheet.specs.InnerWriting.{Wrote}
+use Rattle.numerals.specs.Writing.{overlay}
+use Rattle.numerals.specs.Writing.{Wrote}
 use Rattle.sheet.specs.InnerAnswers.{headNumbers}
 use Rattle.sheet.specs.declared.answers.Head.{Head}
-use Rattle.sheet.proofs.InnerWriting.{wrote-as}
+use Rattle.numerals.proofs.Writing.{wrote-as}
 use Rattle.sheet.proofs.Sizes.{header-few}
 use Rattle.sheet.proofs.InnerSheets.{text-long, head-refused, head-large, head-printed}
 use borrow.Author.Needs.{needs}
@@ -31,7 +31,7 @@ start c = c .before .before .before
 
 -- the header's numbers are those of its answer
 numbers : (c : tie.After-head-of) → c .head-of .result ≡ headNumbers (headerAnswer (now (start (short c) .args .text)))
-numbers c = c .head-of .ensures ∙ ap headNumbers (c .before .read-header .ensures)
+numbers c = c .head-of .ensures ∙ ap headNumbers (c .before .read-header .ensures .0)
 
 put-refusal-requires : tie.Need-put-refusal-requires
 put-refusal-requires c κs = search needs

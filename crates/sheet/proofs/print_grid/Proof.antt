@@ -7,7 +7,7 @@ use denote.Ref.{now}
 use Rattle.factor.specs.Answers.{lent}
 use Rattle.sheet.specs.Sheet.{gridSheet}
 use Rattle.sheet.specs.declared.answers.Head.{Head}
-use Rattle.sheet.proofs.InnerWriting.{wrote-as}
+use Rattle.numerals.proofs.Writing.{wrote-as}
 use Rattle.sheet.proofs.InnerSheets.{part-same, part-long, long-part}
 use borrow.Author.Needs.{needs}
 use Rattle.sheet.proofs.print_grid.Statement.{statement}

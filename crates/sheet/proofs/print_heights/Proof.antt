@@ -5,7 +5,7 @@ use denote.Ref.{now}
 use Rattle.text.specs.Answers.{GridOutcome, gridAnswer}
 use Rattle.factor.specs.Answers.{Grids, lent}
 use Rattle.sheet.specs.InnerAnswers.{headNumbers}
-use Rattle.sheet.proofs.InnerWriting.{wrote-as}
+use Rattle.numerals.proofs.Writing.{wrote-as}
 use Rattle.sheet.proofs.InnerSheets.{grid-refused, grid-printed}
 use borrow.Author.Needs.{needs}
 use Rattle.sheet.proofs.print_heights.Statement.{statement}

@@ -2,7 +2,7 @@
 use native.Mathlib.Omega.{arith}
 use denote.Ref.{now}
 use Rattle.factor.specs.Answers.{Grids, lent}
-use Rattle.sheet.proofs.InnerWriting.{wrote-as}
+use Rattle.numerals.proofs.Writing.{wrote-as}
 use Rattle.sheet.proofs.InnerSheets.{map-refused, map-printed, map-columns}
 use borrow.Author.Needs.{needs}
 use Rattle.sheet.proofs.print_map.Statement.{statement}

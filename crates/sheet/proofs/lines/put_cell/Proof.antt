@@ -1,9 +1,9 @@
 -- `sheet::lines::put_cell` meets its contract. Assumes nothing.
 use borrow.Author.Needs.{needs}
 use native.Mathlib.Omega.{arith}
-use Rattle.sheet.proofs.InnerWriting.{wrote-as, wrote-word}
+use Rattle.numerals.proofs.Writing.{wrote-as, wrote-word}
 use mathlib.Core.Path.{sym}
-use Rattle.sheet.specs.Words.{decimal}
+use Rattle.numerals.specs.Words.{decimal}
 use Rattle.sheet.proofs.InnerShown.{cell-line}
 use Rattle.sheet.proofs.lines.put_cell.Statement.{statement}
 use Rattle.sheet.proofs.lines.put_cell.Tie as tie

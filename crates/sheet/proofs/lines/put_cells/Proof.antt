@@ -6,9 +6,9 @@ use native.Mathlib.Omega.{arith}
 use lib.ListN.{length}
 use borrow.Author.Needs.{needs, sfits-of}
 use mir.Facts.{toZ-ofZ}
-use Rattle.sheet.specs.InnerWriting.{Wrote}
+use Rattle.numerals.specs.Writing.{Wrote}
 use Rattle.sheet.specs.Lines.{Grids, cellLines, gridsOf}
-use Rattle.sheet.proofs.InnerWriting.{wrote-as, wrote-long}
+use Rattle.numerals.proofs.Writing.{wrote-as, wrote-long}
 use Rattle.sheet.proofs.InnerShown.{cells-none, cells-more}
 use Rattle.sheet.proofs.lines.put_cells.Statement.{statement}
 use Rattle.sheet.proofs.lines.put_cells.Tie as tie

@@ -1,14 +1,14 @@
 -- `sheet::lines::put_factor` meets its contract. Assumes nothing.
 use borrow.Author.Needs.{needs}
 use native.Mathlib.Omega.{arith}
-use Rattle.sheet.proofs.InnerWriting.{wrote-as}
+use Rattle.numerals.proofs.Writing.{wrote-as}
 use mathlib.Core.Path.{sym, ap}
 use mathlib.Core.Bool.{Bool, cond}
 use mathlib.Core.List.{[], _∷_, _++_}
 use borrow.Author.Tests.{eq-eqb, ne-eqb}
 use Rattle.text.specs.Bytes.{bytes}
 use Rattle.factor.specs.Cell.{tooLong}
-use Rattle.sheet.specs.Words.{decimal}
+use Rattle.numerals.specs.Words.{decimal}
 use Rattle.sheet.specs.Lines.{factorWord}
 use Rattle.sheet.proofs.lines.put_factor.Statement.{statement}
 use Rattle.sheet.proofs.lines.put_factor.Tie as tie

@@ -1,8 +1,8 @@
 -- `sheet::lines::put_flow` meets its contract. Assumes nothing.
 use borrow.Author.Needs.{needs}
 use native.Mathlib.Omega.{arith}
-use Rattle.sheet.proofs.InnerWriting.{wrote-word}
-use Rattle.sheet.specs.Words.{decimal, line}
+use Rattle.numerals.proofs.Writing.{wrote-word}
+use Rattle.numerals.specs.Words.{decimal, line}
 use Rattle.sheet.proofs.lines.put_flow.Statement.{statement}
 use Rattle.sheet.proofs.lines.put_flow.Tie as tie
 

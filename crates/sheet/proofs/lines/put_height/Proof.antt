@@ -2,10 +2,10 @@
 use borrow.Author.Needs.{needs}
 use mathlib.Core.Path.{ap}
 use mir.Facts.{toZ-ofZ}
-use Rattle.sheet.specs.Words.{integer}
+use Rattle.numerals.specs.Words.{integer}
 use native.Mathlib.Omega.{arith}
-use Rattle.sheet.proofs.InnerWriting.{wrote-as, wrote-then}
-use Rattle.sheet.proofs.InnerSigns.{integer-short}
+use Rattle.numerals.proofs.Writing.{wrote-as, wrote-then}
+use Rattle.numerals.proofs.Signs.{integer-short}
 use Rattle.sheet.proofs.lines.put_height.Statement.{statement}
 use Rattle.sheet.proofs.lines.put_height.Tie as tie
 

@@ -3,7 +3,7 @@ use mathlib.Core.Path.{ap}
 use native.Mathlib.Omega.{arith}
 use denote.Ref.{now}
 use Rattle.sheet.specs.Lines.{cellLines, mapLines, gridsOf}
-use Rattle.sheet.proofs.InnerWriting.{wrote-as, wrote-then}
+use Rattle.numerals.proofs.Writing.{wrote-as, wrote-then}
 use borrow.Author.Needs.{needs}
 use Rattle.sheet.proofs.lines.put_map.Statement.{statement}
 use Rattle.sheet.proofs.lines.put_map.Tie as tie

@@ -1,8 +1,8 @@
 -- `sheet::lines::put_number` meets its contract. Assumes nothing.
 use borrow.Author.Needs.{needs}
 use native.Mathlib.Omega.{arith}
-use Rattle.sheet.proofs.InnerWriting.{wrote-then}
-use Rattle.sheet.proofs.Decimal.{decimal-short}
+use Rattle.numerals.proofs.Writing.{wrote-then}
+use Rattle.numerals.proofs.Decimal.{decimal-short}
 use Rattle.sheet.proofs.lines.put_number.Statement.{statement}
 use Rattle.sheet.proofs.lines.put_number.Tie as tie
 

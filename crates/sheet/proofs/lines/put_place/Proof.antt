@@ -1,9 +1,9 @@
 -- `sheet::lines::put_place` meets its contract. Assumes nothing.
 use borrow.Author.Needs.{needs}
 use native.Mathlib.Omega.{arith}
-use Rattle.sheet.proofs.InnerWriting.{wrote-word}
+use Rattle.numerals.proofs.Writing.{wrote-word}
 use Rattle.text.specs.Bytes.{bytes}
-use Rattle.sheet.specs.Words.{line}
+use Rattle.numerals.specs.Words.{line}
 use Rattle.sheet.proofs.lines.put_place.Statement.{statement}
 use Rattle.sheet.proofs.lines.put_place.Tie as tie
 

@@ -1,9 +1,9 @@
 -- `sheet::lines::put_refusal` meets its contract. Assumes nothing.
 use borrow.Author.Needs.{needs}
 use native.Mathlib.Omega.{arith}
-use Rattle.sheet.proofs.InnerWriting.{wrote-word}
+use Rattle.numerals.proofs.Writing.{wrote-word}
 use Rattle.text.specs.Bytes.{bytes}
-use Rattle.sheet.specs.Words.{decimal, line}
+use Rattle.numerals.specs.Words.{decimal, line}
 use Rattle.sheet.specs.Lines.{refusalLine}
 use Rattle.sheet.proofs.lines.put_refusal.Statement.{statement}
 use Rattle.sheet.proofs.lines.put_refusal.Tie as tie

@@ -7,9 +7,10 @@ use Rattle.text.specs.Bytes.{bytes}
 use Rattle.text.specs.Heights.{same}
 use Rattle.text.specs.Quantities.{noDataHeight}
 use Rattle.text.proofs.Accepted.{bits-none, none-bits}
-use Rattle.sheet.specs.Words.{line}
-use Rattle.sheet.proofs.InnerWriting.{wrote-as}
-use Rattle.sheet.proofs.InnerShown.{shown-none, shown-values, same-not}
+use Rattle.numerals.specs.Words.{line}
+use Rattle.numerals.proofs.Writing.{wrote-as}
+use Rattle.sheet.proofs.InnerShown.{shown-none, shown-values}
+use Rattle.text.proofs.Accepted.{same-not}
 use Rattle.sheet.proofs.lines.put_shown.Statement.{statement}
 use Rattle.sheet.proofs.lines.put_shown.Tie as tie
 

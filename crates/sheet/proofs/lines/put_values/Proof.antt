@@ -7,8 +7,8 @@ use mir.Syntax.{w32}
 use mir.Facts.{toZ-ofZ}
 use mir.Val.{toZ, ofZ}
 use native.Mathlib.Omega.{arith}
-use Rattle.sheet.proofs.InnerWriting.{wrote-as, wrote-word}
-use Rattle.sheet.specs.Words.{integer, line}
+use Rattle.numerals.proofs.Writing.{wrote-as, wrote-word}
+use Rattle.numerals.specs.Words.{integer, line}
 use Rattle.sheet.specs.Lines.{valueWords}
 use Rattle.sheet.proofs.lines.put_values.Statement.{statement}
 use Rattle.sheet.proofs.lines.put_values.Tie as tie

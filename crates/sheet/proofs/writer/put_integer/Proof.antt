@@ -5,9 +5,9 @@ use mathlib.Core.List.{_∷_}
 use Prim.Native.Nat.{ℕ}
 use lib.IntN.{natAbs}
 use mir.Facts.{toZ-ofZ}
-use Rattle.sheet.specs.Words.{decimal}
-use Rattle.sheet.proofs.InnerWriting.{wrote-as, wrote-then}
-use Rattle.sheet.proofs.InnerSigns.{integer-minus, integer-plus}
+use Rattle.numerals.specs.Words.{decimal}
+use Rattle.numerals.proofs.Writing.{wrote-as, wrote-then}
+use Rattle.numerals.proofs.Signs.{integer-minus, integer-plus}
 use Rattle.sheet.proofs.writer.put_integer.Statement.{statement}
 use Rattle.sheet.proofs.writer.put_integer.Tie as tie
 

@@ -1,7 +1,7 @@
 -- `text::headers::read` meets its contract. Assumes nothing.
-use mathlib.Core.Path.{_∙_, subst}
+use mathlib.Core.Path.{subst}
 use Rattle.text.specs.InnerHeaders.{ExtendedFits}
-use Rattle.text.proofs.InnerFields.{header-no-extent, header-no-corners, header-on}
+use Rattle.text.proofs.InnerFields.{head-no-extent, head-no-corners, head-on}
 use borrow.Author.Needs.{needs}
 use Rattle.text.proofs.headers.read.Statement.{statement}
 use Rattle.text.proofs.headers.read.Tie as tie
@@ -32,23 +32,26 @@ enum-known-m-2 : tie.Need-enum-known-m-2
 enum-known-m-2 c = search needs
 
 read-side-and-no-data-requires : tie.Need-read-side-and-no-data-requires
-read-side-and-no-data-requires c κs = let e = extent-at (c .before .before .before) in subst ExtendedFits (e .x2 .given .1) (extent-read e .read-extent .ensures .1)
+read-side-and-no-data-requires c κs =
+    let e = extent-at (c .before .before .before .before .before) in
+    subst ExtendedFits (e .x2 .given .1) (extent-read e .read-extent .ensures .1)
 
 returns : tie.Need-returns
-returns c = (header-no-extent _ _ _ (c .before .before .before .read-extent .ensures .0) _ (c .before .x .given .1), tt)
+returns c = (head-no-extent _ _ _ (c .before .before .before .read-extent .ensures .0) _ (c .before .x .given .1), tt)
 
 returns-2 : tie.Need-returns-2
 returns-2 c =
     let k = c .before .before .before in
     let e = extent-at k in
-    (header-no-corners _ _ _ (extent-read e .read-extent .ensures .0) _ (e .x2 .given .1) _ (k .read-corners .ensures) _ (c .before .m .given .1), tt)
+    (head-no-corners _ _ _ (extent-read e .read-extent .ensures .0) _ (e .x2 .given .1) _ (k .read-corners .ensures) _ (c .before .m .given .1), tt)
 
 returns-3 : tie.Need-returns-3
 returns-3 c =
-    let k = c .before .before .before .before in
+    let p = c .before .before .before .before in
+    let k = p .before .before in
     let e = extent-at k in (
-      c .read-side-and-no-data .ensures .0
-          ∙ header-on _ _ _ (extent-read e .read-extent .ensures .0) _ (e .x2 .given .1) _ (k .read-corners .ensures) _ (c .before .before .m2 .given .1),
+      head-on _ _ _ (extent-read e .read-extent .ensures .0) _ (e .x2 .given .1) _ (k .read-corners .ensures) _ (p .m2 .given .1) _
+          (c .read-side-and-no-data .ensures .0),
       c .read-side-and-no-data .ensures .1,
     )
 

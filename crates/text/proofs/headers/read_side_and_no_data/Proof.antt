@@ -41,14 +41,14 @@ enum-known-n-2 c = search needs
 
 returns : tie.Need-returns
 unfolding bytes
-returns c = (last-no-side _ _ _ _ (c .before .before .before .side-field .ensures) _ (c .before .c .given .1), tt)
+returns c = (last-no-side _ _ _ _ _ (c .before .before .before .side-field .ensures) _ (c .before .c .given .1), tt)
 
 returns-2 : tie.Need-returns-2
 unfolding bytes
 returns-2 c =
     let n = c .before .before .before in
     let s = side-at n in
-    (last-no-data _ _ _ _ (side-read s .side-field .ensures) _ (s .c2 .given .1) _ (n .read-no-data .ensures) _ (c .before .n .given .1), tt)
+    (last-no-data _ _ _ _ _ (side-read s .side-field .ensures) _ (s .c2 .given .1) _ (n .read-no-data .ensures) _ (c .before .n .given .1), tt)
 
 returns-3 : tie.Need-returns-3
 unfolding bytes
@@ -56,8 +56,10 @@ returns-3 c =
     let x = c .before .before .before in
     let n = x .before .before in
     let s = side-at n in
-    let bits : toZ w64 (ofZ w64 (x .n2 .given .0 .0 .cm)) ≡ x .n2 .given .0 .0 .cm = search needs in
-    (rw bits (last-on _ _ _ _ (side-read s .side-field .ensures) _ (s .c2 .given .1) _ (n .read-no-data .ensures) _ (x .n2 .given .1)), start (side-read s) .pre)
+    let bits : toZ w64 (ofZ w64 (x .n2 .given .0 .0 .cm)) ≡ x .n2 .given .0 .0 .cm = search needs in (
+      rw bits (last-on _ _ _ _ _ (side-read s .side-field .ensures) _ (s .c2 .given .1) _ (n .read-no-data .ensures) _ (x .n2 .given .1)),
+      start (side-read s) .pre,
+    )
 
 pub read-side-and-no-data-spec : {M : Type 1} → statement M
 read-side-and-no-data-spec =

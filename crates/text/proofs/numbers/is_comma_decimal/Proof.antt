@@ -21,7 +21,7 @@ after-sign-requires c κs = search needs
 read-digits-requires : tie.Need-read-digits-requires
 read-digits-requires c κs =
     let p = c .before .before .pre in
-    (sign-within (now (c .before .before .args .s)) _ _ (p .0) (p .1) (c .after-sign .ensures), omega arith)
+    (sign-within (now (c .before .before .args .s)) _ _ (p .0) (c .after-sign .ensures), omega arith)
 
 returns : tie.Need-returns
 returns c =

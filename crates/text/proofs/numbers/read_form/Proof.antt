@@ -18,7 +18,7 @@ after-sign-requires : tie.Need-after-sign-requires
 after-sign-requires c κs = search needs
 
 read-digits-requires : tie.Need-read-digits-requires
-read-digits-requires c κs = (sign-within (now (c .before .before .args .s)) _ _ (c .before .before .pre .0) (c .before .before .pre .1) (c .after-sign .ensures), omega arith)
+read-digits-requires c κs = (sign-within (now (c .before .before .args .s)) _ _ (c .before .before .pre .0) (c .after-sign .ensures), omega arith)
 
 returns : tie.Need-returns
 returns c =

@@ -1,0 +1,3 @@
+-- What the promises cite
+pub mod Words
+pub mod Writing
