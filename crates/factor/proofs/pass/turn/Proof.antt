@@ -150,7 +150,8 @@ steepness-of-requires-2 c κs =
 shared-slice-read-start-length-2 : tie.Need-shared-slice-read-start-length-2
 shared-slice-read-start-length-2 c =
     let b = c .before .before .before in
-    omega (arith, b .beside .ensures, start (measured-at (b .before)) .pre .0 .next-dir (b .before .if1 .left))
+    let t = start (measured-at (b .before)) .pre .0 in
+    omega (arith, b .beside .ensures, t .dir-in, t .next-dir (b .before .if1 .left))
 
 start-length-requires-2 : tie.Need-start-length-requires-2
 start-length-requires-2 c κs = search needs
