@@ -16,7 +16,7 @@ sheets() {
     "$lsmap" $printers -- --low | cmp - "$root/host/pit.txt" || fail "a field behind --"
     [ "$(cat grids/length.txt)" = 'length rows 3 columns 3 type u64 side 1000' ] || fail "the description of a grid"
     [ "$(od -An -td4 -v grids/filled.bin | tr -s ' \n' ' ')" = ' 500 500 500 500 400 400 500 500 500 ' ] || fail "the filled heights on disk"
-    [ "$(od -An -tu4 -v grids/ls.bin | tr -s ' \n' ' ')" = ' 33088 54379 54379 54379 0 4810 33088 54379 54379 ' ] || fail "LS on disk"
+    [ "$(od -An -tu4 -v grids/ls.bin | tr -s ' \n' ' ')" = ' 39424 54379 54379 54379 0 4810 39424 54379 54379 ' ] || fail "LS on disk"
     printf 'ncols 2 nrows 1 xllcorner 0 yllcorner 0 cellsize 1000\n-5 -9999\n' >long.asc
     printf '1 2 100000 1 0\n0 0 -500 -500 0 1 5000 long\n0 1 - - - - - -\n' >wanted
     "$lsmap" long.asc $printers | cmp - wanted || fail "NoData and too long"
@@ -139,7 +139,7 @@ texts() {
     holds deep/texts/ground.asc 3 3 10.00 '5.00 5.00 5.00\n5.00 2.00 4.00\n5.00 5.00 5.00'
     holds deep/texts/filled.asc 3 3 10.00 '5.00 5.00 5.00\n5.00 4.00 4.00\n5.00 5.00 5.00'
     holds deep/texts/count.asc 3 3 10.00 '1 1 1\n1 6 9\n1 1 1'
-    holds deep/texts/ls.asc 3 3 10.00 '0.33088 0.54379 0.54379\n0.54379 0.00000 0.04810\n0.33088 0.54379 0.54379'
+    holds deep/texts/ls.asc 3 3 10.00 '0.39424 0.54379 0.54379\n0.54379 0.00000 0.04810\n0.39424 0.54379 0.54379'
     "$lsmap" deep/texts/ground.asc $printers --text again | cmp - "$root/host/pit.txt" || fail "the sheet of a text that was written"
     diff -r deep/texts again || fail "the texts of a text that was written"
     printf 'ncols 5 nrows 1 %s cellsize 1000 nodata_value 7 -0.05 0 -0 7 -500' "$corners" >bounds.asc

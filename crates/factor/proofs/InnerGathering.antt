@@ -7,6 +7,7 @@ use Prim.Native.Nat.{ℕ, _+_, _-_, _*_, _≤_, _<_, max}
 use native.Mathlib.Omega.{arith}
 use lib.Dec.{ltb, eqb}
 use borrow.Author.Tests.{lt-ltb, le-ltb, eqb-true}
+use lib.ListN.{getD}
 use Rattle.laws.specs.First.{someOf}
 use Rattle.laws.specs.Sums.{greatestTo, when}
 use Rattle.laws.specs.Handing.{Handed}
@@ -38,7 +39,7 @@ module _ (rows cols side : ℕ) (rules : Rules) (lv dir count : List ℕ) where
   -- what becomes of what is gathered at z when its turn comes
   unfoldable pub finalAt : ℕ → ℕ → ℕ
   unfolding finalLength channelAt
-  finalAt z m = finalLength (channelAt rows cols rules count z) m
+  finalAt z m = finalLength (channelAt rows cols rules count z) (startLength (getD dir z 255)) m
 
   -- one more than what x gives, when so much is gathered at x
   unfoldable pub givenBy : ℕ → ℕ → ℕ
@@ -79,7 +80,9 @@ module _ {rows cols : ℕ} {dir : List ℕ} (d : Directed rows cols dir) (side :
   gathered-sides z h = sym (inflow-greatest d h (λ x. brings z x + 1))
 
   -- one more than the greatest amount, or 0 where there is no inflow
-  final-inflows : (z : ℕ) → z < n → cond (ltb (gathered z) 1) startLength (gathered z - 1) ≡ cond (someOf (into z) 8) (most d side rules lv count len z) startLength
+  final-inflows : (z : ℕ) → z < n
+      → cond (ltb (gathered z) 1) (startLength (getD dir z 255)) (gathered z - 1)
+      ≡ cond (someOf (into z) 8) (most d side rules lv count len z) (startLength (getD dir z 255))
   final-inflows z h =
       ⊎-elim
       (λ e.
@@ -97,8 +100,9 @@ module _ {rows cols : ℕ} {dir : List ℕ} (d : Directed rows cols dir) (side :
   pub final-is : (z : ℕ) → mappedAt rows cols dir z ≡ true → finalAt rows cols side rules lv dir count z (gatheredAt rows cols side rules lv dir count z) ≡ lengthAt rows cols side rules lv dir count z
   unfolding finalAt finalLength
   final-is z v =
+      let start = startLength (getD dir z 255) in
       ap (λ (m : ℕ). cond (channelAt rows cols rules count z) 0 m) (final-inflows z (pointing d .within z v))
-      ∙ sym (ap (λ (b : Bool). cond b (cond (channelAt rows cols rules count z) 0 (cond (someOf (into z) 8) (most d side rules lv count len z) startLength)) 0) v)
+      ∙ sym (ap (λ (b : Bool). cond b (cond (channelAt rows cols rules count z) 0 (cond (someOf (into z) 8) (most d side rules lv count len z) start)) 0) v)
       ∙ sym (length-local d side rules lv count z ∙ from-is d side rules lv count len z)
 
   -- NoData has no length
@@ -121,7 +125,7 @@ module _ {rows cols : ℕ} {dir : List ℕ} (d : Directed rows cols dir) (side :
       greatest-le n (λ x. when (eqb (recv x) z) (brings z x + 1)) greatestLength (λ x l. omega (arith, when-under (eqb (recv x) z) (brings z x + 1), one x))
     where
       one : (x : ℕ) → brings z x ≤ 14900000000 + 14142
-      one x = brought-le rows cols side rules lv dir z x (len x) 14900000000 (omega arith) (length-small d side rules lv count x)
+      one x = brought-le rows cols side rules lv dir z x (len x) 14900000000 (length-small d side rules lv count x)
 
   -- what a cell gives is what it brings to the cell that it points at
   given-is : (z x : ℕ) → z < n → recv x ≡ z → brings z x + 1 ≡ given x (gathered x)

@@ -32,6 +32,7 @@ use Rattle.factor.specs.Channel.{channelAt}
 use Rattle.factor.specs.Length.{cutoffAt, broughtTo, lengthsOf}
 use Rattle.factor.specs.Cell.{factorOf}
 use Rattle.factor.specs.Grid.{factorAt, factorsOf}
+use Rattle.factor.specs.Inflow.{startLength}
 use Rattle.factor.specs.Inner.{greatestFall, steepnessOf, finalLength, leftBy, broughtBy}
 use Rattle.factor.specs.InnerPass.{Ruled, bearingAt, Turning, lengthNow, amountNow, lengthsNext, Turned, Measuring}
 use Rattle.factor.specs.declared.pass.Terms.{Terms}
@@ -136,7 +137,9 @@ module _ {rows : ℕ} {lv dir count order : List ℕ} {places : ℕ} {rules : Ru
     -- its length
     here-length : lengthNow terms dir count lengths factors x ≡ finalAt rows cols (terms .side) rules lv dir count x (whole x)
     unfolding finalAt
-    here-length = ap₂ finalLength (c .channel x here-in) here-whole
+    here-length =
+        ap₂ (λ (b : Bool) (m : ℕ). finalLength b (startLength (getD dir x 0)) m) (c .channel x here-in) here-whole
+        ∙ ap (λ (code : ℕ). finalLength (channelAt rows cols rules count x) (startLength code) (whole x)) (sym (code-read (c .directed) x here-in))
 
     here-final : lengthNow terms dir count lengths factors x ≡ final x
     here-final = here-length ∙ final-is (c .directed) (terms .side) rules lv count x here-valid
@@ -155,7 +158,11 @@ module _ {rows : ℕ} {lv dir count order : List ℕ} {places : ℕ} {rules : Ru
       -- what it hands on
       here-given : amountNow terms dir count lengths factors x rules (to x) + 1 ≡ givenBy rows cols (terms .side) rules lv dir count x (whole x)
       unfolding givenBy broughtTo broughtBy cutoffAt
-      here-given = rw (here-fall .1, next-fall .1, receiver-bearing (c .directed) x here-in code-some k, here-length)
+      here-given =
+          let len = lengthNow terms dir count lengths factors x in
+          ap (λ (i : ℕ). broughtBy (terms .side) rules (bearingAt dir x) (steepnessOf (getD factors x 0)) (steepnessOf (getD factors (to x) 0)) i len + 1)
+          (ap startLength (sym (code-read (c .directed) (to x) next-in)))
+          ∙ rw (here-fall .1, next-fall .1, receiver-bearing (c .directed) x here-in code-some k, here-length)
 
     pub walk-turning : Turning terms dir count lengths factors x
     walk-turning =
@@ -174,6 +181,7 @@ module _ {rows : ℕ} {lv dir count order : List ℕ} {places : ℕ} {rules : Ru
           gathered-small = omega (arith, here-whole, gathered-small (c .directed) (terms .side) rules lv count x);
           beside-room = (λ k. beside-room rows cols x (bearingAt dir x) (c .directed .sized) (omega (arith, here-in, c .directed .sized .small)) k (receiver-near (c .directed) x here-in code-some k));
           next-other = (λ k q. pointing (c .directed) .apart x (next-in k) (sym (next-is k) ∙ q));
+          next-dir = (λ k. omega (arith, next-is k, next-in k, c .directed .long));
           next-lengths = (λ k. omega (arith, next-is k, next-in k, w .handing .long));
           next-factors = (λ k. omega (arith, next-is k, next-in k, w .factors-long));
           next-small = (λ k. omega (arith, ap (λ (z : ℕ). getD factors z 0) (next-is k), next-fall k .0));

@@ -20,7 +20,7 @@ use Rattle.terrain.specs.InnerTrail.{Directed}
 use Rattle.terrain.proofs.Public.{steps-le, into-above}
 use Rattle.factor.specs.Slope.{steepnessAt}
 use Rattle.factor.specs.Channel.{channelAt}
-use Rattle.factor.specs.Inflow.{isCut, startLength, stepOver, amountOf}
+use Rattle.factor.specs.Inflow.{isCut, diagonal, startLength, stepOver, amountOf}
 use Rattle.factor.specs.Inner.{leftBy}
 use Rattle.factor.specs.Length.{cutoffAt, broughtTo, lengthFrom, lengthIn, lengthsOf}
 
@@ -60,22 +60,32 @@ pub cut-is : {left : ℕ} (n q p : ℕ) → left ≡ leftBy n → (ltb 0 left &&
 unfolding isCut leftBy
 cut-is n q p e = rw (e, left-some n)
 
--- at most one step more than a bound of the inflow's length
-pub amount-le : (n q p s a b : ℕ) → s ≤ 14142 → startLength ≤ b → a ≤ b → amountOf n q p s a ≤ b + 14142
-unfolding amountOf
-amount-le n q p s a b h l g = go (eqb q 0 && eqb p 0) (isCut n q p)
+-- a length starts with half a diagonal at most
+pub start-le : (code : ℕ) → startLength code ≤ 7071
+unfolding startLength
+start-le code = go (diagonal code)
   where
-    go : (flat cut : Bool) → cond flat startLength (cond cut 0 (a + s)) ≤ b + 14142
+    go : (b : Bool) → cond b 7071 5000 ≤ 7071
+    go true = omega arith
+    go false = omega arith
+
+-- at most one step more than a bound of the inflow's length
+pub amount-le : (n q p i s a b : ℕ) → s ≤ 14142 → i ≤ 7071 → a ≤ b → amountOf n q p i s a ≤ b + 14142
+unfolding amountOf
+amount-le n q p i s a b h l g = go (eqb q 0 && eqb p 0) (isCut n q p)
+  where
+    go : (flat cut : Bool) → cond flat i (cond cut 0 (a + s)) ≤ b + 14142
     go true cut = omega arith
     go false true = omega arith
     go false false = omega arith
 
 module _ (rows cols side : ℕ) (rules : Rules) (lv dir : List ℕ) where
-  pub brought-le : (z x a b : ℕ) → startLength ≤ b → a ≤ b → broughtTo rows cols side rules lv dir z x a ≤ b + 14142
+  pub brought-le : (z x a b : ℕ) → a ≤ b → broughtTo rows cols side rules lv dir z x a ≤ b + 14142
   unfolding broughtTo
-  brought-le z x a b l h =
+  brought-le z x a b h =
       let k = bearingOf (getD dir x 255) in
-      amount-le (cutoffAt rows cols side rules lv dir z) (steepnessAt rows cols lv dir z) (steepnessAt rows cols lv dir x) (stepOver k) a b (step-le k) l h
+      amount-le (cutoffAt rows cols side rules lv dir z) (steepnessAt rows cols lv dir z) (steepnessAt rows cols lv dir x)
+      (startLength (getD dir z 255)) (stepOver k) a b (step-le k) (start-le (getD dir z 255)) h
 
 module _ {rows cols : ℕ} {dir : List ℕ} (d : Directed rows cols dir) (side : ℕ) (rules : Rules) (lv count : List ℕ) where
   abbrev size : ℕ
@@ -108,17 +118,17 @@ module _ {rows cols : ℕ} {dir : List ℕ} (d : Directed rows cols dir) (side :
   most f z = greatestTo 8 (λ k. when (intoAt rows cols dir z k) (broughtTo rows cols side rules lv dir z (neighbour rows cols z k) (f (neighbour rows cols z k))))
 
   abbrev lengthBy : ℕ → ℕ → ℕ
-  lengthBy z g = cond (mappedAt rows cols dir z) (cond (channelAt rows cols rules count z) 0 (cond (someOf (into z) 8) g startLength)) 0
+  lengthBy z g = cond (mappedAt rows cols dir z) (cond (channelAt rows cols rules count z) 0 (cond (someOf (into z) 8) g (startLength (getD dir z 255)))) 0
 
   pub from-is : (f : ℕ → ℕ) (z : ℕ) → lengthFrom rows cols side rules lv dir count f z ≡ lengthBy z (most f z)
   unfolding lengthFrom
   from-is f z = refl
 
-  by-le : (a b c : Bool) (g h : ℕ) → g ≤ h → startLength ≤ h → cond a (cond b 0 (cond c g startLength)) 0 ≤ h
-  by-le true true c g h l k = omega arith
-  by-le true false true g h l k = omega arith
-  by-le true false false g h l k = omega arith
-  by-le false b c g h l k = omega arith
+  by-le : (a b c : Bool) (g i h : ℕ) → g ≤ h → i ≤ h → cond a (cond b 0 (cond c g i)) 0 ≤ h
+  by-le true true c g i h l k = omega arith
+  by-le true false true g i h l k = omega arith
+  by-le true false false g i h l k = omega arith
+  by-le false b c g i h l k = omega arith
 
   -- it depends on the inflows alone, and is at most one step more than a bound of theirs
   from-ext : (f g : ℕ → ℕ) (z : ℕ) → ((k : ℕ) → into z k ≡ true → f (nb z k) ≡ g (nb z k)) → from f z ≡ from g z
@@ -128,17 +138,18 @@ module _ {rows cols : ℕ} {dir : List ℕ} (d : Directed rows cols dir) (side :
       same : (k : ℕ) → when (into z k) (brings f z k) ≡ when (into z k) (brings g z k)
       same k = when-ext (into z k) (brings f z k) (brings g z k) (λ e. ap (broughtTo rows cols side rules lv dir z (nb z k)) (h k e))
 
-  from-le : (f : ℕ → ℕ) (z b : ℕ) → startLength ≤ b → ((y : ℕ) → f y ≤ b) → from f z ≤ b + 14142
-  from-le f z b l h =
+  from-le : (f : ℕ → ℕ) (z b : ℕ) → ((y : ℕ) → f y ≤ b) → from f z ≤ b + 14142
+  from-le f z b h =
       omega (
         arith,
         from-is f z,
-        by-le (mappedAt rows cols dir z) (channelAt rows cols rules count z) (someOf (into z) 8) (most f z) (b + 14142)
-            (greatest-le 8 (λ k. when (into z k) (brings f z k)) (b + 14142) (λ k i. omega (arith, when-under (into z k) (brings f z k), one k))) (omega arith),
+        by-le (mappedAt rows cols dir z) (channelAt rows cols rules count z) (someOf (into z) 8) (most f z) (startLength (getD dir z 255)) (b + 14142)
+            (greatest-le 8 (λ k. when (into z k) (brings f z k)) (b + 14142) (λ k i. omega (arith, when-under (into z k) (brings f z k), one k)))
+            (omega (arith, start-le (getD dir z 255))),
       )
     where
       one : (k : ℕ) → brings f z k ≤ b + 14142
-      one k = brought-le rows cols side rules lv dir z (nb z k) (f (nb z k)) b l (h (nb z k))
+      one k = brought-le rows cols side rules lv dir z (nb z k) (f (nb z k)) b (h (nb z k))
 
   -- ---- the length of a cell from its inflows' lengths
 
@@ -159,9 +170,9 @@ module _ {rows cols : ℕ} {dir : List ℕ} (d : Directed rows cols dir) (side :
   pub length-local : (z : ℕ) → lengthIn rows cols side rules lv dir count (rows * cols) z ≡ lengthFrom rows cols side rules lv dir count (lengthIn rows cols side rules lv dir count (rows * cols)) z
   length-local z = sym (length-stay size z (omega arith)) ∙ length-more size z
 
-  length-le : (m z : ℕ) → inSteps m z ≤ startLength + (m + 1) * 14142
-  length-le zero z = omega (arith, length-none z, from-le (λ y. 0) z startLength (omega arith) (λ y. omega arith))
-  length-le (suc m) z = omega (arith, length-more m z, from-le (inSteps m) z (startLength + (m + 1) * 14142) (omega arith) (length-le m))
+  length-le : (m z : ℕ) → inSteps m z ≤ (m + 1) * 14142
+  length-le zero z = omega (arith, length-none z, from-le (λ y. 0) z 0 (λ y. omega arith))
+  length-le (suc m) z = omega (arith, length-more m z, from-le (inSteps m) z ((m + 1) * 14142) (length-le m))
 
   -- even one step more is below 15,000,000,000
   pub length-small : (z : ℕ) → lengthIn rows cols side rules lv dir count (rows * cols) z ≤ 14900000000

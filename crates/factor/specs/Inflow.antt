@@ -1,5 +1,5 @@
 -- RULES 5.2: what one inflow brings. Assumes nothing.
-use mathlib.Core.Bool.{Bool, cond, _&&_}
+use mathlib.Core.Bool.{Bool, cond, _&&_, _||_}
 use Prim.Native.Nat.{ℕ, _+_, _-_, _*_}
 use lib.Dec.{ltb, leb, eqb}
 use Rattle.terrain.specs.Cells.{cardinal}
@@ -12,15 +12,20 @@ cutoffFor low high side q = cond (ltb (200 * q) (side * side)) low high
 unfoldable pub isCut : ℕ → ℕ → ℕ → Bool
 isCut n q p = (ltb n 100 && ltb q p) && leb (10000 * q) ((100 - n) * (100 - n) * p)
 
--- where a length starts: No inflow: 5,000, and between two flat cells
-abbrev pub startLength : ℕ
-startLength = 5000
+-- the direction of a flow that leaves diagonally: SE 2, SW 8, NW 32, NE 128
+abbrev pub diagonal : ℕ → Bool
+diagonal code = eqb code 2 || eqb code 8 || eqb code 32 || eqb code 128
+
+-- where a length starts, by the cell's own direction: half the diagonal, 7,071, where its flow leaves diagonally, else 5,000; direction 0 keeps 5,000
+unfoldable pub startLength : ℕ → ℕ
+startLength code = cond (diagonal code) 7071 5000
 
 -- the step to the neighbour k: 10,000, or 14,142 if diagonal
 unfoldable pub stepOver : ℕ → ℕ
 stepOver k = cond (cardinal k) 10000 14142
 
--- Each inflow brings one amount. Both steepnesses 0: 5,000. A cut: 0. Else its length plus 10,000, or 14,142 if diagonal.
-unfoldable pub amountOf : ℕ → ℕ → ℕ → ℕ → ℕ → ℕ
+-- Each inflow brings one amount. Both steepnesses 0: where the receiving cell's length starts. A cut: 0. Else its length plus 10,000, or
+-- 14,142 if diagonal.
+unfoldable pub amountOf : ℕ → ℕ → ℕ → ℕ → ℕ → ℕ → ℕ
 unfolding isCut
-amountOf n q p step len = cond (eqb q 0 && eqb p 0) startLength (cond (isCut n q p) 0 (len + step))
+amountOf n q p start step len = cond (eqb q 0 && eqb p 0) start (cond (isCut n q p) 0 (len + step))

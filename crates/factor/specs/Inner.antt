@@ -11,7 +11,7 @@ use Rattle.text.specs.Ranges.{sizeTest, lengthTest, sideTest}
 use Rattle.settings.specs.declared.Settings.{Settings}
 use Rattle.settings.specs.declared.Rules.{Rules}
 use Rattle.settings.specs.Settings.{rulesOf, settingsTest}
-use Rattle.factor.specs.Inflow.{cutoffFor, startLength, stepOver, amountOf}
+use Rattle.factor.specs.Inflow.{cutoffFor, stepOver, amountOf}
 use Rattle.factor.specs.LengthFactor.{greatestMm, reached}
 use Rattle.terrain.specs.Filled.{top}
 use Rattle.terrain.specs.Drainage.{Trails, Totals, Surface}
@@ -38,7 +38,7 @@ pub record Looked (class mm : ℕ) (lists : List ℕ) : Type 0 where
   pub length-in : mm ≤ greatestMm
   pub listed : Listed lists
 
--- a cell, whose length is as small as those of a map: at most 14,142 for each of 1,048,576 cells, and 5,000
+-- a cell, whose length is as small as those of a map: at most 14,142 for each of 1,048,576 cells, and 7,071
 pub record Measured (side q len : ℕ) (lists : List ℕ) : Type 0 where
   pub sloping : Sloping side q
   pub length-small : len < 2 ^ 36
@@ -58,18 +58,18 @@ greatestLength = 15000000000
 unfoldable pub steepnessOf : ℕ → ℕ
 steepnessOf fall = cond (eqb (fall % 2) 0) (2 * ((fall / 2) * (fall / 2))) ((fall / 2) * (fall / 2))
 
--- the length of a cell that is a channel or not, from one more than the greatest amount brought, 0 for none
-unfoldable pub finalLength : Bool → ℕ → ℕ
-finalLength channel gathered = cond channel 0 (cond (ltb gathered 1) startLength (gathered - 1))
+-- the length of a cell that is a channel or not, from where it would start and one more than the greatest amount brought, 0 for none
+unfoldable pub finalLength : Bool → ℕ → ℕ → ℕ
+finalLength channel start gathered = cond channel 0 (cond (ltb gathered 1) start (gathered - 1))
 
 -- what a cutoff of n percent leaves of 100, squared
 unfoldable pub leftBy : ℕ → ℕ
 leftBy n = (100 - n) * (100 - n)
 
--- what an inflow of steepness p and this length brings to its neighbour k, a cell of steepness q
-unfoldable pub broughtBy : ℕ → Rules → ℕ → ℕ → ℕ → ℕ → ℕ
+-- what an inflow of steepness p and this length brings to its neighbour k, a cell of steepness q whose length would start with `start`
+unfoldable pub broughtBy : ℕ → Rules → ℕ → ℕ → ℕ → ℕ → ℕ → ℕ
 unfolding cutoffFor amountOf stepOver
-broughtBy side rules k p q len = amountOf (cutoffFor (rules .low) (rules .high) side q) q p (stepOver k) len
+broughtBy side rules k p q start len = amountOf (cutoffFor (rules .low) (rules .high) side q) q p start (stepOver k) len
 
 -- ---- the tests that are made before the terrain layer is called
 

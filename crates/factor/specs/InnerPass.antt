@@ -12,6 +12,7 @@ use Rattle.terrain.specs.Falls.{fallsOf}
 use Rattle.terrain.specs.InnerTrail.{Directed}
 use Rattle.terrain.specs.Downhill.{Downhill}
 use Rattle.factor.specs.Cell.{factorOf}
+use Rattle.factor.specs.Inflow.{startLength}
 use Rattle.factor.specs.Inner.{greatestFall, greatestLength, steepnessOf, finalLength, leftBy, broughtBy}
 use Rattle.factor.specs.declared.pass.Terms.{Terms}
 
@@ -43,6 +44,7 @@ pub record Turning (terms : Terms) (dir count lengths factors : List ℕ) (x : �
   pub gathered-small : getD lengths x 0 ≤ greatestLength
   pub beside-room : bearingAt dir x < 8 → Beside (terms .columns) x (bearingAt dir x)
   pub next-other : bearingAt dir x < 8 → besideOf (terms .columns) x (bearingAt dir x) ≡ x → ⊥
+  pub next-dir : bearingAt dir x < 8 → besideOf (terms .columns) x (bearingAt dir x) < length dir
   pub next-lengths : bearingAt dir x < 8 → besideOf (terms .columns) x (bearingAt dir x) < length lengths
   pub next-factors : bearingAt dir x < 8 → besideOf (terms .columns) x (bearingAt dir x) < length factors
   pub next-small : bearingAt dir x < 8 → getD factors (besideOf (terms .columns) x (bearingAt dir x)) 0 ≤ greatestFall
@@ -50,10 +52,11 @@ pub record Turning (terms : Terms) (dir count lengths factors : List ℕ) (x : �
 -- the length of the cell x, and its amount for the cell y by these rules, by the lists at its turn
 module _ (terms : Terms) (dir count lengths factors : List ℕ) (x : ℕ) where
   abbrev pub lengthNow : ℕ
-  lengthNow = finalLength (ltb (terms .most) (getD count x 0)) (getD lengths x 0)
+  lengthNow = finalLength (ltb (terms .most) (getD count x 0)) (startLength (getD dir x 0)) (getD lengths x 0)
 
   abbrev pub amountNow : Rules → ℕ → ℕ
-  amountNow rules y = broughtBy (terms .side) rules (bearingAt dir x) (steepnessOf (getD factors x 0)) (steepnessOf (getD factors y 0)) lengthNow
+  amountNow rules y =
+      broughtBy (terms .side) rules (bearingAt dir x) (steepnessOf (getD factors x 0)) (steepnessOf (getD factors y 0)) (startLength (getD dir y 0)) lengthNow
 
   -- the lengths once it has handed on to the cell y
   abbrev pub lengthsNext : Rules → ℕ → List ℕ

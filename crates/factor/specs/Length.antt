@@ -21,18 +21,21 @@ module _ (rows cols side : ℕ) (rules : Rules) (lv dir : List ℕ) where
 
   -- what the cell x brings to the cell z, if it points at z and its length is len
   unfoldable pub broughtTo : ℕ → ℕ → ℕ → ℕ
-  unfolding bearingOf steepnessAt cutoffAt amountOf stepOver
-  broughtTo z x len = amountOf (cutoffAt z) (steepnessAt rows cols lv dir z) (steepnessAt rows cols lv dir x) (stepOver (bearingOf (getD dir x 255))) len
+  unfolding bearingOf steepnessAt cutoffAt startLength amountOf stepOver
+  broughtTo z x len =
+      amountOf (cutoffAt z) (steepnessAt rows cols lv dir z) (steepnessAt rows cols lv dir x)
+      (startLength (getD dir z 255)) (stepOver (bearingOf (getD dir x 255))) len
 
 module _ (rows cols side : ℕ) (rules : Rules) (lv dir count : List ℕ) where
   -- the length of z by the lengths f of its inflows: The greatest amount is the length. A channel and a NoData cell have 0.
   unfoldable pub lengthFrom : (ℕ → ℕ) → ℕ → ℕ
-  unfolding mappedAt channelAt someOf neighbour intoAt greatestTo when broughtTo
+  unfolding mappedAt channelAt someOf neighbour intoAt greatestTo when broughtTo startLength
   lengthFrom f z =
       cond (mappedAt rows cols dir z)
       (cond (channelAt rows cols rules count z) 0
       (cond (someOf (intoAt rows cols dir z) 8)
-      (greatestTo 8 (λ k. let x = neighbour rows cols z k in when (intoAt rows cols dir z k) (broughtTo rows cols side rules lv dir z x (f x)))) startLength))
+      (greatestTo 8 (λ k. let x = neighbour rows cols z k in when (intoAt rows cols dir z k) (broughtTo rows cols side rules lv dir z x (f x))))
+      (startLength (getD dir z 255))))
       0
 
   -- the length of z, by trails to it of at most m steps

@@ -1,11 +1,19 @@
 // What one inflow brings to a cell: the cutoff, the cut, the step and the amount (Hickey 2000). RULES 5.
 ghost use mathlib.Core.Path.{_≡_};
 ghost use Prim.Native.Nat.{ℕ, _≤_};
-ghost use Rattle.factor.specs.Inflow.{isCut, stepOver, amountOf};
+ghost use Rattle.factor.specs.Inflow.{isCut, startLength, stepOver, amountOf};
 ghost use Rattle.factor.specs.Inner.{steepest, greatestLength, leftBy};
 
-// Where a length starts, in ten-thousandths of a cell side.
-pub(crate) const START: u64 = 5000;
+// Where the length of a cell with this direction starts, in ten-thousandths of a cell side: half the diagonal where its flow leaves
+// diagonally, else half the side.
+pub(crate) fn start_length(direction: u8) -> u64
+    ensures { λ r. ⌜ r ≡ startLength direction ⌝ }
+{
+    if (direction == 2) | (direction == 8) | (direction == 32) | (direction == 128) {
+        return 7071;
+    }
+    5000
+}
 
 // The length of the step to the neighbour k.
 pub(crate) fn step_over(k: usize) -> u64
@@ -38,12 +46,13 @@ fn is_cut(left: u64, q: u64, p: u64) -> bool
 }
 
 // What an inflow of steepness p brings to a cell of steepness q, by that cutoff: the step is the inflow's, and so is the length.
-pub(crate) fn amount_of(left: u64, q: u64, p: u64, step: u64, length: u64) -> u64
+// Between two flat cells the length starts afresh, with the receiving cell's start.
+pub(crate) fn amount_of(left: u64, q: u64, p: u64, start: u64, step: u64, length: u64) -> u64
     requires { ⌜ (left ≤ 10000) × (q ≤ steepest) × (p ≤ steepest) × (step ≤ 14142) × (length ≤ greatestLength) ⌝ }
-    ensures { λ r. ⌜ ((n : ℕ) → left ≡ leftBy n → r ≡ amountOf n q p step length) ⌝ }
+    ensures { λ r. ⌜ ((n : ℕ) → left ≡ leftBy n → r ≡ amountOf n q p start step length) ⌝ }
 {
     if (q == 0) & (p == 0) {
-        return START;
+        return start;
     }
     if is_cut(left, q, p) {
         return 0;

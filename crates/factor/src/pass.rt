@@ -20,9 +20,9 @@ use crate::cell::factor_of;
 use crate::channel::channel_bound;
 use crate::channel::largest;
 use crate::guess::Guesses;
-use crate::inflow::START;
 use crate::inflow::amount_of;
 use crate::inflow::left_by;
+use crate::inflow::start_length;
 use crate::inflow::step_over;
 use crate::slope::steepness_of;
 use crate::thresholds;
@@ -46,15 +46,15 @@ fn longer(a: u64, b: u64) -> u64
     if a < b { b } else { a }
 }
 
-// The length of a cell of this count, from what is gathered there. Counts above `most` are those of channels.
-fn final_length(most: u64, count: u32, gathered: u64) -> u64
-    ensures { λ r. ⌜ r ≡ finalLength (ltb most count) gathered ⌝ }
+// The length of a cell of this count, from where it would start and what is gathered there. Counts above `most` are those of channels.
+fn final_length(most: u64, count: u32, start: u64, gathered: u64) -> u64
+    ensures { λ r. ⌜ r ≡ finalLength (ltb most count) start gathered ⌝ }
 {
     if most < count as u64 {
         return 0;
     }
     if gathered < 1 {
-        return START;
+        return start;
     }
     gathered - 1
 }
@@ -78,13 +78,13 @@ fn left_for(terms: Terms, q: u64) -> u64
     terms.high
 }
 
-// What an inflow of steepness p and this length brings to its neighbour k, a cell of steepness q.
-fn brought(terms: Terms, k: usize, p: u64, q: u64, length: u64) -> u64
+// What an inflow of steepness p and this length brings to its neighbour k, a cell of steepness q whose length would start with `start`.
+fn brought(terms: Terms, k: usize, p: u64, q: u64, start: u64, length: u64) -> u64
     requires { ⌜ (p ≤ steepest) × (q ≤ steepest) × (length ≤ greatestLength) × ((rules : Rules) × Ruled rules terms) ⌝ }
-    ensures { λ r. ⌜ ((rules : Rules) → Ruled rules terms → r ≡ broughtBy (terms .side) rules k p q length) ⌝ }
+    ensures { λ r. ⌜ ((rules : Rules) → Ruled rules terms → r ≡ broughtBy (terms .side) rules k p q start length) ⌝ }
 {
     let left = left_for(terms, q);
-    amount_of(left, q, p, step_over(k), length)
+    amount_of(left, q, p, start, step_over(k), length)
 }
 
 // The turn of the cell x.
@@ -103,7 +103,7 @@ fn turn(
     ensures { λ _. ⌜ Turned terms (now (direction .entry)) (now (count .entry)) (now (lengths .entry)) (now (factors .entry)) x
         (now (lengths .exit)) (now (factors .exit)) ⌝ }
 {
-    let length = final_length(terms.most, count[x], lengths[x]);
+    let length = final_length(terms.most, count[x], start_length(direction[x]), lengths[x]);
     lengths[x] = length;
     let fall = factors[x];
     let p = steepness_of(fall);
@@ -113,7 +113,14 @@ fn turn(
         return;
     }
     let y = beside(terms.columns, shifts, x, k);
-    let amount = brought(terms, k, p, steepness_of(factors[y]), length);
+    let amount = brought(
+        terms,
+        k,
+        p,
+        steepness_of(factors[y]),
+        start_length(direction[y]),
+        length,
+    );
     lengths[y] = longer(lengths[y], amount + 1);
 }
 

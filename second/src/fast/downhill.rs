@@ -3,7 +3,7 @@
 
 use super::land::Land;
 use crate::rules::direction::Flow;
-use crate::rules::length::{amount, channel, HALF_SIDE};
+use crate::rules::length::{amount, channel, start};
 use crate::rules::settings::Percents;
 
 /// The valid cells, each after all its inflows, and the place that each points at.
@@ -61,11 +61,10 @@ impl Downhill {
         let mut greatest = vec![None; count.len()];
         for &cell in &self.order {
             if !channel(percents.rule, u64::from(count[cell]), largest) {
-                length[cell] = greatest[cell].unwrap_or(HALF_SIDE);
+                length[cell] = greatest[cell].unwrap_or(start(flow.direction[cell]));
             }
             if let Some(next) = self.onward[cell] {
-                let (q, p) = (flow.steepness[next], flow.steepness[cell]);
-                let brought = amount(percents, side, q, p, length[cell], flow.direction[cell]);
+                let brought = amount(percents, side, flow.slope(next), flow.slope(cell), length[cell]);
                 greatest[next] = greatest[next].max(Some(brought));
             }
         }

@@ -13,6 +13,19 @@ pub struct Flow {
     pub steepness: Vec<i64>,
 }
 
+/// One cell's direction and steepness.
+#[derive(Clone, Copy)]
+pub struct Slope {
+    pub direction: u8,
+    pub steepness: i64,
+}
+
+impl Flow {
+    pub fn slope(&self, cell: usize) -> Slope {
+        Slope { direction: self.direction[cell], steepness: self.steepness[cell] }
+    }
+}
+
 /// Steepness is 2·d·d in a cardinal direction and d·d in a diagonal one.
 fn steepness(bearing: &Bearing, drop: i64) -> i64 {
     if bearing.diagonal() { drop * drop } else { 2 * drop * drop }

@@ -1,12 +1,9 @@
 //! Channels and slope lengths. States docs/RULES.md, 5 Length.
 
-use super::direction::{Flow, NO_DIRECTION};
+use super::direction::{Flow, Slope, NO_DIRECTION};
 use super::grid::{bearing_of, Shape};
 use super::settings::{Percents, Rule};
 use super::trail::onward;
-
-/// No inflow: 5,000, half a cell side; also what a flat pair brings.
-pub const HALF_SIDE: u64 = 5_000;
 
 /// A channel cell has 1,000·count > n·largest, or count > the given number of cells.
 pub fn channel(rule: Rule, count: u64, largest: u64) -> bool {
@@ -27,21 +24,32 @@ fn cut(q: i64, p: i64, n: i64) -> bool {
     n < 100 && q < p && 10_000 * q <= (100 - n) * (100 - n) * p
 }
 
-/// The step of the inflow's direction: 10,000, or 14,142 if diagonal.
-fn step(direction: u8) -> u64 {
-    let diagonal = bearing_of(direction).is_some_and(|bearing| bearing.diagonal());
-    if diagonal { 14_142 } else { 10_000 }
+/// Whether the direction is diagonal. Direction 0 is not.
+fn diagonal(direction: u8) -> bool {
+    bearing_of(direction).is_some_and(|bearing| bearing.diagonal())
 }
 
-/// Both steepnesses 0: 5,000. A cut: 0. Else its length plus 10,000, or 14,142 if diagonal. What an inflow of
-/// steepness p with this length and direction brings to a cell of steepness q.
-pub fn amount(percents: &Percents, side: i64, q: i64, p: i64, length: u64, direction: u8) -> u64 {
+/// Where a length starts, at a high point or afresh, by the cell's own direction: half the diagonal, 7,071, where the
+/// flow leaves diagonally, else half a cell side, 5,000.
+pub fn start(direction: u8) -> u64 {
+    if diagonal(direction) { 7_071 } else { 5_000 }
+}
+
+/// The step of the inflow's direction: 10,000, or 14,142 if diagonal.
+fn step(direction: u8) -> u64 {
+    if diagonal(direction) { 14_142 } else { 10_000 }
+}
+
+/// What an inflow with this length brings. Both steepnesses 0: a start, by the receiving cell's own direction. A cut:
+/// 0. Else its length plus 10,000, or 14,142 if diagonal.
+pub fn amount(percents: &Percents, side: i64, receiving: Slope, inflow: Slope, length: u64) -> u64 {
+    let (q, p) = (receiving.steepness, inflow.steepness);
     if q == 0 && p == 0 {
-        HALF_SIDE
+        start(receiving.direction)
     } else if cut(q, p, cutoff(percents, q, side)) {
         0
     } else {
-        length + step(direction)
+        length + step(inflow.direction)
     }
 }
 
@@ -63,17 +71,17 @@ pub struct Terrain<'a> {
 impl Terrain<'_> {
     /// What one inflow brings.
     fn amount(&self, length: &[u64], cell: usize, inflow: usize) -> u64 {
-        let (q, p) = (self.flow.steepness[cell], self.flow.steepness[inflow]);
-        amount(self.percents, self.side, q, p, length[inflow], self.flow.direction[inflow])
+        amount(self.percents, self.side, self.flow.slope(cell), self.flow.slope(inflow), length[inflow])
     }
 
-    /// The cell's length once its inflows have theirs: the greatest amount.
+    /// The cell's length once its inflows have theirs: the greatest amount, or a start with no inflow.
     pub fn measured(&self, length: &[u64], largest: u64, cell: usize) -> u64 {
         if channel(self.percents.rule, u64::from(self.count[cell]), largest) {
             return 0;
         }
         let amounts = inflows(self.shape, &self.flow.direction, cell);
-        amounts.iter().map(|&inflow| self.amount(length, cell, inflow)).max().unwrap_or(HALF_SIDE)
+        let greatest = amounts.iter().map(|&inflow| self.amount(length, cell, inflow)).max();
+        greatest.unwrap_or(start(self.flow.direction[cell]))
     }
 
     /// The largest flow count; 0 on an empty map.
@@ -92,5 +100,44 @@ impl Terrain<'_> {
             length[cell] = self.measured(&length, self.largest(), cell);
         }
         length
+    }
+}
+
+#[cfg(test)]
+mod tests {
+    use super::*;
+
+    /// A start goes by the cell's own direction: E 1, S 4, W 16 and N 64 are not diagonal, nor is 0.
+    #[test]
+    fn starts_by_the_own_direction() {
+        assert_eq!([0, 1, 4, 16, 64].map(start), [5_000; 5]);
+        assert_eq!([2, 8, 32, 128].map(start), [7_071; 4]);
+    }
+
+    /// What an inflow of length 20,000 brings, side 10 m and cutoffs of so many percent.
+    fn brought(percent: i64, receiving: (i64, u8), inflow: (i64, u8)) -> u64 {
+        let percents = Percents { low: percent, high: percent, rule: Rule::None };
+        let slope = |(steepness, direction)| Slope { steepness, direction };
+        amount(&percents, 1_000, slope(receiving), slope(inflow), 20_000)
+    }
+
+    /// A flat pair starts by the receiving cell's direction, whatever the inflow's is and at cutoff 1.0 too.
+    #[test]
+    fn flat_pairs_start_by_the_receiving_direction() {
+        for percent in [0, 50, 100] {
+            assert_eq!([0, 1, 2, 128].map(|code| brought(percent, (0, code), (0, 1))), [5_000, 5_000, 7_071, 7_071]);
+            assert_eq!([0, 1, 2, 128].map(|code| brought(percent, (0, code), (0, 2))), [5_000, 5_000, 7_071, 7_071]);
+        }
+    }
+
+    /// Any other step is that of the inflow's direction, whatever the receiving cell's is.
+    #[test]
+    fn steps_go_by_the_inflow() {
+        for code in [0, 1, 2] {
+            assert_eq!([1, 2].map(|inflow| brought(50, (9, code), (9, inflow))), [30_000, 34_142]);
+            assert_eq!([1, 2].map(|inflow| brought(50, (9, code), (0, inflow))), [30_000, 34_142]);
+            assert_eq!([1, 2].map(|inflow| brought(100, (0, code), (9, inflow))), [30_000, 34_142]);
+            assert_eq!([1, 2].map(|inflow| brought(50, (0, code), (9, inflow))), [0, 0]);
+        }
     }
 }

@@ -96,6 +96,35 @@ mod tests {
         assert_eq!(map_of("5 5 5 5 5 5 5 5 5", 3, PRINTER).flow.direction, [0, 0, 0, 0, 1, 0, 0, 0, 0]);
     }
 
+    /// A ridge that drains E, one that drains SE, and a single cell, which drains off the map.
+    #[test]
+    fn ridges_start_by_their_own_direction() {
+        let ridge = |heights: &str, columns| {
+            let map = map_of(heights, columns, PRINTER);
+            (map.flow.direction[0], map.length[0])
+        };
+        assert_eq!(ridge("9 8 9 7.59", 2), (1, 5_000));
+        assert_eq!(ridge("9 8 9 7.58", 2), (2, 7_071));
+        assert_eq!(ridge("9", 1), (0, 5_000));
+    }
+
+    /// A basin of two flat cells and its outlet. All inflows of the first flat cell are cut, so it has 0. It points E at
+    /// the second one, which starts afresh by its own direction: SE in the first field, E in the second. The outlet
+    /// starts afresh with direction 0.
+    #[test]
+    fn flat_cells_start_by_their_own_direction() {
+        let basin = |heights: &str| {
+            let map = map_of(heights, 4, PRINTER);
+            (map.flow.direction, map.length)
+        };
+        let (direction, length) = basin("9 9 9 9 9 5 5 9 9 9 9 5");
+        assert_eq!(direction, [2, 4, 4, 8, 1, 1, 2, 4, 128, 64, 1, 0]);
+        assert_eq!(length, [7_071, 5_000, 5_000, 7_071, 5_000, 0, 7_071, 5_000, 7_071, 5_000, 5_000, 5_000]);
+        let (direction, length) = basin("9 9 9 9 9 5 5 5 9 9 9 9");
+        assert_eq!(direction, [2, 4, 4, 4, 1, 1, 1, 0, 128, 64, 64, 64]);
+        assert_eq!(length, [7_071, 5_000, 5_000, 5_000, 5_000, 0, 5_000, 5_000, 7_071, 5_000, 5_000, 5_000]);
+    }
+
     /// A second drop of 50 cm is half of the first, and not under 5 percent.
     #[test]
     fn cuts_at_their_bounds() {
@@ -103,7 +132,7 @@ mod tests {
         assert_eq!(map_of("9 8 7.5", 3, cutoffs(1.0, 0.5)).length[1], 0);
         assert_eq!(map_of("9 8 7.51", 3, cutoffs(1.0, 0.5)).length[1], 15_000);
         assert_eq!(map_of("9 8 7 6", 4, cutoffs(0.0, 0.0)).length, [5_000, 15_000, 25_000, 0]);
-        assert_eq!(map_of("9 8 9 7.58", 2, cutoffs(1.0, 1.0)).length[3], 19_142);
+        assert_eq!(map_of("9 8 9 7.58", 2, cutoffs(1.0, 1.0)).length[3], 21_213);
     }
 
     /// A count equal to the bound is no channel's.

@@ -7,7 +7,9 @@ use lib.ListN.{length, getD, set, length-set}
 use lib.Seq.{getD-set-other}
 use lib.Dec.{ltb}
 use borrow.Author.Needs.{needs}
-use Rattle.factor.specs.Inner.{greatestFall, greatestLength}
+use Rattle.factor.specs.Inner.{greatestFall, greatestLength, finalLength}
+use Rattle.factor.specs.InnerPass.{lengthNow}
+use Rattle.factor.proofs.Lengths.{start-le}
 use Rattle.factor.proofs.Slopes.{steepness-small}
 use Rattle.factor.proofs.InnerTurns.{final-small, brought-small, turned-off, turned-on}
 use Rattle.factor.proofs.pass.turn.Statement.{statement}
@@ -15,17 +17,32 @@ use Rattle.factor.proofs.pass.turn.Tie as tie
 
 -- the arguments; and the turn's first steps, from the cell that x points at on
 abbrev start : tie.After-final-length → tie.Start
-start c = c .before .before .before .before .before .before .before
+start c = c .before .before .before .before .before .before .before .before .before
 
 abbrev measured-at : tie.Else1 → tie.After-final-length
 measured-at c = c .before .before .before .before .before .before
 
--- the length is small
+-- the start is small, and so is the length
+start-small : (c : tie.After-final-length) → c .before .before .start-length .result ≤ 7071
+start-small c =
+    let s = start c in
+    omega (arith, c .before .before .start-length .ensures, start-le (getD (s .args .direction .now) (s .args .x) 0))
+
 length-small : (c : tie.After-final-length) → c .final-length .result ≤ greatestLength
 length-small c =
     let s = start c in
     let a = s .args in
-    omega (arith, c .final-length .ensures, final-small (ltb (a .terms .most) (getD (a .count .now) (a .x) 0)) (getD (a .lengths .now) (a .x) 0) (s .pre .0 .gathered-small))
+    let channel = ltb (a .terms .most) (getD (a .count .now) (a .x) 0) in
+    omega (arith, c .final-length .ensures, final-small channel _ (getD (a .lengths .now) (a .x) 0) (start-small c) (s .pre .0 .gathered-small))
+
+-- it is the length of x by what is gathered there
+length-is : (c : tie.After-final-length) →
+    let a = start c .args in
+    c .final-length .result ≡ lengthNow (a .terms) (a .direction .now) (a .count .now) (a .lengths .now) (a .factors .now) (a .x)
+length-is c =
+    let a = start c .args in
+    c .final-length .ensures
+    ∙ ap (λ (i : ℕ). finalLength (ltb (a .terms .most) (getD (a .count .now) (a .x) 0)) i (getD (a .lengths .now) (a .x) 0)) (c .before .before .start-length .ensures)
 
 -- the cell that x points at is another, and has its places
 next-in : (c : tie.After-beside) → let s = start (measured-at (c .before)) in (c .beside .result < length (s .args .lengths .now)) × (c .beside .result < length (s .args .factors .now))
@@ -44,6 +61,12 @@ mul-final-length c = search needs
 
 shared-slice-read-final-length : tie.Need-shared-slice-read-final-length
 shared-slice-read-final-length c = search needs
+
+shared-slice-read-start-length : tie.Need-shared-slice-read-start-length
+shared-slice-read-start-length c = search needs
+
+start-length-requires : tie.Need-start-length-requires
+start-length-requires c κs = search needs
 
 mul-final-length-2 : tie.Need-mul-final-length-2
 mul-final-length-2 c = search needs
@@ -104,7 +127,7 @@ returns c =
     let t = f .before .before .before .before in
     let a = start t .args in
     turned-off (a .terms) (a .direction .now) (a .count .now) (a .lengths .now) (a .factors .now) (a .x)
-    (t .final-length .ensures) (f .before .before .steepness-of .ensures) (f .factor-of .ensures) (c .if1 .taken)
+    (length-is t) (f .before .before .steepness-of .ensures) (f .factor-of .ensures) (c .if1 .taken)
 
 beside-requires : tie.Need-beside-requires
 beside-requires c κs = let s = start (measured-at c) in (s .pre .0 .beside-room (c .if1 .left), s .pre .2)
@@ -124,26 +147,35 @@ steepness-of-requires-2 c κs =
     let s = start (measured-at (b .before)) in
     omega (arith, next-small b, getD-set-other (s .args .factors .now) (s .args .x) (b .beside .result) (b .before .before .before .factor-of .result) 0 (next-other b))
 
+shared-slice-read-start-length-2 : tie.Need-shared-slice-read-start-length-2
+shared-slice-read-start-length-2 c =
+    let b = c .before .before .before in
+    let t = start (measured-at (b .before)) .pre .0 in
+    omega (arith, b .beside .ensures, t .dir-in, t .next-dir (b .before .if1 .left))
+
+start-length-requires-2 : tie.Need-start-length-requires-2
+start-length-requires-2 c κs = search needs
+
 brought-requires : tie.Need-brought-requires
 brought-requires c κs =
-    let b = c .before .before in
+    let b = c .before .before .before .before in
     let f = b .before .before .before in
     let t = measured-at (b .before) in
     let s = start t in
     let falls = set (s .args .factors .now) (s .args .x) (f .factor-of .result) in
     let other = getD-set-other (s .args .factors .now) (s .args .x) (b .beside .result) (f .factor-of .result) 0 (next-other b) in (
       omega (arith, f .before .before .steepness-of .ensures, steepness-small {fall = getD (s .args .factors .now) (s .args .x) 0} (s .pre .0 .fall-small)),
-      omega (arith, c .steepness-of2 .ensures, steepness-small {fall = getD falls (b .beside .result) 0} (omega (arith, other, next-small b))),
+      omega (arith, c .before .before .steepness-of2 .ensures, steepness-small {fall = getD falls (b .beside .result) 0} (omega (arith, other, next-small b))),
       length-small t,
       (s .pre .0 .rules, s .pre .0 .ruled),
     )
 
 mul-longer : tie.Need-mul-longer
-mul-longer c = let b = c .before .before .before in omega (arith, next-in b .0, start (measured-at (b .before)) .pre .0 .lengths-few)
+mul-longer c = let b = c .before .before .before .before .before in omega (arith, next-in b .0, start (measured-at (b .before)) .pre .0 .lengths-few)
 
 slice-read-longer : tie.Need-slice-read-longer
 slice-read-longer c =
-    let b = c .before .before .before .before in
+    let b = c .before .before .before .before .before .before in
     let t = measured-at (b .before) in
     let s = start t in
     omega (arith, next-in b .0, length-set (s .args .lengths .now) (s .args .x) (t .final-length .result))
@@ -151,25 +183,28 @@ slice-read-longer c =
 add-longer : tie.Need-add-longer
 add-longer c =
     let w = c .before in
-    let b = w .before .before .before in
+    let b = w .before .before .before .before .before in
     let f = b .before .before .before in
     let t = measured-at (b .before) in
     let s = start t in
     let rules = s .pre .0 .rules in
     let k = trailingZeros 8 (getD (s .args .direction .now) (s .args .x) 0) in
     let p = f .before .before .steepness-of .result in
-    let small = brought-small (s .args .terms .side) rules k p (w .before .steepness-of2 .result) (t .final-length .result) (length-small t) in
+    let next = w .before .start-length2 in
+    let least = start-le (getD (s .args .direction .now) (b .beside .result) 0) in
+    let small = brought-small (s .args .terms .side) rules k p (w .before .before .before .steepness-of2 .result) (next .result) (t .final-length .result)
+    (omega (arith, next .ensures, least)) (length-small t) in
     omega (arith, w .brought .ensures rules (s .pre .0 .ruled), small)
 
 longer-requires : tie.Need-longer-requires
 longer-requires c κs = search needs
 
 mul-lengths-2 : tie.Need-mul-lengths-2
-mul-lengths-2 c = let b = c .before .before .before .before .before in omega (arith, next-in b .0, start (measured-at (b .before)) .pre .0 .lengths-few)
+mul-lengths-2 c = let b = c .before .before .before .before .before .before .before in omega (arith, next-in b .0, start (measured-at (b .before)) .pre .0 .lengths-few)
 
 slice-write-lengths-2 : tie.Need-slice-write-lengths-2
 slice-write-lengths-2 c =
-    let b = c .before .before .before .before .before in
+    let b = c .before .before .before .before .before .before .before in
     let t = measured-at (b .before) in
     let s = start t in
     omega (arith, next-in b .0, length-set (s .args .lengths .now) (s .args .x) (t .final-length .result))
@@ -183,13 +218,13 @@ same-length-4 c = search needs
 returns-2 : tie.Need-returns-2
 returns-2 c =
     let w = c .before .before in
-    let b = w .before .before .before in
+    let b = w .before .before .before .before .before in
     let f = b .before .before .before in
     let t = measured-at (b .before) in
     let a = start t .args in
     turned-on (a .terms) (a .direction .now) (a .count .now) (a .lengths .now) (a .factors .now) (a .x)
-    (t .final-length .ensures) (f .before .before .steepness-of .ensures) (f .factor-of .ensures) (b .beside .ensures) (next-other b)
-    (w .before .steepness-of2 .ensures) (w .brought .ensures) (c .longer .ensures) (b .before .if1 .left)
+    (length-is t) (f .before .before .steepness-of .ensures) (f .factor-of .ensures) (b .beside .ensures) (next-other b)
+    (w .before .before .before .steepness-of2 .ensures) (w .before .start-length2 .ensures) (w .brought .ensures) (c .longer .ensures) (b .before .if1 .left)
 
 pub turn-spec : {M : Type 1} → statement M
 turn-spec =
@@ -197,6 +232,8 @@ turn-spec =
     (tie.spec
     mul-final-length
     shared-slice-read-final-length
+    shared-slice-read-start-length
+    start-length-requires
     mul-final-length-2
     slice-read-final-length
     final-length-requires
@@ -217,6 +254,8 @@ turn-spec =
     mul-steepness-of
     slice-read-steepness-of
     steepness-of-requires-2
+    shared-slice-read-start-length-2
+    start-length-requires-2
     brought-requires
     mul-longer
     slice-read-longer
