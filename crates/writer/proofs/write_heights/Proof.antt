@@ -125,8 +125,9 @@ same-length-2 c = search needs
 returns-4 : tie.Need-returns-4
 unfolding heightCells
 returns-4 c =
-    let b = c .before .before .before .before .before .before .before .begin in
-    let n = c .before .before .before .before .before .before .before .before .before in
+    let begun = c .before .before .before .before .before .before .before in
+    let b = begun .begin in
+    let n = begun .before .before in
     let t = n .before .before .before .before in
     let s = start t in
     let l = text-length (framed s) (cells s) (many t) (sound t) in

@@ -96,8 +96,9 @@ put-numbers-requires c κs =
 returns-2 : tie.Need-returns-2
 unfolding numberCells
 returns-2 c =
-    let j = c .before .before .before .judge .ensures in
-    let s = c .before .before .before .before .before .before .before .before in
+    let judged = c .before .before .before in
+    let j = judged .judge .ensures in
+    let s = judged .before .before .before .before .before in
     let p = frame-refuses (framed s) (cells s) (s .args .room .now) (sym j ∙ ap found (c .before .judgement .given .1)) in
     (p .answers, p .leaves)
 
@@ -107,8 +108,9 @@ same-length-2 c = search needs
 returns-3 : tie.Need-returns-3
 unfolding numberCells
 returns-3 c =
-    let b = c .before .before .before .before .before .before .before .begin in
-    let n = c .before .before .before .before .before .before .before .before .before in
+    let begun = c .before .before .before .before .before .before .before in
+    let b = begun .begin in
+    let n = begun .before .before in
     let t = n .before .before in
     let s = start t in
     let l = text-length (framed s) (cells s) (many t) (sound t) in

@@ -16,17 +16,20 @@ use Rattle.factor.proofs.pass.turn.Statement.{statement}
 use Rattle.factor.proofs.pass.turn.Tie as tie
 
 -- the arguments; and the turn's first steps, from the cell that x points at on
+abbrev started : tie.After-final-length → tie.After-start-length
+started c = c .before .before
+
 abbrev start : tie.After-final-length → tie.Start
-start c = c .before .before .before .before .before .before .before .before .before
+start c = started c .before .before .before .before .before .before .before
 
 abbrev measured-at : tie.Else1 → tie.After-final-length
 measured-at c = c .before .before .before .before .before .before
 
 -- the start is small, and so is the length
-start-small : (c : tie.After-final-length) → c .before .before .start-length .result ≤ 7071
+start-small : (c : tie.After-final-length) → started c .start-length .result ≤ 7071
 start-small c =
     let s = start c in
-    omega (arith, c .before .before .start-length .ensures, start-le (getD (s .args .direction .now) (s .args .x) 0))
+    omega (arith, started c .start-length .ensures, start-le (getD (s .args .direction .now) (s .args .x) 0))
 
 length-small : (c : tie.After-final-length) → c .final-length .result ≤ greatestLength
 length-small c =
@@ -42,7 +45,7 @@ length-is : (c : tie.After-final-length) →
 length-is c =
     let a = start c .args in
     c .final-length .ensures
-    ∙ ap (λ (i : ℕ). finalLength (ltb (a .terms .most) (getD (a .count .now) (a .x) 0)) i (getD (a .lengths .now) (a .x) 0)) (c .before .before .start-length .ensures)
+    ∙ ap (λ (i : ℕ). finalLength (ltb (a .terms .most) (getD (a .count .now) (a .x) 0)) i (getD (a .lengths .now) (a .x) 0)) (started c .start-length .ensures)
 
 -- the cell that x points at is another, and has its places
 next-in : (c : tie.After-beside) → let s = start (measured-at (c .before)) in (c .beside .result < length (s .args .lengths .now)) × (c .beside .result < length (s .args .factors .now))

@@ -35,7 +35,8 @@ put-requires-2 c κs = search needs
 add-result : tie.Need-add-result
 add-result c =
     let put = c .before .before .before .before .before .before in
-    let name = put .before .before .before .before .before .before .before .before in
+    let space = put .before .before .before .before in
+    let name = space .before .before .before .before in
     let s = name .before .before .before .before in
     let w = put .put-hundredths .ensures in
     omega (arith, name .put-all .ensures .1, w .ends, fixed-length 2 (s .args .n), decimal-short 19 (s .args .n / 100) (omega (arith, s .fits .n)), s .pre .1)

@@ -16,17 +16,24 @@ use Rattle.text.proofs.is_side.Reads as is-side-reads
 use Rattle.text.proofs.is_size.Reads as is-size-reads
 use Rattle.writer.proofs.judge.unsound.Reads as unsound-reads
 
+-- the arguments, from where the sizes and where the side are known to be accepted
+abbrev sized : tie.Else2 → tie.Start
+sized c = c .before .before .before .before .before .before
+
+abbrev sided : tie.Else4 → tie.Start
+sided c = sized (c .before .before .before)
+
 -- what the tests tell
 rows-are : (c : tie.Else1) → sizeAccepted (c .before .before .before .before .args .rows) ≡ true
 rows-are c = sym (c .before .is-size .ensures) ∙ not-false (c .before .is-size .result) (c .if1 .left)
 
-columns-are : (c : tie.Else2) → sizeAccepted (c .before .before .before .before .before .before .args .columns) ≡ true
+columns-are : (c : tie.Else2) → sizeAccepted (sized c .args .columns) ≡ true
 columns-are c = sym (c .before .is-size2 .ensures) ∙ not-false (c .before .is-size2 .result) (c .if2 .left)
 
-side-is : (c : tie.Else4) → sideAccepted (c .before .before .before .before .before .before .before .before .before .args .side) ≡ true
+side-is : (c : tie.Else4) → sideAccepted (sided c .args .side) ≡ true
 side-is c = sym (c .before .is-side .ensures) ∙ not-false (c .before .is-side .result) (c .if4 .left)
 
-x-is : (c : tie.Else5) → isNumber (c .before .before .before .before .before .before .before .before .before .before .before .args .x .now) ≡ true
+x-is : (c : tie.Else5) → isNumber (sided (c .before .before) .args .x .now) ≡ true
 x-is c = sym (c .before .is-number .ensures) ∙ not-false (c .before .is-number .result) (c .if5 .left)
 
 is-size-requires : tie.Need-is-size-requires

@@ -31,7 +31,9 @@ put-padded-requires c κs = search needs
 
 add-result-2 : tie.Need-add-result-2
 add-result-2 c =
-    let a = c .before .before .before .before .before .before .before .before .before .before .before .before .before .args in
+    let p = c .before .before .before .before .before .before in
+    let s = p .before .before .before .before in
+    let a = s .before .before .before .args in
     omega (arith, c .before .before .put-padded .ensures .1, padded-length 2 (a .n))
 
 same-length : tie.Need-same-length
