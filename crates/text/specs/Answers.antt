@@ -37,6 +37,10 @@ headerOutcome (refused n p) = refusal n p
 abbrev pub headerAnswer : List ℕ → Outcome
 headerAnswer s = headerOutcome (H.header s 0)
 
+-- Of a header that stands alone in its text, the same four numbers; no word may follow it.
+abbrev pub loneHeaderAnswer : List ℕ → Outcome
+loneHeaderAnswer s = headerOutcome (G.loneHeader s 0)
+
 -- It also tells each corner word's first byte and length, zeros at a refusal.
 abbrev pub noSpan : Span
 noSpan = record { first = 0; length = 0 }

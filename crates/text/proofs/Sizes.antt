@@ -7,15 +7,16 @@ use native.Mathlib.Omega.{arith}
 use borrow.Author.Tests.{leb-true}
 use lib.Dec.{leb}
 use Rattle.laws.proofs.Tests.{and-both}
 use Rattle.text.specs.Reader.{Step, Reader, got, refused}
 use Rattle.text.specs.Quantities.{extentIn}
 use Rattle.text.specs.Bytes.{bytes}
 use Rattle.text.specs.Words.{word}
 use Rattle.text.specs.Numbers.{countFormAt, read, count}
 use Rattle.text.specs.Headers.{Extent, Header, Head, name, side, field, noData, extent, corners, sideAndNoData, head, header}
-use Rattle.text.specs.Answers.{headerOutcome, headerAnswer}
+use Rattle.text.specs.Heights.{end, loneHeader}
+use Rattle.text.specs.Answers.{Outcome, headerOutcome, headerAnswer, loneHeaderAnswer}
 use Rattle.text.specs.declared.Corners.{Corners}
 use Rattle.text.proofs.Carried.{Has, Keeps, keeps-any, keeps-give, keeps-check, keeps-then}
 
 -- sizes in range
 record SizesIn (rows columns : ℕ) : Type 0 where
@@ -47,14 +48,23 @@ module _ (s : List ℕ) where
   unfolding header head
   header-in = keeps-then (keeps-then extent-in (λ e h. keeps-then (keeps-any corners) (λ c o. rest-in e c h))) (λ x h. keeps-give h)
 
+  lone-in : Gives (λ (h : Header). SizesIn (h .rows) (h .columns)) loneHeader
+  unfolding loneHeader
+  lone-in = keeps-then header-in (λ h z. keeps-then (keeps-any end) (λ u o. keeps-give z))
+
 few : (n : ℕ) → extentIn n ≡ true → n ≤ 1024
 few n h = leb-true n 1024 (and-both (leb 1 n) (leb n 1024) h .1)
 
--- a header's answer has at most 1,024 rows and columns
-pub header-few : (s : List ℕ) → (headerAnswer s .rows ≤ 1024) × (headerAnswer s .columns ≤ 1024)
-header-few s = go (header s 0) (header-in s .keeps 0)
-  where
-    go : (t : Step Header) → Has (λ (h : Header). SizesIn (h .rows) (h .columns)) (λ (n p : ℕ). Unit) t
-        → (headerOutcome t .rows ≤ 1024) × (headerOutcome t .columns ≤ 1024)
-    go (got h i) z = (few (h .rows) (z .rows-in), few (h .columns) (z .columns-in))
-    go (refused n p) z = (omega arith, omega arith)
+-- an answer has at most 1,024 rows and columns
+abbrev pub FewIn : Outcome → Type 0
+FewIn o = (o .rows ≤ 1024) × (o .columns ≤ 1024)
+
+few-in : (t : Step Header) → Has (λ (h : Header). SizesIn (h .rows) (h .columns)) (λ (n p : ℕ). Unit) t → FewIn (headerOutcome t)
+few-in (got h i) z = (few (h .rows) (z .rows-in), few (h .columns) (z .columns-in))
+few-in (refused n p) z = (omega arith, omega arith)
+
+pub header-few : (s : List ℕ) → FewIn (headerAnswer s)
+header-few s = few-in (header s 0) (header-in s .keeps 0)
+
+pub lone-few : (s : List ℕ) → FewIn (loneHeaderAnswer s)
+lone-few s = few-in (loneHeader s 0) (lone-in s .keeps 0)
