@@ -9,13 +9,15 @@ use Rattle.laws.specs.Lists.{tab}
 use Rattle.laws.specs.First.{firstOf}
 use Rattle.text.specs.Quantities.{heightIn, noDataHeight}
 use Rattle.text.specs.Reader.{Reader, _>>=_, _>>_, give, check}
+use Rattle.text.specs.Headers.{Header}
 use Rattle.text.specs.Heights.{Grid, loneHeader}
 use Rattle.text.specs.Answers.{GridOutcome, gridOutcome}
 use Rattle.floats.specs.Floats.{magnitude, finite, equal, bitsAt}
 use Rattle.floats.specs.Rounding.{cm, nearestFloat}
 
 -- A float equal to the float nearest the header's NoData number is NoData; v is that float.
-abbrev pub heightOf : ℕ → ℕ → ℤ
+unfoldable pub heightOf : ℕ → ℕ → ℤ
+unfolding equal cm
 heightOf v b = cond (equal b v) noDataHeight (cm b)
 
 -- 15: NaN or infinite. 5: out of range after rounding, and not NoData. 0: neither
@@ -30,22 +32,31 @@ firstFault v floats k = firstOf (λ x. not (eqb (faultOf v (bitsAt floats x)) 0)
 
 -- Cell by cell, and the first fault decides; place: the cell index
 unfoldable pub cells : ℕ → List ℕ → ℕ → Reader (List ℤ)
-unfolding firstFault faultOf bitsAt equal cm tab
+unfolding firstFault faultOf bitsAt heightOf tab
 cells v floats k =
     let x = firstFault v floats k in
     check (not (ltb x k)) (faultOf v (bitsAt floats x)) x
     >> give (tab k (λ x. heightOf v (bitsAt floats x)))
 
--- the header's text, with k heights lent. The refusals of the header call; 10: a word after the header; 2: the lent heights are not one per cell;
--- 14: the bytes are not four per cell; then 15 and 5
-unfoldable pub grid : List ℕ → ℕ → Reader Grid
-unfolding loneHeader nearestFloat cells
-grid floats k = do
-  h ← loneHeader
+-- what the floats say by the header h, with k heights lent. 2: the lent heights are not one per cell; 14: the bytes are not four per cell; then 15 and 5
+unfoldable pub body : Header → List ℕ → ℕ → Reader (List ℤ)
+unfolding nearestFloat cells
+body h floats k = do
   check (eqb k (h .rows * h .columns)) 2 0
   check (eqb (length floats) (4 * k)) 14 0
-  hs ← cells (nearestFloat (h .noData)) floats k
+  cells (nearestFloat (h .noData)) floats k
+
+abbrev pub gridWith : Header → List ℕ → ℕ → Reader Grid
+gridWith h floats k = do
+  hs ← body h floats k
   give (record { header = h; heights = hs })
+
+-- the header's text: the refusals of the header call, and 10 for a word after the header; then the floats
+unfoldable pub grid : List ℕ → ℕ → Reader Grid
+unfolding loneHeader body
+grid floats k = do
+  h ← loneHeader
+  gridWith h floats k
 
 -- It answers as the text reader does. A refusal changes no lent grid.
 abbrev pub floatsAnswer : List ℤ → List ℕ → List ℕ → GridOutcome

@@ -2,3 +2,5 @@
 pub mod Floats
 pub mod Rounding
 pub mod Answers
+-- What inner functions cite
+pub mod InnerCells

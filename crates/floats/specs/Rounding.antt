@@ -1,12 +1,12 @@
 -- RULES 11.2: rounding to the nearest, of halves to the even one. Assumes nothing.
-use Prim.Native.Nat.{ℕ, _+_, _*_, _/_, _%_, _^_, _≤_}
+use Prim.Native.Nat.{ℕ, _+_, _-_, _*_, _/_, _%_, _^_, _≤_}
 use mathlib.Core.Path.{_≡_}
-use mathlib.Core.Bool.{cond}
+use mathlib.Core.Bool.{true, cond}
 use lib.Dec.{ltb}
-use lib.IntN.{ℤ, natAbs, negsuc, pos}
+use lib.IntN.{ℤ, pos, negsuc}
 use Rattle.laws.specs.First.{firstOf}
 use Rattle.text.specs.Numbers.{centimetres}
-use Rattle.floats.specs.Floats.{sign, magnitude, units, metre}
+use Rattle.floats.specs.Floats.{sign, magnitude, finite, units, metre}
 
 -- the whole number nearest n / d, halfway to the even one
 unfoldable pub nearest : ℕ → ℕ → ℕ
@@ -29,15 +29,26 @@ cm b = centimetres (sign b) (nearest (100 * units (magnitude b)) metre)
 
 -- ---- the float nearest a number of cm
 
--- How often the units are doubled there: the first e for which n cm are less than 2 ^ 24 times 2 ^ e units
+-- how often the units are doubled there: the first e for which n cm are less than 2 ^ 24 times 2 ^ e units
 unfoldable pub doublings : ℕ → ℕ
 unfolding firstOf
 doublings n = firstOf (λ e. ltb (n * metre) (100 * 2 ^ (24 + e))) 254
 
--- the magnitude of the float nearest n cm, a tie to the even one (the law `float-nearest`)
+-- the magnitude of the float nearest n cm, a tie to the even one
 unfoldable pub nearestMagnitude : ℕ → ℕ
 unfolding doublings nearest
 nearestMagnitude n = let e = doublings n in e * 2 ^ 23 + nearest (n * metre) (100 * 2 ^ e)
+
+-- how far the float of magnitude m is from n cm, in hundredths of a unit
+unfoldable pub distance : ℕ → ℕ → ℕ
+unfolding units
+distance n m = (100 * units m - n * metre) + (n * metre - 100 * units m)
+
+-- m is it: no other float is nearer, and where another is as near, m is even (the law `magnitude-closest`)
+pub record Closest (n m : ℕ) : Type 0 where
+  pub is-finite : finite m ≡ true
+  pub least : (k : ℕ) → finite k ≡ true → distance n m ≤ distance n k
+  pub even : (k : ℕ) → finite k ≡ true → (k ≡ m → ⊥) → distance n k ≡ distance n m → m % 2 ≡ 0
 
 -- the float nearest a number of cm
 unfoldable pub nearestFloat : ℤ → ℕ
