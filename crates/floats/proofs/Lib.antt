@@ -1,2 +1,2 @@
--- Computed examples
-pub mod Examples
+-- Laws that serve the functions
+pub mod InnerCells
