@@ -1,2 +1,2 @@
--- Laws that serve the functions
-pub mod InnerCells
+-- Laws of the definitions
+pub mod Nearest
