@@ -1,2 +1,5 @@
 -- Laws of the definitions
 pub mod Nearest
+-- Laws that serve the functions
+pub mod InnerRounding
+pub mod InnerCells

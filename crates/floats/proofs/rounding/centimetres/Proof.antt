@@ -1,41 +1,36 @@
+-- `floats::rounding::centimetres` meets its contract. Assumes nothing.
+use mathlib.Core.Path.{_∙_}
+use native.Mathlib.Omega.{arith}
+use Rattle.floats.proofs.Units.{cm-tiny, cm-shift}
 use borrow.Author.Needs.{needs}
 use Rattle.floats.proofs.rounding.centimetres.Statement.{statement}
 use Rattle.floats.proofs.rounding.centimetres.Tie as tie
-use Rattle.floats.proofs.rounding.centimetres.Reads as reads
-use Rattle.floats.proofs.rounding.centimetres.Lts as lts
-use Rattle.floats.proofs.rounding.shifted.Reads as shifted-reads
 
--- src/rounding.rt:39:9
 returns : tie.Need-returns
-returns c = ?
+returns c = cm-tiny _ (c .if1 .taken)
 
--- src/rounding.rt:41:20
 add-n : tie.Need-add-n
 add-n c = search needs
 
--- src/rounding.rt:41:13
 mul-n : tie.Need-mul-n
 mul-n c = search needs
 
--- src/rounding.rt:42:13
 cast-shifted : tie.Need-cast-shifted
 cast-shifted c = search needs
 
--- src/rounding.rt:42:23
 sub-shifted : tie.Need-sub-shifted
 sub-shifted c = search needs
 
--- src/rounding.rt:42:5
 shifted-requires : tie.Need-shifted-requires
 shifted-requires c κs = search needs
 
--- src/rounding.rt:42:5
 cast-result : tie.Need-cast-result
 cast-result c = search needs
 
--- src/rounding.rt:33:1
 returns-2 : tie.Need-returns-2
-returns-2 c = ?
+returns-2 c =
+    let m = c .before .before .args .m in
+    c .shifted .ensures .0 ∙ cm-shift m (c .before .if1 .left) (omega (arith, c .before .before .pre))
 
 pub centimetres-spec : {M : Type 1} → statement M
 centimetres-spec =

@@ -1,46 +1,37 @@
+-- `floats::rounding::quotient` meets its contract. Assumes nothing.
+use native.Mathlib.Omega.{arith}
+use native.Mathlib.Nat.{mod-lt}
+use Rattle.floats.proofs.InnerRounding.{quotient-few, rest-le, down-is, up-is, half-is}
 use borrow.Author.Needs.{needs}
 use Rattle.floats.proofs.rounding.quotient.Statement.{statement}
 use Rattle.floats.proofs.rounding.quotient.Tie as tie
-use Rattle.floats.proofs.rounding.quotient.Reads as reads
-use Rattle.floats.proofs.rounding.quotient.Lts as lts
 
--- src/rounding.rt:12:13
 div-q : tie.Need-div-q
 div-q c = search needs
 
--- src/rounding.rt:13:13
 rem-r : tie.Need-rem-r
 rem-r c = search needs
 
--- src/rounding.rt:14:12
 sub-if1 : tie.Need-sub-if1
-sub-if1 c = ?
+sub-if1 c = rest-le _ _ (c .pre .0) (c .pre .2)
 
--- src/rounding.rt:15:9
 returns : tie.Need-returns
-returns c = ?
+returns c = down-is _ _ (c .before .pre .0) (c .before .pre .2) (c .if1 .taken)
 
--- src/rounding.rt:17:8
 sub-if2 : tie.Need-sub-if2
-sub-if2 c = ?
+sub-if2 c = rest-le _ _ (c .before .pre .0) (c .before .pre .2)
 
--- src/rounding.rt:18:16
 add-result : tie.Need-add-result
-add-result c = ?
+add-result c = let a = c .before .before in omega (arith, quotient-few _ _ (a .pre .0) (a .pre .2))
 
--- src/rounding.rt:18:9
 returns-2 : tie.Need-returns-2
-returns-2 c = ?
+returns-2 c = let a = c .before .before in up-is _ _ (a .pre .0) (a .pre .2) (c .if2 .taken)
 
--- src/rounding.rt:20:5
 add-result-2 : tie.Need-add-result-2
-add-result-2 c = ?
+add-result-2 c = let a = c .before .before in omega (arith, quotient-few _ _ (a .pre .0) (a .pre .2))
 
--- src/rounding.rt:8:1
 returns-3 : tie.Need-returns-3
-returns-3 c = ?
+returns-3 c = let a = c .before .before in half-is _ _ (a .pre .0) (a .pre .2) (c .before .if1 .left) (c .if2 .left)
 
 pub quotient-spec : {M : Type 1} → statement M
-quotient-spec =
-    tie.close
-    (tie.spec div-q rem-r sub-if1 returns sub-if2 add-result returns-2 add-result-2 returns-3)
+quotient-spec = tie.close (tie.spec div-q rem-r sub-if1 returns sub-if2 add-result returns-2 add-result-2 returns-3)
