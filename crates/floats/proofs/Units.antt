@@ -1,6 +1,6 @@
 -- The exact size of a float rises with its bits, and which floats are in range: their cm by a shift, and the last floats within the bounds of heights.
 -- Assumes nothing.
-use mathlib.Core.Path.{_≡_, refl, sym, ap, ap₂, _∙_}
+use mathlib.Core.Path.{_≡_, sym, ap, ap₂, _∙_}
 use Prim.Native.Nat.{ℕ, zero, suc, _+_, _-_, _*_, _/_, _%_, _^_, _≤_, _<_, zero-le}
 use native.Mathlib.Nat.{div-eq-of-lt, mod-eq-of-lt, mul-one, mul-assoc, mul-le-mul-left, mul-lt-mul-of-pos-right, pow-suc}
 use native.Mathlib.Nat.{le-trans, lt-trans, lt-of-lt-of-le, le-of-eq, le-of-lt, le-antisymm}
@@ -12,7 +12,7 @@ use lib.Pow.{pow-pos, pow-mono, pow-add, high, low}
 use Rattle.laws.proofs.First.{first-is}
 use Rattle.floats.specs.Floats.{units, metre}
 use Rattle.floats.specs.Rounding.{nearest, doublings}
-use Rattle.floats.proofs.Nearest.{nearest-scale, nearest-mono, nearest-small}
+use Rattle.floats.proofs.Nearest.{nearest-scale, nearest-mono}
 
 -- ---- the units, by the doublings e of a whole number s
 
