@@ -2,7 +2,7 @@
 -- and every other float is a whole such unit away from it, or lies behind it as the number sees it. Assumes nothing.
 use mathlib.Core.Path.{_≡_, refl, sym, ap, _∙_}
 use mathlib.Core.Bool.{Bool, true, false}
-use Prim.Native.Nat.{ℕ, zero, suc, _+_, _-_, _*_, _/_, _%_, _^_, _≤_, _<_, zero-le}
+use Prim.Native.Nat.{ℕ, _+_, _-_, _*_, _/_, _%_, _^_, _≤_, _<_, zero-le}
 use native.Mathlib.Nat.{mul-le-mul-left, mul-le-mul-right, mul-lt-mul-of-pos-left, mul-left-comm, add-mul}
 use native.Mathlib.Nat.{le-of-eq, le-of-lt, le-trans, lt-of-le-of-lt, mod-eq-of-lt}
 use native.Mathlib.Numerals.{add-one}

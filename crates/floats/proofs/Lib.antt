@@ -2,3 +2,4 @@
 pub mod Nearest
 pub mod Units
 pub mod Closest
+pub mod Ieee
