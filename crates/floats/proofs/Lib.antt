@@ -3,3 +3,8 @@ pub mod Nearest
 pub mod Units
 pub mod Closest
 pub mod Ieee
+-- Laws that serve the functions
+pub mod InnerRounding
+pub mod InnerMagnitude
+pub mod InnerFaults
+pub mod InnerCells

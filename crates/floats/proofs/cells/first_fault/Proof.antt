@@ -15,7 +15,7 @@ abbrev μ-loop : tie.MeasureT-loop
 μ-loop v floats count x₀ x = count - x
 
 -- the arguments, from the loop on
-abbrev start : tie.At-loop Inv-loop μ-loop → tie.Start
+abbrev start : tie.At-loop Inv-loop μ-loop → tie.Start Inv-loop μ-loop
 start c = c .before .before
 
 loop-holds : tie.Need-loop-holds Inv-loop μ-loop

@@ -26,7 +26,7 @@ abbrev μ-loop : tie.MeasureT-loop
 abbrev at : tie.After-bits-at Inv-loop μ-loop → tie.At-loop Inv-loop μ-loop
 at c = c .before .before
 
-abbrev start : tie.At-loop Inv-loop μ-loop → tie.Start
+abbrev start : tie.At-loop Inv-loop μ-loop → tie.Start Inv-loop μ-loop
 start c = c .before .before
 
 loop-holds : tie.Need-loop-holds Inv-loop μ-loop

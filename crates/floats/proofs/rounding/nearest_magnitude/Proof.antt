@@ -1,7 +1,8 @@
 -- `floats::rounding::nearest_magnitude` meets its contract. Assumes nothing.
-use mathlib.Core.Path.{_≡_, refl, sym, ap, _∙_}
+use mathlib.Core.Path.{_≡_, sym, ap, _∙_, subst}
 use Prim.Native.Nat.{ℕ, _+_, _-_, _*_}
 use native.Mathlib.Omega.{arith}
+use Rattle.floats.specs.Rounding.{nearestMagnitude}
 use Rattle.floats.proofs.InnerMagnitude.{Raised, raised-start, raised-pos, raised-more, Scaled, scaled-start, scaled-more}
 use Rattle.floats.proofs.InnerMagnitude.{divisor-few, doubled-few, magnitude-is}
 use Rattle.floats.proofs.Closest.{zero-magnitude}
@@ -20,15 +21,8 @@ Inv-loop2 n m e₀ d₀ e d = Scaled n m e₀ e d
 abbrev μ-loop2 : tie.MeasureT-loop2
 μ-loop2 n m e₀ d₀ e d = m - d
 
--- the arguments, from each loop on
-abbrev start : tie.At-loop Inv-loop μ-loop Inv-loop2 μ-loop2 → tie.Start
-start c = c .before .before
-
-abbrev start2 : tie.At-loop2 Inv-loop μ-loop Inv-loop2 μ-loop2 → tie.Start
-start2 c = start (c .before .before)
-
 returns : tie.Need-returns Inv-loop μ-loop Inv-loop2 μ-loop2
-returns c = (zero-magnitude ∙ ?, omega arith)
+returns c = (subst (λ (k : ℕ). 0 ≡ nearestMagnitude k) (sym (c .if1 .taken)) zero-magnitude, omega arith)
 
 loop-holds : tie.Need-loop-holds Inv-loop μ-loop Inv-loop2 μ-loop2
 loop-holds c = raised-start _ (omega (arith, c .if1 .left)) (c .before .pre)
