@@ -10,12 +10,19 @@ use lib.Dec.{eqb, ltb}
 use lib.IntN.{ℤ}
 use lib.ListN.{length}
 use Rattle.laws.specs.Lists.{tab}
+use Rattle.laws.proofs.First as F
 use Rattle.laws.proofs.First.{first-is, first-none, first-before}
 use Rattle.text.specs.Headers.{Header}
-use Rattle.text.specs.Answers.{accepted, refusal, gridOutcome}
+use Rattle.text.specs.Reader.{Step, after}
+use Rattle.text.specs.Answers.{accepted, refusal, headerOf, outcomeOf, loneHeaderAnswer, gridOutcome}
+use Rattle.text.specs.declared.Refusal.{Refusal}
+use Rattle.text.specs.declared.Header as D
+use Rattle.text.specs.declared.Answer.{Answer}
+use Rattle.text.specs.declared.Answer.the-variants.{Accepted, Refused}
+use Rattle.text.proofs.Sizes.{lone-refused, lone-accepted}
 use Rattle.floats.specs.Floats.{bitsAt}
 use Rattle.floats.specs.Rounding.{nearestFloat}
-use Rattle.floats.specs.Answers.{heightOf, faultOf, firstFault, cells, body}
+use Rattle.floats.specs.Answers.{heightOf, faultOf, firstFault, cells, body, gridWith, grid, floatsAnswer}
 use Rattle.floats.specs.InnerCells.{bodyAnswer}
 
 -- ---- the first fault
@@ -48,6 +55,10 @@ module _ (v : ℕ) (floats : List ℕ) where
       eqb-true (faultOf v (bitsAt floats x)) 0
       (not-false (eqb (faultOf v (bitsAt floats x)) 0) (first-before (λ y. not (eqb (faultOf v (bitsAt floats y)) 0)) k x h))
 
+  pub first-top : (k : ℕ) → firstFault v floats k ≤ k
+  unfolding firstFault
+  first-top k = F.first-top (λ y. not (eqb (faultOf v (bitsAt floats y)) 0)) k
+
 -- ---- what follows the header
 
 module _ (h : Header) (lent : List ℤ) (floats : List ℕ) where
@@ -71,3 +82,34 @@ module _ (h : Header) (lent : List ℤ) (floats : List ℕ) where
       unfolding body cells
       body-on t =
           rw (eq-eqb (length lent) (h .rows * h .columns) l, eq-eqb (length floats) (4 * length lent) b, sym n, sym f, le-ltb x (length lent) t) refl
+
+-- ---- the whole of a call
+
+-- where the header's text ends does not matter any more
+anywhere : (h : Header) (lent : List ℤ) (floats s : List ℕ) (i : ℕ) → bodyAnswer h lent floats ≡ gridOutcome lent (gridWith h floats (length lent) s i)
+unfolding body cells
+anywhere h lent floats s i =
+    one (eqb (length lent) (h .rows * h .columns)) refl (eqb (length floats) (4 * length lent)) refl
+    (ltb (firstFault (nearestFloat (h .noData)) floats (length lent)) (length lent)) refl
+  where
+    one : (a : Bool) → eqb (length lent) (h .rows * h .columns) ≡ a
+        → (b : Bool) → eqb (length floats) (4 * length lent) ≡ b
+        → (c : Bool) → ltb (firstFault (nearestFloat (h .noData)) floats (length lent)) (length lent) ≡ c
+        → bodyAnswer h lent floats ≡ gridOutcome lent (gridWith h floats (length lent) s i)
+    one false p b q c r = rw p refl
+    one true p false q c r = rw (p, q) refl
+    one true p true q false r = rw (p, q, r) refl
+    one true p true q true r = rw (p, q, r) refl
+
+module _ (lent : List ℤ) (s floats : List ℕ) (r : Answer) (m : outcomeOf r ≡ loneHeaderAnswer s) where
+  pub floats-off : (f : Refusal) → r ≡ Refused f → record { answer = refusal (f .number) (f .place); heights = lent } ≡ floatsAnswer lent s floats
+  unfolding grid
+  floats-off f e =
+      sym (ap (λ (t : Step Header). gridOutcome lent (after t (λ h. gridWith h floats (length lent)) s))
+      (lone-refused s (f .number) (f .place) (sym (ap outcomeOf e) ∙ m)))
+
+  pub floats-on : (h : D.Header) → r ≡ Accepted h → bodyAnswer (headerOf h) lent floats ≡ floatsAnswer lent s floats
+  unfolding grid
+  floats-on h e =
+      let g = lone-accepted s (headerOf h) (sym (ap outcomeOf e) ∙ m) in
+      anywhere (headerOf h) lent floats s (g .0) ∙ sym (ap (λ (t : Step Header). gridOutcome lent (after t (λ h. gridWith h floats (length lent)) s)) (g .1))

@@ -6,5 +6,6 @@ pub mod Ieee
 -- Laws that serve the functions
 pub mod InnerRounding
 pub mod InnerMagnitude
+pub mod InnerSigns
 pub mod InnerFaults
 pub mod InnerCells

@@ -1,8 +1,8 @@
 -- A header that is accepted has sizes in range: what a reader gives is carried through its steps. Assumes nothing.
-use mathlib.Core.Path.{_≡_}
-use mathlib.Core.Bool.{true}
+use mathlib.Core.Path.{_≡_, refl, sym, ap, _∙_}
+use mathlib.Core.Bool.{true, true≢false}
 use mathlib.Core.List.{List}
-use Prim.Native.Nat.{ℕ, _≤_}
+use Prim.Native.Nat.{ℕ, _≤_, _<_}
 use native.Mathlib.Omega.{arith}
 use borrow.Author.Tests.{leb-true}
 use lib.Dec.{leb}
@@ -14,8 +14,9 @@ use Rattle.text.specs.Words.{word}
 use Rattle.text.specs.Numbers.{countFormAt, read, count}
 use Rattle.text.specs.Headers.{Extent, Header, Head, name, side, field, noData, extent, corners, sideAndNoData, head, header}
 use Rattle.text.specs.Heights.{end, loneHeader}
-use Rattle.text.specs.Answers.{Outcome, headerOutcome, headerAnswer, loneHeaderAnswer}
+use Rattle.text.specs.Answers.{Outcome, accepted, refusal, headerOutcome, headerAnswer, loneHeaderAnswer}
 use Rattle.text.specs.declared.Corners.{Corners}
+use Rattle.text.proofs.Calls.{lone-some}
 use Rattle.text.proofs.Carried.{Has, Keeps, keeps-any, keeps-give, keeps-check, keeps-then}
 
 -- sizes in range
@@ -68,3 +69,27 @@ header-few s = few-in (header s 0) (header-in s .keeps 0)
 
 pub lone-few : (s : List ℕ) → FewIn (loneHeaderAnswer s)
 lone-few s = few-in (loneHeader s 0) (lone-in s .keeps 0)
+
+-- ---- the answer of a header that stands alone tells how it was read
+
+-- a refusal has no rows, and a header that is read has some
+pub lone-refused : (s : List ℕ) (n p : ℕ) → refusal n p ≡ loneHeaderAnswer s → loneHeader s 0 ≡ refused n p
+lone-refused s n p = go (loneHeader s 0) (lone-in s .keeps 0)
+  where
+    go : (t : Step Header) → Has (λ (h : Header). SizesIn (h .rows) (h .columns)) (λ (n p : ℕ). Unit) t → refusal n p ≡ headerOutcome t → t ≡ refused n p
+    go (got h i) z e = absurd (true≢false (sym (z .rows-in) ∙ sym (ap (λ (o : Outcome). extentIn (o .rows)) e)))
+    go (refused m q) z e = sym (ap (λ (o : Outcome). refused (o .number) (o .place)) e)
+
+-- no refusal has number 0
+pub lone-accepted : (s : List ℕ) (h : Header) → accepted h ≡ loneHeaderAnswer s → (i : ℕ) × (loneHeader s 0 ≡ got h i)
+lone-accepted s h = go (loneHeader s 0) (lone-some s)
+  where
+    header-of : Outcome → Header
+    header-of o = record { rows = o .rows; columns = o .columns; side = o .side; noData = o .noData }
+
+    go : (t : Step Header) → ((n p : ℕ) → t ≡ refused n p → 0 < n) → accepted h ≡ headerOutcome t → (i : ℕ) × (t ≡ got h i)
+    go (got k i) z e = (i, sym (ap (λ (o : Outcome). got (header-of o) i) e))
+    go (refused m q) z e = absurd (zero-not (ap (λ (o : Outcome). o .number) e) (z m q refl))
+      where
+        zero-not : 0 ≡ m → 0 < m → ⊥
+        zero-not e l = omega arith

@@ -1,5 +1,6 @@
 -- `floats::cells::store` meets its contract. Assumes nothing.
 use mathlib.Core.Path.{_≡_, refl, sym, ap, _∙_, subst}
+use mathlib.Core.List.{List}
 use Prim.Native.Nat.{ℕ, _≤_, _-_, _<_}
 use native.Mathlib.Omega.{arith}
 use lib.IntN.{ℤ, pos}
@@ -16,8 +17,12 @@ use borrow.Author.Needs.{needs}
 use Rattle.floats.proofs.cells.store.Statement.{statement}
 use Rattle.floats.proofs.cells.store.Tie as tie
 
+-- the height of a cell
+abbrev height : ℕ → List ℕ → ℕ → ℤ
+height v floats y = heightOf v (bitsAt floats y)
+
 abbrev Inv-loop : tie.InvT-loop
-Inv-loop v floats out₀ x₀ out x = (length out ≡ length out₀) × (x ≤ length out) × Agrees (λ (y : ℕ). heightOf v (bitsAt floats y)) (pos 0) out x
+Inv-loop v floats out₀ x₀ out x = (length out ≡ length out₀) × (x ≤ length out) × Agrees (height v floats) (pos 0) out x
 
 abbrev μ-loop : tie.MeasureT-loop
 μ-loop v floats out₀ x₀ out x = length out - x
@@ -30,7 +35,7 @@ abbrev start : tie.At-loop Inv-loop μ-loop → tie.Start Inv-loop μ-loop
 start c = c .before .before
 
 loop-holds : tie.Need-loop-holds Inv-loop μ-loop
-loop-holds c = (refl, omega arith, agrees-none _ _ _)
+loop-holds c = let a = c .before .args in (refl, omega arith, agrees-none (height (a .v) (now (a .floats))) (pos 0) (now (a .out)))
 
 bits-at-requires : tie.Need-bits-at-requires Inv-loop μ-loop
 bits-at-requires c κs = omega (arith, start (c .before) .pre .0, c .before .loop .inv .0)
