@@ -26,7 +26,8 @@ fn shifted(n: u64, s: u32) -> u64
     ensures { λ r. ⌜ (r ≡ nearest n (2 ^ s)) × (r ≤ 2147483648) ⌝ }
 {
     let half: u64 = 1 << (s - 1);
-    (n + (half - 1) + (n >> s) % 2) >> s
+    let odd = (n >> s) % 2;
+    (n + (half - 1) + odd) >> s
 }
 
 // The cm of the float of magnitude `m`, which is below 16,384 m.

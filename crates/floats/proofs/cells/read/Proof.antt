@@ -76,7 +76,7 @@ returns-3 c =
     let b = bytes n in
     let e = c .fault-of .ensures ∙ ap (faultOf (n .nearest-float .result)) (c .before .bits-at .ensures) in
     ap (λ (k : ℕ). record { answer = refusal k (f .first-fault .result); heights = now (start (lengths b) .args .out) }) e
-    ∙ body-fault _ _ _ (lengths b .if1 .left) (b .if2 .left) _ (no-data n) _ (f .first-fault .ensures) (c .before .before .if3 .taken)
+    ∙ body-fault _ _ _ (lengths b .if1 .left) (b .if2 .left) _ (no-data n) _ (f .first-fault .ensures) (omega (arith, c .before .before .if3 .taken))
 
 store-requires : tie.Need-store-requires
 store-requires c κs =
