@@ -1,6 +1,6 @@
 //! What the command line asks for, and doing it.
 
-use crate::checks::{compare, full, selfcheck, texts};
+use crate::checks::{compare, floats, full, selfcheck, texts};
 use crate::rules::grid::MOST_ROWS;
 use crate::rules::grid_texts::{grid_texts, NAMES};
 use crate::rules::program::Program;
@@ -19,6 +19,7 @@ pub const USAGE: &str = "usage: second sheet [--program PROGRAM] < TEXT    PROGR
        second compare [--program PROGRAM] SEED N PRINTER...
        second full SIZE PROGRAM...
        second texts SEED N PROGRAM...
+       second floats SEED N PROGRAM...
        second selfcheck";
 
 /// A command with its words read; programs are given as their words.
@@ -34,6 +35,7 @@ pub enum Command<'a> {
     Compare { program: Program, seed: u64, number: usize, printer: &'a [&'a str] },
     Full { size: usize, program: &'a [&'a str] },
     Texts { seed: u64, number: usize, program: &'a [&'a str] },
+    Floats { seed: u64, number: usize, program: &'a [&'a str] },
     Selfcheck,
 }
 
@@ -113,6 +115,9 @@ impl<'a> Command<'a> {
             ["texts", seed, number, program @ ..] if !program.is_empty() => {
                 Command::Texts { seed: whole(seed)?, number: whole(number)?, program }
             }
+            ["floats", seed, number, program @ ..] if !program.is_empty() => {
+                Command::Floats { seed: whole(seed)?, number: whole(number)?, program }
+            }
             ["selfcheck"] => Command::Selfcheck,
             _ => return None,
         })
@@ -132,6 +137,7 @@ impl<'a> Command<'a> {
             Command::Compare { program, seed, number, printer } => compare::compare(program, seed, number, printer),
             Command::Full { size, program } => full::compare(size, program),
             Command::Texts { seed, number, program } => texts::compare(seed, number, program),
+            Command::Floats { seed, number, program } => floats::compare(seed, number, program),
             Command::Selfcheck => {
                 selfcheck::selfcheck();
                 Ok(())
@@ -153,6 +159,8 @@ mod tests {
         assert_eq!(Command::of(&["full", "1024", "valgrind", "lsmap"]), Some(full));
         let texts = Command::Texts { seed: 1, number: 50, program: &["lsmap"] };
         assert_eq!(Command::of(&["texts", "1", "50", "lsmap"]), Some(texts));
+        let floats = Command::Floats { seed: 1, number: 50, program: &["lsmap"] };
+        assert_eq!(Command::of(&["floats", "1", "50", "lsmap"]), Some(floats));
         for (kind, (name, ..)) in terrains::TERRAINS.iter().enumerate() {
             assert_eq!(Command::of(&["terrain", name, "1", "0"]), Some(Command::Terrain { kind, size: 1, seed: 0 }));
             assert!(USAGE.contains(name));
@@ -176,7 +184,7 @@ mod tests {
 
     #[test]
     fn other_words_are_a_usage_error() {
-        let wrong: [&[&str]; 24] = [
+        let wrong: [&[&str]; 25] = [
             &[],
             &["sheet", "field.asc"],
             &["sheet", "--program"],
@@ -201,6 +209,7 @@ mod tests {
             &["text", "length"],
             &["text", "ls", "--program", "job"],
             &["texts", "1", "50"],
+            &["floats", "1", "50"],
         ];
         wrong.iter().for_each(|words| assert_eq!(Command::of(words), None));
     }
