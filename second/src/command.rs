@@ -6,12 +6,13 @@ use crate::rules::grid_texts::{grid_texts, NAMES};
 use crate::rules::program::Program;
 use crate::rules::refusal::Refusal;
 use crate::rules::sheet::sheet;
-use crate::texts::{cases, telling, terrains};
+use crate::texts::{cases, float_grids, telling, terrains};
 use std::io::{self, Read, Write};
 
 pub const USAGE: &str = "usage: second sheet [--program PROGRAM] < TEXT    PROGRAM: printer job; printer if not named
        second sheets [--program PROGRAM] < STREAM
        second text [--program PROGRAM] GRID < TEXT       GRID: ground filled count ls
+       second as-floats < TEXT
        second cases SEED N
        second telling SEED N
        second count-telling < STREAM
@@ -28,6 +29,7 @@ pub enum Command<'a> {
     Sheet { program: Program },
     Sheets { program: Program },
     Text { program: Program, grid: usize },
+    AsFloats,
     Cases { seed: u64, number: usize },
     Telling { seed: u64, number: usize },
     CountTelling,
@@ -72,6 +74,12 @@ fn grid_text(text: &[u8], program: Program, grid: usize) -> Vec<u8> {
     grid_texts(text, program.settings()).map_or_else(refused, |texts| texts[grid].clone())
 }
 
+/// The heights of a text as floats.
+fn as_floats(text: &[u8]) -> io::Result<Vec<u8>> {
+    let refused = |Refusal { number, place }| io::Error::other(format!("refused {number} at {place}"));
+    float_grids::of_text(text).map_err(refused)
+}
+
 /// The number of telling texts in a framed stream.
 fn count_telling(stream: &[u8]) -> io::Result<usize> {
     Ok(cases::texts(stream)?.iter().filter(|text| telling::is_telling(text)).count())
@@ -105,6 +113,7 @@ impl<'a> Command<'a> {
     /// Any other command.
     fn for_itself(words: &'a [&'a str]) -> Option<Command<'a>> {
         Some(match words {
+            ["as-floats"] => Command::AsFloats,
             ["cases", seed, number] => Command::Cases { seed: whole(seed)?, number: whole(number)? },
             ["telling", seed, number] => Command::Telling { seed: whole(seed)?, number: whole(number)? },
             ["count-telling"] => Command::CountTelling,
@@ -130,6 +139,7 @@ impl<'a> Command<'a> {
             Command::Sheet { program } => output.write_all(sheet(&standard_input()?, program.settings()).as_bytes()),
             Command::Sheets { program } => output.write_all(sheets(&standard_input()?, program)?.as_bytes()),
             Command::Text { program, grid } => output.write_all(&grid_text(&standard_input()?, program, grid)),
+            Command::AsFloats => output.write_all(&as_floats(&standard_input()?)?),
             Command::Cases { seed, number } => output.write_all(&cases::stream(cases::case, seed, number)),
             Command::Telling { seed, number } => output.write_all(&cases::stream(telling::text, seed, number)),
             Command::CountTelling => writeln!(output, "{}", count_telling(&standard_input()?)?),
@@ -155,6 +165,7 @@ mod tests {
         assert_eq!(Command::of(&["cases", "12", "160"]), Some(Command::Cases { seed: 12, number: 160 }));
         assert_eq!(Command::of(&["telling", "7", "48"]), Some(Command::Telling { seed: 7, number: 48 }));
         assert_eq!(Command::of(&["count-telling"]), Some(Command::CountTelling));
+        assert_eq!(Command::of(&["as-floats"]), Some(Command::AsFloats));
         let full = Command::Full { size: 1_024, program: &["valgrind", "lsmap"] };
         assert_eq!(Command::of(&["full", "1024", "valgrind", "lsmap"]), Some(full));
         let texts = Command::Texts { seed: 1, number: 50, program: &["lsmap"] };
@@ -184,7 +195,7 @@ mod tests {
 
     #[test]
     fn other_words_are_a_usage_error() {
-        let wrong: [&[&str]; 25] = [
+        let wrong: [&[&str]; 26] = [
             &[],
             &["sheet", "field.asc"],
             &["sheet", "--program"],
@@ -210,6 +221,7 @@ mod tests {
             &["text", "ls", "--program", "job"],
             &["texts", "1", "50"],
             &["floats", "1", "50"],
+            &["as-floats", "field.asc"],
         ];
         wrong.iter().for_each(|words| assert_eq!(Command::of(words), None));
     }

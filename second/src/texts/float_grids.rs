@@ -1,11 +1,13 @@
-//! Grids of floats from a seed, each with its header: fields as floats, floats beside every bound of docs/RULES.md, 11,
-//! and hostile grids for every refusal of their reader.
+//! Grids of floats: of a text's heights; and from a seed, each with its header: fields as floats, floats beside every
+//! bound of docs/RULES.md, 11, and hostile grids for every refusal of their reader.
 
 use super::fields::{self, Field};
 use super::lone_headers;
 use super::seed::Seed;
 use crate::rules::float::{centimetres, nearest};
-use crate::rules::grid::{Shape, HIGHEST, LOWEST};
+use crate::rules::grid::{self, Shape, HIGHEST, LOWEST};
+use crate::rules::refusal::Refusal;
+use crate::rules::text::{read_grid, read_header};
 
 /// A header and the bytes of the floats.
 pub struct FloatGrid {
@@ -119,6 +121,15 @@ fn bytes(floats: &[u32]) -> Vec<u8> {
     floats.iter().flat_map(|bits| bits.to_le_bytes()).collect()
 }
 
+/// The floats nearest to the heights of a text; those of NoData are the float of its NoData number.
+pub fn of_text(text: &[u8]) -> Result<Vec<u8>, Refusal> {
+    let (header, _) = read_header(text)?;
+    let mut ground = vec![0; header.shape.cells()];
+    read_grid(text, &mut ground)?;
+    let number = |&height: &i32| if height == grid::NODATA { header.nodata } else { height.into() };
+    Ok(bytes(&ground.iter().map(|height| nearest(number(height))).collect::<Vec<u32>>()))
+}
+
 /// Puts an odd float, accepted or not, into some cells.
 fn spoil(seed: &mut Seed, field: &Field, floats: &mut [u32]) {
     let nodata = nearest(field.nodata.unwrap_or(-999_900));
@@ -161,8 +172,6 @@ pub fn grid(seed: &mut Seed, number: usize) -> FloatGrid {
 mod tests {
     use super::*;
     use crate::rules::float_grid::read_floats;
-    use crate::rules::refusal::Refusal;
-    use crate::rules::text::read_header;
     use std::collections::BTreeSet;
 
     /// The heights of the first grids of a seed, or the numbers of their refusals.
@@ -186,6 +195,14 @@ mod tests {
         let has = |wanted: i64| heights.iter().any(|&height| i64::from(height) == wanted);
         assert!([LOWEST, HIGHEST, 0, 12, 38, -62, -88, -999_900].into_iter().all(has));
         assert!(heights.len() > 10_000);
+    }
+
+    /// 5 m, NoData 2.5 m and 0.05 m.
+    #[test]
+    fn floats_of_a_text() {
+        let text = b"ncols 3 nrows 1 xllcorner 0 yllcorner 0 cellsize 10 nodata_value 2.5\n5 2.50 0.05";
+        assert_eq!(of_text(text), Ok(bytes(&[0x40A0_0000, 0x4020_0000, 0x3D4C_CCCD])));
+        assert_eq!(of_text(b"ncols"), Err(Refusal { number: 9, place: 5 }));
     }
 
     #[test]
