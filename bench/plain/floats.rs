@@ -1,5 +1,5 @@
 //! The reader of grids of 32-bit floats, in two passes: everything is judged before the first height is stored.
-//! docs/RULES.md, 11.
+//! docs/RULES.md, 11 Grids of floats.
 
 use crate::text::{read_lone_header, Header};
 use crate::{refuse, Refusal, NODATA};

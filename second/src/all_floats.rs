@@ -1,6 +1,6 @@
 //! all-floats NODATA: a reader of grids of floats held to the exact arithmetic of rules/ for each of the 2^32 floats. Those
 //! that have a height are read 1024 x 1024 at a time, the others one by one. The reader is the proved library's
-//! (crates/fullsize) where `rattle` is set, else the plain program's. Serves docs/RULES.md, 11.
+//! (crates/fullsize) where `rattle` is set, else the plain program's. Serves docs/RULES.md, 11 Grids of floats.
 
 #[cfg(rattle)]
 #[path = "../../host/src/library.rs"]

@@ -1,6 +1,6 @@
 //! The comparison of grids of floats: made ones of a seed, each under some settings, to a program that writes four grids
 //! as texts. Every byte of them, or the refusal with its number and place, against this program's. Serves docs/RULES.md,
-//! 11.
+//! 11 Grids of floats.
 
 use super::second_ways::any_settings;
 use super::texts::{output, run, same_texts, unexpected, words};

@@ -1,5 +1,5 @@
 //! One 32-bit float by its bits: its exact value, the whole centimetre nearest to it, and the float nearest to a number
-//! of cm. Whole numbers only; no float is worked with. States docs/RULES.md, 11.
+//! of cm. Whole numbers only; no float is worked with. States docs/RULES.md, 11 Grids of floats.
 
 use std::cmp::Ordering;
 

@@ -1,4 +1,4 @@
-//! The reader of grids of 32-bit floats, with the header as a text beside them. States docs/RULES.md, 11.
+//! The reader of grids of 32-bit floats, with the header as a text beside them. States docs/RULES.md, 11 Grids of floats.
 
 use super::float::{centimetres, equal, is_finite, nearest};
 use super::grid::{HIGHEST, LOWEST, NODATA};

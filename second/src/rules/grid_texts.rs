@@ -1,5 +1,5 @@
 //! The four grids of a field's map that have a text, given back as texts. Serves docs/RULES.md, 10 The text that is
-//! written, and 11.
+//! written, and 11 Grids of floats.
 
 use super::float_grid::read_floats;
 use super::map::map;

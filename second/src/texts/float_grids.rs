@@ -1,5 +1,5 @@
 //! Grids of floats: of a text's heights; and from a seed, each with its header: fields as floats, floats beside every
-//! bound of docs/RULES.md, 11, and hostile grids for every refusal of their reader.
+//! bound of docs/RULES.md, 11 Grids of floats, and hostile grids for every refusal of their reader.
 
 use super::fields::{self, Field};
 use super::lone_headers;

@@ -1,4 +1,5 @@
-//! Headers that stand alone in their text, good and hostile ones, for grids of floats. Serves docs/RULES.md, 11.
+//! Headers that stand alone in their text, good and hostile ones, for grids of floats. Serves docs/RULES.md, 11 Grids of
+//! floats.
 
 use super::fields::Field;
 use super::hostile::{fault, mutate, Fault, AFTER, LETTERS};
