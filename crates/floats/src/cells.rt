@@ -104,7 +104,8 @@ fn first_fault(v: u32, floats: &[u8], count: usize) -> usize
 
 // Stores the heights of floats without a fault.
 fn store(v: u32, floats: &[u8], out: &mut [i32])
-    requires { ⌜ (length (now floats) ≡ 4 * length (now out)) × (length (now out) ≤ 1048576) × (firstFault v (now floats) (length (now out)) ≡ length (now out)) ⌝ }
+    requires { ⌜ (length (now floats) ≡ 4 * length (now out)) × (length (now out) ≤ 1048576)
+        × (firstFault v (now floats) (length (now out)) ≡ length (now out)) ⌝ }
     ensures { λ _. ⌜ now (out .exit) ≡ tab (length (now (out .entry))) (λ x. heightOf v (bitsAt (now (floats .entry)) x)) ⌝ }
 {
     let mut x: usize = 0;

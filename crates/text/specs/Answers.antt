@@ -1,4 +1,4 @@
--- RULES 2.5 and 3: the answers of the two calls, as the promises state them. Assumes nothing.
+-- RULES 2.5, 3 and 11.3: the answers of the calls that read a text, as the promises state them. Assumes nothing.
 use Prim.Native.Nat.{ℕ}
 use mathlib.Core.List.{List}
 use lib.IntN.{ℤ, pos}
@@ -37,10 +37,6 @@ headerOutcome (refused n p) = refusal n p
 abbrev pub headerAnswer : List ℕ → Outcome
 headerAnswer s = headerOutcome (H.header s 0)
 
--- Of a header that stands alone in its text, the same four numbers; no word may follow it.
-abbrev pub loneHeaderAnswer : List ℕ → Outcome
-loneHeaderAnswer s = headerOutcome (G.loneHeader s 0)
-
 -- It also tells each corner word's first byte and length, zeros at a refusal.
 abbrev pub noSpan : Span
 noSpan = record { first = 0; length = 0 }
@@ -51,6 +47,10 @@ cornersOutcome (refused n p) = record { x = noSpan; y = noSpan }
 
 abbrev pub cornersAnswer : List ℕ → Corners
 cornersAnswer s = cornersOutcome (H.head s 0)
+
+-- A third reads a header that stands alone in its text, answers the same four numbers, and refuses a word after it (RULES 11.3).
+abbrev pub loneHeaderAnswer : List ℕ → Outcome
+loneHeaderAnswer s = headerOutcome (G.loneHeader s 0)
 
 -- the answer with the lent heights afterwards
 pub record GridOutcome : Type 0 where

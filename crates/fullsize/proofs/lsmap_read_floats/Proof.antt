@@ -1,4 +1,4 @@
--- `fullsize::lsmap_read_floats` meets its contract: what it hands out is the answer of the reader of floats, and the heights are those that it left. Assumes nothing.
+-- `fullsize::lsmap_read_floats` meets its contract: it hands out the answer of the reader of floats, and the heights are those that it left. Assumes nothing.
 use mathlib.Core.Path.{_∙_, ap}
 use borrow.Author.Needs.{needs}
 use Rattle.fullsize.specs.Outcomes.{gridReading}

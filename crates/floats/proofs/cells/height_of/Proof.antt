@@ -43,7 +43,8 @@ returns-3 : tie.Need-returns-3
 returns-3 c =
     let m = c .before in
     let s = m .before .before .before in
-    minus-is _ (few m) ∙ ap (λ (k : ℕ). negℤ (pos k)) (m .centimetres .ensures) ∙ sym (minus-cm _ (c .if2 .left)) ∙ height-other _ _ (s .pre) (other (m .before))
+    minus-is _ (few m) ∙ ap (λ (k : ℕ). negℤ (pos k)) (m .centimetres .ensures) ∙ sym (minus-cm _ (c .if2 .left))
+    ∙ height-other _ _ (s .pre) (other (m .before))
 
 pub height-of-spec : {M : Type 1} → statement M
 height-of-spec = tie.close (tie.spec is-equal-requires returns centimetres-requires cast-cm returns-2 sub-result returns-3)

@@ -44,8 +44,11 @@ height-of-requires : tie.Need-height-of-requires Inv-loop μ-loop
 height-of-requires c κs =
     let a = start (at c) in
     let x = at c .loop .x in
-    let few : x < firstFault (a .args .v) (now (a .args .floats)) (length (now (a .args .out))) = omega (arith, a .pre .2, at c .loop .inv .0, c .before .loop-test .taken) in
-    ap (faultOf (a .args .v)) (c .bits-at .ensures) ∙ clear-before (a .args .v) (now (a .args .floats)) (length (now (a .args .out))) x few
+    let v = a .args .v in
+    let s = now (a .args .floats) in
+    let n = length (now (a .args .out)) in
+    let few : x < firstFault v s n = omega (arith, a .pre .2, at c .loop .inv .0, c .before .loop-test .taken) in
+    ap (faultOf v) (c .bits-at .ensures) ∙ clear-before v s n x few
 
 mul-t5 : tie.Need-mul-t5 Inv-loop μ-loop
 mul-t5 c = omega arith

@@ -74,7 +74,8 @@ returns-2 : tie.Need-returns-2 Inv-loop μ-loop Inv-loop2 μ-loop2
 returns-2 c =
     let l = c .before .before .loop2 in
     let p = c .before .before .before .before .before .if1 .left in (
-      ap (λ (k : ℕ). l .e * 8388608 + k) (c .quotient .ensures .0) ∙ magnitude-is _ _ _ _ _ (l .inv) (omega (arith, p)) (omega (arith, c .before .loop2-test .left)),
+      ap (λ (k : ℕ). l .e * 8388608 + k) (c .quotient .ensures .0)
+          ∙ magnitude-is _ _ _ _ _ (l .inv) (omega (arith, p)) (omega (arith, c .before .loop2-test .left)),
       omega (arith, c .quotient .ensures .1, doubled-few _ _ _ _ _ (l .inv)),
     )
 
