@@ -48,7 +48,7 @@ cornersOutcome (refused n p) = record { x = noSpan; y = noSpan }
 abbrev pub cornersAnswer : List ℕ → Corners
 cornersAnswer s = cornersOutcome (H.head s 0)
 
--- A third reads a header that stands alone in its text, answers the same four numbers, and refuses a word after it (RULES 11.3).
+-- Another reads a header that stands alone in its text: the same four numbers, and no word may follow it.
 abbrev pub loneHeaderAnswer : List ℕ → Outcome
 loneHeaderAnswer s = headerOutcome (G.loneHeader s 0)
 
@@ -57,7 +57,7 @@ pub record GridOutcome : Type 0 where
   pub answer : Outcome
   pub heights : List ℤ
 
--- The other reads the whole text into lent heights and answers the same four numbers. A refusal changes no lent grid.
+-- The third reads the whole text into lent heights and answers the same four numbers. A refusal changes no lent grid.
 abbrev pub gridOutcome : List ℤ → Step G.Grid → GridOutcome
 gridOutcome lent (got g i) = record { answer = accepted (g .header); heights = g .heights }
 gridOutcome lent (refused n p) = record { answer = refusal n p; heights = lent }

@@ -36,7 +36,7 @@ pub struct Header {
     pub no_data: i64,
 }
 
-// What both calls answer.
+// What a call that reads a text answers.
 pub enum Answer {
     Accepted(Header),
     Refused(Refusal),
