@@ -2,11 +2,9 @@
 use mathlib.Core.Path.{_≡_, refl}
 use mathlib.Core.Bool.{Bool, true, false}
 use mathlib.Core.List.{List, [], _∷_, _++_, map}
-use Prim.Native.Nat.{ℕ, suc, _+_, _*_}
+use Prim.Native.Nat.{ℕ, suc, _+_}
 use Prim.Native.String.{String}
-use lib.Dec.{eqb}
-use lib.Ieee.{Float, binary32, ofBits, toBits, round, eq}
-use lib.Ieee.Positive.{num, den}
+use lib.Ieee.{binary32, ofBits, toBits, round, eq}
 use lib.IntN.{ℤ, pos, negsuc, negℤ}
 use lib.ListN.{replicate}
 use Rattle.text.specs.Bytes.{bytes}
@@ -15,7 +13,7 @@ use Rattle.text.specs.Numbers.{value, countFormAt, decimals, numberAt, firstCom
 use Rattle.text.specs.Headers.{named, name, corner, side, field, anyMeasure, noData, extent, corners, sideAndNoData, head, header}
 use Rattle.text.specs.Heights.{end, loneHeader}
 use Rattle.text.specs.Answers.{GridOutcome}
-use Rattle.floats.specs.Floats.{magnitude, units, metre, equal, bitsAt}
+use Rattle.floats.specs.Floats.{equal, bitsAt}
 use Rattle.floats.specs.Rounding.{cm, nearestFloat}
 use Rattle.floats.specs.Answers.{heightOf, faultOf, grid, floatsAnswer}
 
@@ -210,20 +208,8 @@ pub bytes-hold : (bitsAt two 0 ≡ 67305985) × (bitsAt two 1 ≡ 1095237632)
 unfolding bitsAt
 bytes-hold = (refl, refl)
 
--- ---- the toolchain's own definition of a float says the same of these
+-- ---- the toolchain's own IEEE 754 has the same nearest floats, and the same floats are equal
 
-abbrev pub floatOf : ℕ → Float
-floatOf b = ofBits binary32 b
-
--- of the exact size: num / den m are so many units
-abbrev pub sameSize : ℕ → Bool
-sameSize b = eqb (num (floatOf b) * metre) (units (magnitude b) * den (floatOf b))
-
-pub sizes-agree : map (λ (x : ℕ × ℤ). sameSize (x .0)) rounded ≡ replicate 44 true
-unfolding rounded ofBits units
-sizes-agree = refl
-
--- of the nearest float
 abbrev pub roundedFrom : ℤ → ℕ
 roundedFrom (pos n) = toBits binary32 (round binary32 false n 100)
 roundedFrom (negsuc n) = toBits binary32 (round binary32 true (suc n) 100)
@@ -232,8 +218,10 @@ pub nearest-agree : map (λ (x : ℤ × ℕ). roundedFrom (x .0)) nearestFloats 
 unfolding nearestFloats round toBits
 nearest-agree = refl
 
--- of equality
-pub equal-agree : map (λ (x : Sound). eq (floatOf (x .bits)) (floatOf (nearestFloat (x .noData)))) sound
+abbrev pub sameFloat : ℕ → ℕ → Bool
+sameFloat a b = eq (ofBits binary32 a) (ofBits binary32 b)
+
+pub equal-agree : map (λ (x : Sound). sameFloat (x .bits) (nearestFloat (x .noData))) sound
     ≡ map (λ (x : Sound). equal (x .bits) (nearestFloat (x .noData))) sound
 unfolding sound nearestFloat ofBits eq equal
 equal-agree = refl

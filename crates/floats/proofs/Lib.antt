@@ -1,3 +1,5 @@
+-- Computed examples
+pub mod Examples
 -- Laws of the definitions
 pub mod Nearest
 pub mod Units
