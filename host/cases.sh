@@ -25,7 +25,15 @@ sheets() {
     while read -r name sum; do
         "$lsmap" "$data/$name.asc" $printers >out
         [ "$(cksum <out | cut -d' ' -f1)" = "$sum" ] || fail "the sheet of $name"
+        as_floats "$data/$name.asc" 6
+        "$lsmap" --floats as.flt as.hdr $printers | cmp - out || fail "the sheet of $name as floats"
     done <"$root/host/sums.txt"
+}
+
+# as_floats FIELD LINES: the heights of a text as floats, and its header, which has so many lines: as.flt and as.hdr.
+as_floats() {
+    "$root/second/second" as-floats <"$1" >as.flt
+    head -n "$2" "$1" >as.hdr
 }
 
 # Files that are no field.
@@ -178,12 +186,71 @@ quiet() {
     stops 1 'refused 12 at 54' 'comma.asc: refused 12' comma.asc --quiet
 }
 
+# Floats in octal bytes, the lowest first: 5, 2 and 4 m; 9000.01 m; a NaN and minus infinity.
+five='\000\000\240\100' two='\000\000\000\100' four='\000\000\200\100'
+high='\012\240\014\106' not='\001\000\300\177' infinite='\000\000\200\377'
+
+# The pit as floats, with its header beside it: the sheet, the grids and the texts are those of the pit as a text.
+floats() {
+    printf "$five$five$five$five$two$four$five$five$five" >pit.flt
+    printf '%s\n' "$head" >pit.hdr
+    "$lsmap" --floats pit.flt pit.hdr $printers --grids as_floats >out
+    cmp out "$root/host/pit.txt" || fail "the pit's sheet from floats"
+    "$lsmap" pit.asc $printers --grids as_text --quiet
+    diff -r as_text as_floats || fail "the pit's grids from floats"
+    "$lsmap" $printers --floats - pit.hdr <pit.flt | cmp - "$root/host/pit.txt" || fail "floats from standard input"
+    "$lsmap" $printers - --floats pit.flt <pit.hdr | cmp - "$root/host/pit.txt" || fail "a header from standard input"
+    printf 'NCOLS 3 nrows 3\n%s cellsize 10\n' "$corners" >corners.hdr
+    "$lsmap" --floats pit.flt corners.hdr $printers --text from_floats --quiet >out
+    [ ! -s out ] && diff -r deep/texts from_floats || fail "the pit's texts from floats"
+    printf 'ncols 3 nrows 1 %s cellsize 10 nodata_value 5' "$corners" >nodata.hdr
+    printf "$five\000\000\000\076\000\000\000\200" | "$lsmap" --floats - nodata.hdr --text again_floats --quiet
+    holds again_floats/ground.asc 3 1 10.00 '-9999 0.12 0.00'
+}
+
+# spoiled FLOAT: the pit with another float in the last cell of its second row.
+spoiled() {
+    printf "$five$five$five$five$two$1$five$five$not" >spoiled.flt
+}
+
+# Floats that are refused, in the order of the tests, and words that are no good beside them.
+no_floats() {
+    printf 'ncols 3 nrows 3 xllcorner 0 yllcorner 0 cellsize 0' >side.hdr
+    stops 1 'refused 3 at 49' 'side.hdr: refused 3 at 49 (line 1, column 50, at `0`): the cell side is' --floats pit.flt side.hdr
+    printf '%s\nnodata_value -9999,5' "$head" >comma.hdr
+    stops 1 'refused 12 at 70' 'comma.hdr: refused 12 at 70 (line 2, column 19, at `-9999,5`): a comma stands' --floats pit.flt comma.hdr
+    printf 'ncols 3\nnrows' >cut.hdr
+    stops 1 'refused 9 at 13' 'cut.hdr: refused 9 at 13 (line 2, column 6, at the end of the text)' --floats pit.flt cut.hdr
+    stops 1 'refused 10 at 52' 'pit.asc: refused 10 at 52 (line 2, column 1, at `5`): nothing may follow the header' --floats pit.flt pit.asc
+    printf '%s\nnodata_value -9999\nbyteorder LSBFIRST\n' "$head" >order.hdr
+    stops 1 'refused 10 at 71' 'order.hdr: refused 10 at 71 (line 3, column 1, at `byteorder`)' --floats pit.flt order.hdr
+    stops 1 'refused 10 at 71' 'leave the line out: floats are little-endian here' --floats missing.hdr order.hdr --floats pit.flt
+    head -c 35 pit.flt >short.flt
+    stops 1 'refused 14 at 0' 'short.flt: refused 14 at 0: 35 bytes; 3 rows of 3 heights want 36, four each' --floats short.flt pit.hdr
+    stops 1 'refused 14 at 0' 'pit.asc: refused 14 at 0: 70 bytes' --floats pit.asc pit.hdr
+    spoiled "$not"
+    stops 1 'refused 15 at 5' 'spoiled.flt: refused 15 at 5: row 1, column 2: NaN, by its bits 7fc00001, is no height' --floats spoiled.flt pit.hdr
+    spoiled "$infinite"
+    stops 1 'refused 15 at 5' 'standard input: refused 15 at 5: row 1, column 2: -inf is no height' --floats - pit.hdr <spoiled.flt
+    spoiled "$high"
+    stops 1 'refused 5 at 5' 'refused 5 at 5: row 1, column 2: 9000.01 is out of range: a height is from -500 to 9000 m' --floats spoiled.flt pit.hdr
+    stops 1 'refused 5 at 5' 'the float nearest to the NoData number, -9999.00' --floats spoiled.flt pit.hdr
+    stops 2 '' 'cannot read missing.flt: No such file or directory' --floats missing.flt pit.hdr
+    stops 2 '' 'cannot read missing.hdr: No such file or directory' --floats pit.flt missing.hdr
+    stops 2 '' '--floats: no FIELD.hdr is named beside it' --floats pit.flt
+    stops 2 '' '--floats: standard input is the header or the heights, and not both' --floats - - <pit.flt
+    stops 2 '' '--output: ./pit.flt is the field itself' --floats pit.flt pit.hdr --output ./pit.flt
+    stops 2 '' '--output: ./pit.hdr is the field itself' --floats pit.flt pit.hdr --output ./pit.hdr
+}
+
 # A rough field of full size, on 64 KiB of stack; the library asks the system for no memory.
 full_size() {
     awk 'BEGIN { srand(1); print "ncols 1024 nrows 1024 xllcorner 0 yllcorner 0 cellsize 5"
         for (r = 0; r < 1024; r++) { line = ""; for (c = 0; c < 1024; c++) line = line sprintf("%.2f ", 300 + r / 50 + 9 * sin(c / 60) + rand()); print line } }' >full.asc
-    "$root/target/stack" full.asc | grep -q '^accepted' || fail "the calls want more than 64 KiB of stack"
+    as_floats full.asc 1
+    "$root/target/stack" full.asc as.flt as.hdr | grep -q '^accepted' || fail "the calls want more than 64 KiB of stack"
     "$lsmap" full.asc --grids grids >out
+    "$lsmap" --floats as.flt as.hdr | cmp - out || fail "the sheet of full size from floats"
     [ "$(wc -l <out)" -eq 1048577 ] || fail "the sheet of full size"
     [ "$(wc -c <grids/length.bin)" -eq 8388608 ] || fail "the grids of full size"
     wanted=$(nm -u "$root/target/staticlib/libfullsize.a" | grep ' U ' | grep -v ' mem[a-z]*$' || true)

@@ -4,8 +4,8 @@
 pub const CUTOFF: f64 = 0.5;
 
 /// The grids, the workspace and the room for a text, lent to each side in turn and not cleared in between; the corner
-/// words of the text; and what a side answers: the number of valid cells and the longest trail, and the bytes of the
-/// text that it wrote.
+/// words of the text; the same field as floats, with its header; and what a side answers: the number of valid cells and
+/// the longest trail, and the bytes of the text that it wrote.
 #[derive(Clone, PartialEq)]
 pub struct Lent {
     pub rows: usize,
@@ -19,9 +19,24 @@ pub struct Lent {
     pub factors: Vec<u32>,
     pub workspace: Vec<u32>,
     pub corners: [Vec<u8>; 2],
+    pub header: Vec<u8>,
+    pub floats: Vec<u8>,
     pub room: Vec<u8>,
     pub answer: (u32, u32),
     pub written: usize,
+}
+
+/// A header that stands alone, as of a text with the usual NoData number.
+fn lone_header(header: &plain::Header, text: &[u8]) -> Vec<u8> {
+    let plain::Header { rows, columns, side, corners, .. } = header;
+    let [x, y] = corners.map(|span| String::from_utf8_lossy(span.of(text)).into_owned());
+    let shape = format!("ncols {columns}\nnrows {rows}\nxllcorner {x}\nyllcorner {y}\n");
+    format!("{shape}cellsize {}.{:02}\nnodata_value -9999\n", side / 100, side % 100).into_bytes()
+}
+
+/// Heights in cm as the bytes of floats in metres; NoData becomes -9999.
+fn floats(heights: &[i32]) -> Vec<u8> {
+    heights.iter().flat_map(|&cm| ((f64::from(cm) / 100.0) as f32).to_le_bytes()).collect()
 }
 
 impl Lent {
@@ -32,6 +47,7 @@ impl Lent {
         let cells = header.rows * header.columns;
         let mut ground = vec![1; cells];
         plain::read_grid(text, &mut ground).map_err(refused)?;
+        let floats = floats(&ground);
         ground.fill(1);
         Ok(Lent {
             rows: header.rows,
@@ -45,6 +61,8 @@ impl Lent {
             factors: vec![1; cells],
             workspace: vec![1; cells],
             corners: header.corners.map(|span| span.of(text).to_vec()),
+            header: lone_header(&header, text),
+            floats,
             room: vec![1; plain::room(header.rows, header.columns)],
             answer: (0, 0),
             written: 0,
@@ -52,11 +70,13 @@ impl Lent {
     }
 }
 
-/// A side: reading a text into heights, header first; mapping them; and writing them into the room.
+/// A side: reading a text into heights, header first; reading a header and floats into heights; mapping them; and
+/// writing them into the room.
 #[derive(Clone, Copy)]
 pub struct Side {
     pub name: &'static str,
     pub read: fn(&[u8], &mut [i32]),
+    pub read_floats: fn(&[u8], &[u8], &mut [i32]),
     pub map: fn(&mut Lent),
     pub write: fn(&mut Lent),
 }

@@ -1,6 +1,6 @@
 //! Measurements as lines, so that those of several layouts can be put together: layout, terrain, size, the milliseconds
-//! of both sides for the map, for reading the text and for writing one, those of another commit's library for the map
-//! or `-`, the bytes that are read and those that are written, the peak.
+//! of both sides for the map, for reading the text, for writing one and for reading floats, those of another commit's
+//! library for the map or `-`, the bytes that are read, those that are written and those of the floats, the peak.
 
 use crate::files::field;
 use crate::layout::BYTES;
@@ -34,10 +34,11 @@ pub fn print(rounds: usize, folder: &Path) -> Result<(), String> {
     for terrain in TERRAINS {
         for (size, rounds) in [(SMALL, MORE_ROUNDS * rounds), (LARGE, rounds)] {
             let (text, lent) = field(&folder.join(format!("{terrain}-{size}.asc")))?;
-            let Found { map, text, write, before, bytes, written, peak } = measure(rounds, &text, lent);
-            let times = [map, text, write].map(|pair| format!("{} {}", word(pair.measured), word(pair.plain)));
-            let before = before.map_or(NONE.into(), word);
-            println!("{BYTES} {terrain} {size} {} {before} {bytes} {written} {peak}", times.join(" "));
+            let found = measure(rounds, &text, lent);
+            let Found { map, text, write, floats, before, bytes, written, float_bytes, peak } = found;
+            let times = [map, text, write, floats].map(|pair| format!("{} {}", word(pair.measured), word(pair.plain)));
+            let (times, before) = (times.join(" "), before.map_or(NONE.into(), word));
+            println!("{BYTES} {terrain} {size} {times} {before} {bytes} {written} {float_bytes} {peak}");
         }
     }
     Ok(())
@@ -46,16 +47,22 @@ pub fn print(rounds: usize, folder: &Path) -> Result<(), String> {
 /// The measurement of a line.
 pub fn parse(line: &str) -> Option<Line> {
     let words: Vec<&str> = line.split_whitespace().collect();
-    let &[layout, terrain, size, ref times @ .., before, bytes, written, peak] = &words[..] else { return None };
+    let &[layout, terrain, size, ref times @ .., before, bytes, written, float_bytes, peak] = &words[..] else {
+        return None;
+    };
     let times: Option<Vec<f64>> = times.iter().map(|word| word.parse().ok()).collect();
-    let &[map, plain_map, text, plain_text, write, plain_write] = &times?[..] else { return None };
+    let times = times?;
+    let pairs: Vec<Pair> = times.chunks_exact(2).map(|pair| Pair { measured: pair[0], plain: pair[1] }).collect();
+    let (&[map, text, write, floats], true) = (&pairs[..], times.len() == 8) else { return None };
     let found = Found {
-        map: Pair { measured: map, plain: plain_map },
-        text: Pair { measured: text, plain: plain_text },
-        write: Pair { measured: write, plain: plain_write },
+        map,
+        text,
+        write,
+        floats,
         before: if before == NONE { None } else { Some(before.parse().ok()?) },
         bytes: bytes.parse().ok()?,
         written: written.parse().ok()?,
+        float_bytes: float_bytes.parse().ok()?,
         peak: peak.parse().ok()?,
     };
     Some(Line { layout: layout.into(), terrain: terrain.into(), size: size.parse().ok()?, found })

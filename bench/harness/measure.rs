@@ -23,17 +23,19 @@ impl Pair {
     }
 }
 
-/// What is found of one text: the times of mapping, reading and writing, the map call's by the library of another
-/// commit, the bytes of the text that is read and of the one that is written, and the KiB by which the first map call
-/// raised the peak.
+/// What is found of one text: the times of mapping, reading and writing, and of reading the same heights as floats; the
+/// map call's by the library of another commit; the bytes of the text that is read, of the one that is written and of the
+/// floats; and the KiB by which the first map call raised the peak.
 #[derive(Clone, Copy)]
 pub struct Found {
     pub map: Pair,
     pub text: Pair,
     pub write: Pair,
+    pub floats: Pair,
     pub before: Option<f64>,
     pub bytes: usize,
     pub written: usize,
+    pub float_bytes: usize,
     pub peak: i64,
 }
 
@@ -49,9 +51,11 @@ impl Found {
             map: self.map.or(&other.map),
             text: self.text.or(&other.text),
             write: self.write.or(&other.write),
+            floats: self.floats.or(&other.floats),
             before: self.before.zip(other.before).map(|(one, other)| one.min(other)),
             bytes: self.bytes,
             written: self.written,
+            float_bytes: self.float_bytes,
             peak: self.peak.max(other.peak),
         }
     }
@@ -68,6 +72,15 @@ fn in_turn(rounds: usize, sides: &[Side], mut call: impl FnMut(Side)) -> Vec<f64
     best
 }
 
+/// Every side reads the same heights in the floats as in the text.
+fn compare_floats(lent: &Lent) {
+    for side in all() {
+        let mut heights = vec![1; lent.ground.len()];
+        (side.read_floats)(&lent.header, &lent.floats, &mut heights);
+        assert!(heights == lent.ground, "{} must read the same heights in the floats as in the text", side.name);
+    }
+}
+
 /// Measures one text, in lent grids that were made for it; all sides must give the same grids and write the same bytes.
 pub fn measure(rounds: usize, text: &[u8], mut lent: Lent) -> Found {
     let others: Vec<(&Side, Lent)> = OTHERS.iter().map(|side| (side, lent.clone())).collect();
@@ -80,16 +93,21 @@ pub fn measure(rounds: usize, text: &[u8], mut lent: Lent) -> Found {
         (side.write)(&mut other);
         assert!(lent == other, "{} and {} must give the same grids and bytes", MEASURED.name, side.name);
     }
+    compare_floats(&lent);
     let reading = in_turn(rounds, &[MEASURED, PLAIN], |side| (side.read)(text, &mut lent.ground));
+    let floats = |side: Side| (side.read_floats)(&lent.header, &lent.floats, &mut lent.ground);
+    let reading_floats = in_turn(rounds, &[MEASURED, PLAIN], floats);
     let writing = in_turn(rounds, &[MEASURED, PLAIN], |side| (side.write)(&mut lent));
     let mapping = in_turn(rounds, &all(), |side| (side.map)(&mut lent));
     Found {
         map: Pair { measured: mapping[0], plain: mapping[1] },
         text: Pair { measured: reading[0], plain: reading[1] },
         write: Pair { measured: writing[0], plain: writing[1] },
+        floats: Pair { measured: reading_floats[0], plain: reading_floats[1] },
         before: mapping.get(2).copied(),
         bytes: text.len(),
         written: lent.written,
+        float_bytes: lent.floats.len(),
         peak,
     }
 }

@@ -27,6 +27,10 @@ macro_rules! side {
             assert_eq!((header.rows, header.columns), (whole.rows, whole.columns));
         }
 
+        fn read_floats(header: &[u8], floats: &[u8], heights: &mut [i32]) {
+            $library::read_floats(header, floats, heights).ok().expect("a terrain's floats are accepted");
+        }
+
         fn header(lent: &Lent) -> Header {
             Header { rows: lent.rows, columns: lent.columns, side: lent.side, no_data: 0 }
         }
@@ -59,7 +63,7 @@ macro_rules! side {
             lent.written = written.ok().expect("a terrain's heights are accepted");
         }
 
-        Side { name: $name, read, map, write }
+        Side { name: $name, read, read_floats, map, write }
     }};
 }
 

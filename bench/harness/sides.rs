@@ -8,6 +8,10 @@ fn plain_read(text: &[u8], heights: &mut [i32]) {
     assert_eq!(plain::read_grid(text, heights), Ok(header));
 }
 
+fn plain_read_floats(header: &[u8], floats: &[u8], heights: &mut [i32]) {
+    plain::read_floats(header, floats, heights).expect("a terrain's floats are accepted");
+}
+
 fn plain_map(lent: &mut Lent) {
     let settings = Settings { low: CUTOFF, high: CUTOFF, channel: Channel::None };
     let grids = Grids {
@@ -28,7 +32,8 @@ fn plain_write(lent: &mut Lent) {
     lent.written = plain::write_heights(frame, &lent.ground, &mut lent.room).expect("a terrain's heights are accepted");
 }
 
-pub const PLAIN: Side = Side { name: "plain", read: plain_read, map: plain_map, write: plain_write };
+pub const PLAIN: Side =
+    Side { name: "plain", read: plain_read, read_floats: plain_read_floats, map: plain_map, write: plain_write };
 
 /// The side that is measured: the proved library, or the plain program itself where that is not built.
 #[cfg(rattle)]

@@ -1,7 +1,7 @@
 //! The table of lines of measurements: a row for each terrain, and beside it the plain lines that a script can read.
 
 use crate::lines::{Line, LARGE, SMALL, TERRAINS};
-use crate::measure::Found;
+use crate::measure::{Found, Pair};
 use crate::sides::MEASURED;
 
 /// The exponent in the number of cells by which time grows from the small size to the large.
@@ -19,6 +19,11 @@ fn write_speed(found: &Found) -> f64 {
     found.written as f64 / 1e3 / found.write.measured
 }
 
+/// The same of the floats that are read.
+fn floats_speed(found: &Found) -> f64 {
+    found.float_bytes as f64 / 1e3 / found.floats.measured
+}
+
 /// The best of each side over the layouts, and the greatest peak.
 fn best(lines: &[Line], terrain: &str, size: usize) -> Option<Found> {
     let of = |line: &&Line| line.terrain == terrain && line.size == size;
@@ -26,23 +31,11 @@ fn best(lines: &[Line], terrain: &str, size: usize) -> Option<Found> {
 }
 
 fn print_row(terrain: &str, small: &Found, large: &Found) {
-    print!(
-        "{terrain:8} {:8.2} {:8.2} {:6.3} {:8.2} {:8.2} {:6.3} {:6.0} {:8.2} {:8.2} {:6.3} {:6.0} {:7.3} {:7.3} {:6}",
-        large.map.measured,
-        large.map.plain,
-        large.map.ratio(),
-        large.text.measured,
-        large.text.plain,
-        large.text.ratio(),
-        text_speed(large),
-        large.write.measured,
-        large.write.plain,
-        large.write.ratio(),
-        write_speed(large),
-        growth(small.map.measured, large.map.measured),
-        growth(small.map.plain, large.map.plain),
-        large.peak,
-    );
+    let pair = |pair: Pair| format!("{:8.2} {:8.2} {:6.3}", pair.measured, pair.plain, pair.ratio());
+    print!("{terrain:8} {} {} {:6.0}", pair(large.map), pair(large.text), text_speed(large));
+    print!(" {} {:6.0} {} {:6.0}", pair(large.write), write_speed(large), pair(large.floats), floats_speed(large));
+    let growths = [growth(small.map.measured, large.map.measured), growth(small.map.plain, large.map.plain)];
+    print!(" {:7.3} {:7.3} {:6}", growths[0], growths[1], large.peak);
     if let (Some(before), Some(ratio)) = (large.before, large.ratio_before()) {
         print!(" {before:8.2} {ratio:6.3}");
     }
@@ -54,16 +47,20 @@ fn print_lines(lines: &[Line], terrain: &str, small: &Found, large: &Found) {
     println!("ratio whole {terrain} {:.3}", large.map.ratio());
     println!("ratio text {terrain} {:.3}", large.text.ratio());
     println!("ratio write {terrain} {:.3}", large.write.ratio());
+    println!("ratio floats {terrain} {:.3}", large.floats.ratio());
     if let Some(ratio) = large.ratio_before() {
         println!("ratio before {terrain} {ratio:.3}");
     }
     println!("growth {terrain} {:.3}", growth(small.map.measured, large.map.measured));
     println!("speed text {terrain} {:.0}", text_speed(large));
     println!("speed write {terrain} {:.0}", write_speed(large));
+    println!("speed floats {terrain} {:.0}", floats_speed(large));
     println!("speed write-by-text {terrain} {:.3}", write_speed(large) / text_speed(large));
     for line in lines.iter().filter(|line| line.terrain == terrain && line.size == LARGE) {
-        let [map, text, write] = [line.found.map, line.found.text, line.found.write].map(|pair| pair.ratio());
-        println!("layout {} {terrain} whole {map:.3} text {text:.3} write {write:.3}", line.layout);
+        let Found { map, text, write, floats, .. } = line.found;
+        let [map, text, write, floats] = [map, text, write, floats].map(|pair| pair.ratio());
+        let ratios = format!("whole {map:.3} text {text:.3} write {write:.3} floats {floats:.3}");
+        println!("layout {} {terrain} {ratios}", line.layout);
     }
 }
 
@@ -72,9 +69,11 @@ fn print_head(before: bool) {
     let (upper, lower) = if before { ("   before", "       ms  ratio") } else { ("", "") };
     println!("{} beside plain, {LARGE} x {LARGE} cells, best over rounds and layouts, processor time", MEASURED.name);
     print!("             map    plain            text    plain           ");
-    println!("        write    plain                    map   plain   peak{upper}");
+    print!("        write    plain                 floats    plain        ");
+    println!("            map   plain   peak{upper}");
     print!("terrain       ms       ms  ratio       ms       ms  ratio   MB/s");
-    println!("       ms       ms  ratio   MB/s  growth  growth    KiB{lower}");
+    print!("       ms       ms  ratio   MB/s       ms       ms  ratio   MB/s");
+    println!("  growth  growth    KiB{lower}");
 }
 
 /// Prints the table and the plain lines.

@@ -1,7 +1,7 @@
 //! A plain, unverified program of the rules of docs/RULES.md, with the algorithms of crates/text, crates/terrain,
 //! crates/factor and crates/writer: what their speed is measured against. It makes no comparison that those make only
-//! for want of a proof of the order in which a stage works. Every grid is the caller's. The stages are not inlined, so
-//! that a profiler sees each.
+//! for want of a proof of the order in which a stage works. Grids of floats are read by the processor's own floats, as
+//! crates/floats does not. Every grid is the caller's. The stages are not inlined, so that a profiler sees each.
 
 mod cells;
 mod direction;
@@ -9,6 +9,7 @@ mod downhill;
 mod factor;
 mod fill;
 mod flat;
+mod floats;
 mod length;
 mod map;
 mod queue;
@@ -19,6 +20,7 @@ mod thresholds;
 mod trail;
 mod write;
 
+pub use floats::read_floats;
 pub use map::{map, Grids};
 pub use settings::{Channel, Settings};
 pub use text::{read_grid, read_header, Header, Span};

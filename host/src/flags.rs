@@ -5,13 +5,18 @@ use std::ffi::OsString;
 use std::iter::Peekable;
 use std::path::PathBuf;
 
-/// Where the field's text comes from.
+/// Where a field's text, or the heights beside its header, come from.
 pub enum Field {
     StandardInput,
     File(PathBuf),
 }
 
 impl Field {
+    /// The field that a word names.
+    fn of(word: OsString) -> Field {
+        if word == "-" { Field::StandardInput } else { Field::File(word.into()) }
+    }
+
     /// The field's name in a message.
     pub fn name(&self) -> String {
         match self {
@@ -21,9 +26,11 @@ impl Field {
     }
 }
 
-/// What the flags ask for. Without an output the sheet goes to standard output, unless it is to be quiet.
+/// What the flags ask for. With floats the field's text is a header alone. Without an output the sheet goes to standard
+/// output, unless it is to be quiet.
 pub struct Flags {
     pub settings: Settings,
+    pub floats: Option<Field>,
     pub output: Option<PathBuf>,
     pub grids: Option<PathBuf>,
     pub text: Option<PathBuf>,
@@ -85,6 +92,7 @@ impl Flags {
             "--low" => self.settings.low = number(flag, &text(flag, words)?)?,
             "--high" => self.settings.high = number(flag, &text(flag, words)?)?,
             "--channel" => set_channel(&mut self.settings, &text(flag, words)?)?,
+            "--floats" => self.floats = Some(Field::of(value(flag, words)?)),
             "--output" => self.output = Some(value(flag, words)?).filter(|v| v != "-").map(PathBuf::from),
             "--grids" => self.grids = Some(value(flag, words)?.into()),
             "--text" => self.text = Some(value(flag, words)?.into()),
@@ -96,13 +104,16 @@ impl Flags {
     }
 }
 
-/// The one field that the words name.
-fn only(fields: Vec<OsString>) -> Result<Field, String> {
-    match <[OsString; 1]>::try_from(fields) {
-        Ok([field]) if field == "-" => Ok(Field::StandardInput),
-        Ok([field]) => Ok(Field::File(field.into())),
-        Err(fields) if fields.is_empty() => Err("no FIELD.asc is named".to_string()),
-        Err(fields) => Err(format!("{:?}: one field at a time", fields[1])),
+/// The one field that the words name: a text, or a header where there are floats.
+fn only(fields: Vec<OsString>, floats: Option<&Field>) -> Result<Field, String> {
+    match (<[OsString; 1]>::try_from(fields), floats) {
+        (Ok([field]), Some(Field::StandardInput)) if field == "-" => {
+            Err("--floats: standard input is the header or the heights, and not both".to_string())
+        }
+        (Ok([field]), _) => Ok(Field::of(field)),
+        (Err(fields), None) if fields.is_empty() => Err("no FIELD.asc is named".to_string()),
+        (Err(fields), _) if fields.is_empty() => Err("--floats: no FIELD.hdr is named beside it".to_string()),
+        (Err(fields), _) => Err(format!("{:?}: one field at a time", fields[1])),
     }
 }
 
@@ -110,7 +121,8 @@ fn only(fields: Vec<OsString>) -> Result<Field, String> {
 /// only without them the fields, for a word behind a wrong flag may have been meant as its value.
 pub fn read(words: impl Iterator<Item = OsString>, settings: Settings) -> Result<Asked, String> {
     let mut words = words.peekable();
-    let mut flags = Flags { settings, output: None, grids: None, text: None, quiet: false, verbose: false };
+    let (floats, output, grids, text, quiet, verbose) = (None, None, None, None, false, false);
+    let mut flags = Flags { settings, floats, output, grids, text, quiet, verbose };
     let (mut fields, mut wrong) = (Vec::new(), Vec::new());
     while let Some(word) = words.next() {
         match &*word.to_string_lossy() {
@@ -124,7 +136,7 @@ pub fn read(words: impl Iterator<Item = OsString>, settings: Settings) -> Result
     if !wrong.is_empty() {
         return Err(wrong.join("; "));
     }
-    Ok(Asked::Map(only(fields)?, flags))
+    Ok(Asked::Map(only(fields, flags.floats.as_ref())?, flags))
 }
 
 #[cfg(test)]
@@ -158,7 +170,7 @@ mod tests {
         assert_eq!((flags.settings.low, flags.settings.high), (0.7, 0.5));
         assert_eq!(channel_text(&flags.settings), "percent:1");
         assert_eq!((flags.output, flags.grids, flags.text), (None, None, None));
-        assert_eq!((flags.quiet, flags.verbose), (false, false));
+        assert_eq!((flags.floats.is_some(), flags.quiet, flags.verbose), (false, false, false));
     }
 
     #[test]
@@ -188,6 +200,21 @@ mod tests {
         let (name, flags) = wanted("- --output -");
         assert_eq!((name.as_str(), flags.output), ("standard input", None));
         assert_eq!(wanted("-- -").0, "standard input");
+    }
+
+    #[test]
+    fn floats_have_a_header_beside_them() {
+        let names = |line| {
+            let (name, flags) = wanted(line);
+            (flags.floats.map(|floats| floats.name()), name)
+        };
+        assert_eq!(names("--floats a.flt a.hdr"), (Some("a.flt".into()), "a.hdr".into()));
+        assert_eq!(names("a.hdr --floats - --quiet"), (Some("standard input".into()), "a.hdr".into()));
+        assert_eq!(names("- --floats a.flt"), (Some("a.flt".into()), "standard input".into()));
+        assert_eq!(wrong("--floats a.flt"), "--floats: no FIELD.hdr is named beside it");
+        assert_eq!(wrong("--floats a.flt a.hdr b.hdr"), "\"b.hdr\": one field at a time");
+        assert_eq!(wrong("- --floats -"), "--floats: standard input is the header or the heights, and not both");
+        assert_eq!(wrong("a.hdr --floats"), "--floats wants a value");
     }
 
     #[test]

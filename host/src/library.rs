@@ -28,6 +28,20 @@ unsafe extern "C" {
         no_data: &mut i64,
     ) -> u32;
 
+    fn lsmap_read_floats(
+        header: *const u8,
+        header_len: usize,
+        floats: *const u8,
+        floats_len: usize,
+        heights: *mut i32,
+        heights_len: usize,
+        place: &mut usize,
+        rows: &mut usize,
+        columns: &mut usize,
+        side: &mut u32,
+        no_data: &mut i64,
+    ) -> u32;
+
     fn lsmap_default_settings(low: &mut f64, high: &mut f64, kind: &mut u32, cells: &mut u32, percentage: &mut f64);
 
     fn lsmap_map(
@@ -207,6 +221,19 @@ pub fn read_grid(text: &[u8], heights: &mut [i32]) -> Result<Header, Refusal> {
     let number = unsafe {
         lsmap_read_grid(
             text.as_ptr(), text.len(), heights.as_mut_ptr(), heights.len(),
+            &mut place, &mut h.rows, &mut h.columns, &mut h.side, &mut h.no_data,
+        )
+    };
+    answer(number, place, h)
+}
+
+/// The call for floats: reads a header that stands alone and the bytes of floats into the heights, in cm.
+pub fn read_floats(header: &[u8], floats: &[u8], heights: &mut [i32]) -> Result<Header, Refusal> {
+    let (mut place, mut h) = (0, Header::default());
+    #[rustfmt::skip]
+    let number = unsafe {
+        lsmap_read_floats(
+            header.as_ptr(), header.len(), floats.as_ptr(), floats.len(), heights.as_mut_ptr(), heights.len(),
             &mut place, &mut h.rows, &mut h.columns, &mut h.side, &mut h.no_data,
         )
     };

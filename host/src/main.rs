@@ -1,7 +1,8 @@
-//! lsmap: the LS factor of an Esri ASCII grid. It reads the file, lends the memory to the proved library
-//! (crates/fullsize), and writes what the library answers. It judges nothing itself.
+//! lsmap: the LS factor of an Esri ASCII grid, or of a grid of floats with such a header. It reads the files, lends the
+//! memory to the proved library (crates/fullsize), and writes what the library answers. It judges nothing itself.
 
 mod flags;
+mod floats;
 mod grids;
 mod library;
 mod messages;
@@ -12,11 +13,13 @@ mod summary;
 mod texts;
 
 use flags::{Asked, Field, Flags};
+use floats::Floats;
 use library::{Corners, Grids, Header, Refusal, Settings, Totals};
+use messages::Text;
 use output::Output;
 use std::fs;
 use std::io::{self, ErrorKind, IsTerminal, Read, Write};
-use std::path::PathBuf;
+use std::path::{Path, PathBuf};
 use std::process::ExitCode;
 use std::time::Instant;
 use texts::Texts;
@@ -69,21 +72,29 @@ fn tell_settings(s: &Settings) {
     tell(&format!("low {}, high {}, channel {}", s.low, s.high, flags::channel_text(s)));
 }
 
-/// A field's text.
-fn read(field: &Field) -> io::Result<Vec<u8>> {
-    let mut text = Vec::new();
-    match field {
-        Field::StandardInput => io::stdin().read_to_end(&mut text).map(|_| text),
+/// The bytes of a field's text, or of its floats.
+fn read(field: &Field) -> Result<Vec<u8>, Stop> {
+    let mut bytes = Vec::new();
+    let read = match field {
+        Field::StandardInput => io::stdin().read_to_end(&mut bytes).map(|_| bytes),
         Field::File(path) => fs::read(path),
-    }
+    };
+    read.map_err(|e| Stop::CouldNotRun(format!("cannot read {}: {}", field.name(), reason(&e))))
 }
 
-/// Has the library read and map a text.
-fn map<'a>(name: &str, text: &'a [u8], settings: Settings) -> Result<Map<'a>, Stop> {
-    let of_text = |r, h| Stop::Refused(r, format!("{name}: {}", messages::of_text(text, r, h)));
+/// Has the library read and map a text, or a header with its floats.
+fn map<'a>(name: &str, text: &'a [u8], floats: Option<&Floats>, settings: Settings) -> Result<Map<'a>, Stop> {
+    let kind = if floats.is_none() { Text::Grid } else { Text::Header };
+    let of_text = |r, h| Stop::Refused(r, format!("{name}: {}", messages::of_text(text, r, h, kind)));
     let (header, corners) = library::read_header(text).map_err(|r| of_text(r, None))?;
     let mut ground = vec![0; header.rows * header.columns];
-    let header = library::read_grid(text, &mut ground).map_err(|r| of_text(r, Some(header)))?;
+    let header = match floats {
+        None => library::read_grid(text, &mut ground).map_err(|r| of_text(r, Some(header)))?,
+        Some(floats) => library::read_floats(text, &floats.bytes, &mut ground).map_err(|r| match r.number {
+            10 => of_text(r, Some(header)),
+            _ => Stop::Refused(r, floats.message(r, header)),
+        })?,
+    };
     let mut grids = Grids::new(ground.len());
     let totals = library::map(header, settings, &ground, &mut grids)
         .map_err(|r| Stop::Refused(r, format!("{name}: {}", messages::of_map(r, header))))?;
@@ -112,12 +123,15 @@ fn write_grids(map: &Map, flags: &Flags) -> Result<(), String> {
     texts.map_or(Ok(()), Texts::finish)
 }
 
-/// A file to be written that is the field itself, with its flag.
+/// A file to be written that is the field itself, its text or its floats, with its flag.
 fn field_itself(field: &Field, flags: &Flags) -> Option<(&'static str, PathBuf)> {
-    let Field::File(field) = field else { return None };
+    let read = |path: &Path| {
+        let files = std::iter::once(field).chain(&flags.floats);
+        files.into_iter().any(|field| matches!(field, Field::File(file) if output::same(file, path)))
+    };
     let output = flags.output.iter().map(|path| ("--output", path.clone()));
     let texts = flags.text.iter().flat_map(|folder| texts::paths(folder)).map(|path| ("--text", path));
-    output.chain(texts).find(|(_, path)| output::same(field, path))
+    output.chain(texts).find(|(_, path)| read(path))
 }
 
 /// Reads, maps and writes one field.
@@ -129,9 +143,10 @@ fn run(field: &Field, flags: &Flags) -> Result<(), Stop> {
     if let Some((flag, path)) = field_itself(field, flags) {
         return Err(Stop::CouldNotRun(format!("{flag}: {} is the field itself", path.display())));
     }
-    let name = field.name();
-    let text = read(field).map_err(|e| Stop::CouldNotRun(format!("cannot read {name}: {}", reason(&e))))?;
-    let map = map(&name, &text, flags.settings)?;
+    let text = read(field)?;
+    let floats = |floats: &Field| read(floats).map(|bytes| Floats { name: floats.name(), bytes });
+    let floats = flags.floats.as_ref().map(floats).transpose()?;
+    let map = map(&field.name(), &text, floats.as_ref(), flags.settings)?;
     write(&map, flags)?;
     if !flags.quiet && io::stderr().is_terminal() {
         tell(&summary::line(&map, start.elapsed().as_secs_f64()));

@@ -3,20 +3,38 @@
 use crate::library::{Header, Refusal};
 use crate::number::Word;
 
-const HEADER: &str = "expected the header's next word: ncols, nrows, xllcorner, yllcorner, cellsize, \
+const NAMES: &str = "expected the header's next word: ncols, nrows, xllcorner, yllcorner, cellsize, \
     then nodata_value or the heights";
+const LONE_NAMES: &str = "expected the header's next word: ncols, nrows, xllcorner, yllcorner, cellsize, \
+    then nodata_value or the end";
+
+/// What a text is: a whole grid, or a header alone, whose heights are floats in another file.
+#[derive(Clone, Copy)]
+pub enum Text {
+    Grid,
+    Header,
+}
 
 /// What refusals 1 to 10 of the text's calls expect, as docs/RULES.md 3 has them; of 7 and 12 the word itself tells it.
-fn expected(number: u32) -> &'static str {
+pub fn expected(number: u32) -> &'static str {
     match number {
         1 => "the number of rows and the number of columns are each from 1 to 1024",
         3 => "the cell side is from 0.01 to 1000 m",
         5 => "a height is from -500 to 9000 m, or equals the NoData number",
-        6 => HEADER,
+        6 => NAMES,
         8 => "a number is whole in cm: a digit after the second decimal has to be 0",
         9 => "the text ends too early: a word is missing here",
         10 => "nothing may follow the last height",
         _ => "a lent grid has the wrong length, which is a fault of lsmap",
+    }
+}
+
+/// The same of a header alone.
+fn expected_alone(number: u32) -> &'static str {
+    match number {
+        6 => LONE_NAMES,
+        10 => "nothing may follow the header, for the heights are floats in a file of their own",
+        _ => expected(number),
     }
 }
 
@@ -61,17 +79,29 @@ fn hint(text: &[u8], refusal: Refusal, header: Option<Header>) -> String {
     }
 }
 
+/// The same of a header alone: some programs write a line `byteorder`.
+fn hint_alone(text: &[u8], refusal: Refusal) -> String {
+    let is_order = Word::around(text, refusal.place).bytes.eq_ignore_ascii_case(b"byteorder");
+    match refusal.number {
+        6 if refusal.place == 0 && is_order => "; docs/FROM-GIS.md makes this header of GDAL's own".to_string(),
+        6 | 10 if is_order => "; leave the line out: floats are little-endian here".to_string(),
+        10 => String::new(),
+        _ => hint(text, refusal, None),
+    }
+}
+
 /// The message for a refusal of the text; the header is there where the header call accepted.
-pub fn of_text(text: &[u8], refusal: Refusal, header: Option<Header>) -> String {
+pub fn of_text(text: &[u8], refusal: Refusal, header: Option<Header>, kind: Text) -> String {
     let Refusal { number, place } = refusal;
     if number == 2 {
         return format!("refused {number} at {place}: {}", expected(number));
     }
     let (line, column) = line_and_column(text, place);
-    let why = match number {
-        7 => Word::around(text, place).fault(),
-        12 => Word::around(text, place).comma(),
-        _ => format!("{}{}", expected(number), hint(text, refusal, header)),
+    let why = match (number, kind) {
+        (7, _) => Word::around(text, place).fault(),
+        (12, _) => Word::around(text, place).comma(),
+        (_, Text::Grid) => format!("{}{}", expected(number), hint(text, refusal, header)),
+        (_, Text::Header) => format!("{}{}", expected_alone(number), hint_alone(text, refusal)),
     };
     format!("refused {number} at {place} (line {line}, column {column}, {}): {why}", shown(text, refusal))
 }
@@ -109,7 +139,11 @@ mod tests {
     const ONE_ROW: Header = Header { rows: 1, columns: 3, side: 1000, no_data: -999_900 };
 
     fn message(text: &[u8], number: u32, place: usize) -> String {
-        of_text(text, Refusal { number, place }, None)
+        of_text(text, Refusal { number, place }, None, Text::Grid)
+    }
+
+    fn message_alone(text: &[u8], number: u32, place: usize) -> String {
+        of_text(text, Refusal { number, place }, None, Text::Header)
     }
 
     #[test]
@@ -161,9 +195,34 @@ mod tests {
     #[test]
     fn what_the_header_asks_for_is_told() {
         for number in [9, 10] {
-            let said = of_text(b"", Refusal { number, place: 0 }, Some(ONE_ROW));
+            let said = of_text(b"", Refusal { number, place: 0 }, Some(ONE_ROW), Text::Grid);
             assert!(said.ends_with("; the header asks for 1 rows of 3 heights"), "{said}");
         }
+    }
+
+    #[test]
+    fn a_header_alone_has_no_heights() {
+        let text = format!("{HEADER_LINE}5 5 5");
+        let said =
+            "refused 10 at 52 (line 2, column 1, at `5`): nothing may follow the header, for the heights are floats in";
+        assert!(message_alone(text.as_bytes(), 10, 52).starts_with(said));
+        assert!(message_alone(b"", 9, 0).ends_with("; the text is empty"));
+        assert!(message_alone(b"ncols 3\nrows", 6, 8).ends_with("cellsize, then nodata_value or the end"));
+        assert!(message_alone(b"\xef\xbb\xbfncols", 6, 0).contains("begins with a byte order mark"));
+        let said = "refused 12 at 7 (line 1, column 8, at `3,5`): a comma stands where a point belongs: write `3.5`";
+        assert_eq!(message_alone(b"ncols 3,5", 12, 7), said);
+    }
+
+    #[test]
+    fn the_byte_order_of_other_headers_gets_a_hint() {
+        let text = format!("{HEADER_LINE}byteorder LSBFIRST");
+        for number in [6, 10] {
+            let said = message_alone(text.as_bytes(), number, 52);
+            assert!(said.ends_with("; leave the line out: floats are little-endian here"), "{said}");
+        }
+        assert!(
+            message_alone(b"BYTEORDER      I", 6, 0).ends_with("; docs/FROM-GIS.md makes this header of GDAL's own")
+        );
     }
 
     #[test]

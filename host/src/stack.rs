@@ -1,5 +1,6 @@
-//! stack FIELD.asc: makes the library's calls on a thread that has 64 KiB of stack, its own bookkeeping included, and
-//! says what they answered. A call that needs more ends the program by a signal.
+//! stack FIELD.asc HEIGHTS.flt FIELD.hdr: makes the library's calls, of a text and of floats with as many cells, on a
+//! thread that has 64 KiB of stack, its own bookkeeping included, and says what they answered. A call that needs more
+//! ends the program by a signal.
 
 mod library;
 
@@ -14,9 +15,10 @@ struct Lent {
     room: Vec<u8>,
 }
 
-/// Reads, maps and writes a field.
-fn calls(text: &[u8], settings: Settings, lent: &mut Lent) -> Result<(), Refusal> {
+/// Reads, maps and writes a field; before it the floats are read into the same ground.
+fn calls([text, floats, alone]: &[Vec<u8>; 3], settings: Settings, lent: &mut Lent) -> Result<(), Refusal> {
     let Lent { ground, grids, room } = lent;
+    library::read_floats(alone, floats, ground)?;
     let (_, corners) = library::read_header(text)?;
     let header = library::read_grid(text, ground)?;
     library::map(header, settings, ground, grids)?;
@@ -27,14 +29,17 @@ fn calls(text: &[u8], settings: Settings, lent: &mut Lent) -> Result<(), Refusal
 }
 
 fn main() {
-    let name = std::env::args_os().nth(1).expect("stack FIELD.asc");
-    let text = std::fs::read(name).expect("a file that can be read");
-    let header = library::read_header(&text).map(|(header, _)| header).unwrap_or_default();
+    let file = |number| {
+        let name = std::env::args_os().nth(number).expect("stack FIELD.asc HEIGHTS.flt FIELD.hdr");
+        std::fs::read(name).expect("a file that can be read")
+    };
+    let files = [1, 2, 3].map(file);
+    let header = library::read_header(&files[0]).map(|(header, _)| header).unwrap_or_default();
     let cells = header.rows * header.columns;
     let mut lent = Lent { ground: vec![0; cells], grids: Grids::new(cells), room: vec![0; library::room(header)] };
     let settings = library::default_settings();
     let thread = std::thread::Builder::new().stack_size(STACK);
-    let running = thread.spawn(move || calls(&text, settings, &mut lent));
+    let running = thread.spawn(move || calls(&files, settings, &mut lent));
     match running.expect("a thread").join().expect("an answer") {
         Ok(()) => println!("accepted within {STACK} bytes of stack"),
         Err(r) => println!("refused {} at {} within {STACK} bytes of stack", r.number, r.place),

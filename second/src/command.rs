@@ -1,17 +1,18 @@
 //! What the command line asks for, and doing it.
 
-use crate::checks::{compare, full, selfcheck, texts};
+use crate::checks::{compare, floats, full, selfcheck, texts};
 use crate::rules::grid::MOST_ROWS;
 use crate::rules::grid_texts::{grid_texts, NAMES};
 use crate::rules::program::Program;
 use crate::rules::refusal::Refusal;
 use crate::rules::sheet::sheet;
-use crate::texts::{cases, telling, terrains};
+use crate::texts::{cases, float_grids, telling, terrains};
 use std::io::{self, Read, Write};
 
 pub const USAGE: &str = "usage: second sheet [--program PROGRAM] < TEXT    PROGRAM: printer job; printer if not named
        second sheets [--program PROGRAM] < STREAM
        second text [--program PROGRAM] GRID < TEXT       GRID: ground filled count ls
+       second as-floats < TEXT
        second cases SEED N
        second telling SEED N
        second count-telling < STREAM
@@ -19,6 +20,7 @@ pub const USAGE: &str = "usage: second sheet [--program PROGRAM] < TEXT    PROGR
        second compare [--program PROGRAM] SEED N PRINTER...
        second full SIZE PROGRAM...
        second texts SEED N PROGRAM...
+       second floats SEED N PROGRAM...
        second selfcheck";
 
 /// A command with its words read; programs are given as their words.
@@ -27,6 +29,7 @@ pub enum Command<'a> {
     Sheet { program: Program },
     Sheets { program: Program },
     Text { program: Program, grid: usize },
+    AsFloats,
     Cases { seed: u64, number: usize },
     Telling { seed: u64, number: usize },
     CountTelling,
@@ -34,6 +37,7 @@ pub enum Command<'a> {
     Compare { program: Program, seed: u64, number: usize, printer: &'a [&'a str] },
     Full { size: usize, program: &'a [&'a str] },
     Texts { seed: u64, number: usize, program: &'a [&'a str] },
+    Floats { seed: u64, number: usize, program: &'a [&'a str] },
     Selfcheck,
 }
 
@@ -70,6 +74,12 @@ fn grid_text(text: &[u8], program: Program, grid: usize) -> Vec<u8> {
     grid_texts(text, program.settings()).map_or_else(refused, |texts| texts[grid].clone())
 }
 
+/// The heights of a text as floats.
+fn as_floats(text: &[u8]) -> io::Result<Vec<u8>> {
+    let refused = |Refusal { number, place }| io::Error::other(format!("refused {number} at {place}"));
+    float_grids::of_text(text).map_err(refused)
+}
+
 /// The number of telling texts in a framed stream.
 fn count_telling(stream: &[u8]) -> io::Result<usize> {
     Ok(cases::texts(stream)?.iter().filter(|text| telling::is_telling(text)).count())
@@ -103,6 +113,7 @@ impl<'a> Command<'a> {
     /// Any other command.
     fn for_itself(words: &'a [&'a str]) -> Option<Command<'a>> {
         Some(match words {
+            ["as-floats"] => Command::AsFloats,
             ["cases", seed, number] => Command::Cases { seed: whole(seed)?, number: whole(number)? },
             ["telling", seed, number] => Command::Telling { seed: whole(seed)?, number: whole(number)? },
             ["count-telling"] => Command::CountTelling,
@@ -112,6 +123,9 @@ impl<'a> Command<'a> {
             ["full", rows, program @ ..] if !program.is_empty() => Command::Full { size: size(rows)?, program },
             ["texts", seed, number, program @ ..] if !program.is_empty() => {
                 Command::Texts { seed: whole(seed)?, number: whole(number)?, program }
+            }
+            ["floats", seed, number, program @ ..] if !program.is_empty() => {
+                Command::Floats { seed: whole(seed)?, number: whole(number)?, program }
             }
             ["selfcheck"] => Command::Selfcheck,
             _ => return None,
@@ -125,6 +139,7 @@ impl<'a> Command<'a> {
             Command::Sheet { program } => output.write_all(sheet(&standard_input()?, program.settings()).as_bytes()),
             Command::Sheets { program } => output.write_all(sheets(&standard_input()?, program)?.as_bytes()),
             Command::Text { program, grid } => output.write_all(&grid_text(&standard_input()?, program, grid)),
+            Command::AsFloats => output.write_all(&as_floats(&standard_input()?)?),
             Command::Cases { seed, number } => output.write_all(&cases::stream(cases::case, seed, number)),
             Command::Telling { seed, number } => output.write_all(&cases::stream(telling::text, seed, number)),
             Command::CountTelling => writeln!(output, "{}", count_telling(&standard_input()?)?),
@@ -132,6 +147,7 @@ impl<'a> Command<'a> {
             Command::Compare { program, seed, number, printer } => compare::compare(program, seed, number, printer),
             Command::Full { size, program } => full::compare(size, program),
             Command::Texts { seed, number, program } => texts::compare(seed, number, program),
+            Command::Floats { seed, number, program } => floats::compare(seed, number, program),
             Command::Selfcheck => {
                 selfcheck::selfcheck();
                 Ok(())
@@ -149,10 +165,13 @@ mod tests {
         assert_eq!(Command::of(&["cases", "12", "160"]), Some(Command::Cases { seed: 12, number: 160 }));
         assert_eq!(Command::of(&["telling", "7", "48"]), Some(Command::Telling { seed: 7, number: 48 }));
         assert_eq!(Command::of(&["count-telling"]), Some(Command::CountTelling));
+        assert_eq!(Command::of(&["as-floats"]), Some(Command::AsFloats));
         let full = Command::Full { size: 1_024, program: &["valgrind", "lsmap"] };
         assert_eq!(Command::of(&["full", "1024", "valgrind", "lsmap"]), Some(full));
         let texts = Command::Texts { seed: 1, number: 50, program: &["lsmap"] };
         assert_eq!(Command::of(&["texts", "1", "50", "lsmap"]), Some(texts));
+        let floats = Command::Floats { seed: 1, number: 50, program: &["lsmap"] };
+        assert_eq!(Command::of(&["floats", "1", "50", "lsmap"]), Some(floats));
         for (kind, (name, ..)) in terrains::TERRAINS.iter().enumerate() {
             assert_eq!(Command::of(&["terrain", name, "1", "0"]), Some(Command::Terrain { kind, size: 1, seed: 0 }));
             assert!(USAGE.contains(name));
@@ -176,7 +195,7 @@ mod tests {
 
     #[test]
     fn other_words_are_a_usage_error() {
-        let wrong: [&[&str]; 24] = [
+        let wrong: [&[&str]; 26] = [
             &[],
             &["sheet", "field.asc"],
             &["sheet", "--program"],
@@ -201,6 +220,8 @@ mod tests {
             &["text", "length"],
             &["text", "ls", "--program", "job"],
             &["texts", "1", "50"],
+            &["floats", "1", "50"],
+            &["as-floats", "field.asc"],
         ];
         wrong.iter().for_each(|words| assert_eq!(Command::of(words), None));
     }

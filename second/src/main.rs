@@ -1,4 +1,4 @@
-//! The second program: the reader, the map, the sheet and the writer of docs/RULES.md once more, literal rather than
+//! The second program: the readers, the map, the sheet and the writer of docs/RULES.md once more, literal rather than
 //! fast.
 
 mod checks;

@@ -8,6 +8,7 @@ mod crossing;
 
 ghost use mathlib.Core.Path.{_≡_};
 ghost use Rattle.text.specs.Answers.{headerAnswer, cornersAnswer, gridAnswer};
+ghost use Rattle.floats.specs.Answers.{floatsAnswer};
 ghost use Rattle.settings.specs.Settings.{defaultSettings};
 ghost use Rattle.terrain.specs.Drainage.{Trails, Totals, Surface};
 ghost use Rattle.factor.specs.Answers.{answer, after, told, lentBefore, lentAfter};
@@ -59,6 +60,25 @@ pub extern "C" fn lsmap_read_grid(
         ≡ gridAnswer (now (heights .entry)) (now (text .entry)) ⌝ }
 {
     let answer = text::read_grid(text, heights);
+    answers::hand_out_reading(answer, place, rows, columns, side, no_data)
+}
+
+// Reads a grid of floats into the lent heights, by the header: `floats::read_floats`.
+#[no_mangle]
+pub extern "C" fn lsmap_read_floats(
+    header: &[u8],
+    floats: &[u8],
+    heights: &mut [i32],
+    place: &mut usize,
+    rows: &mut usize,
+    columns: &mut usize,
+    side: &mut u32,
+    no_data: &mut i64,
+) -> u32
+    ensures { λ r. ⌜ gridReading (readingAfter r place rows columns side no_data) (now (heights .exit))
+        ≡ floatsAnswer (now (heights .entry)) (now (header .entry)) (now (floats .entry)) ⌝ }
+{
+    let answer = floats::read_floats(header, floats, heights);
     answers::hand_out_reading(answer, place, rows, columns, side, no_data)
 }
 

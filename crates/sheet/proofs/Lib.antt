@@ -1,4 +1,3 @@
-pub mod Sizes
 pub mod Rooms
 pub mod Examples
 pub mod InnerShown

@@ -1,4 +1,4 @@
--- RULES 2.3 and 3 for the two calls: no refusal has number 0, at a refusal 7 some word of the text breaks at the place, and at a refusal 12 the
+-- RULES 2.3 and 3 for the calls that read a text: no refusal has number 0, at a refusal 7 some word of the text breaks at the place, and at a refusal 12 the
 -- place is a comma decimal's comma. Assumes nothing.
 use mathlib.Core.Path.{_≡_, refl, sym, ap, _∙_, subst}
 use mathlib.Core.Bool.{Bool, true, false, not, cond, _&&_, _||_, true≢false}
@@ -20,8 +20,8 @@ use Rattle.text.specs.Right.{BreaksIn, CommaIn}
 use Rattle.text.specs.Right as Right
 use Rattle.text.specs.Headers.{Header, Extent, isNamed, letterNext, absentNoData, name, corner, side, field, anyMeasure, noData}
 use Rattle.text.specs.Headers.{extent, corners, sideAndNoData, head, header}
-use Rattle.text.specs.Heights.{same, ended, height, heights, end, body, grid, Grid}
-use Rattle.text.specs.Answers.{headerOutcome, headerAnswer, gridOutcome, gridAnswer}
+use Rattle.text.specs.Heights.{same, ended, height, heights, end, loneHeader, body, grid, Grid}
+use Rattle.text.specs.Answers.{headerOutcome, headerAnswer, loneHeaderAnswer, gridOutcome, gridAnswer}
 use Rattle.text.specs.declared.Corners.{Corners}
 use Rattle.text.proofs.Carried.{Has, Keeps, keeps-give, keeps-check, keeps-then}
 use Rattle.text.proofs.Right.{number-7, number-12, count-7, count-12}
@@ -215,27 +215,40 @@ module _ (s : List ℕ) where
   unfolding grid
   grid-sound k = joined header-sound (λ h. joined (body-sound h k) (λ hs. given (record { header = h; heights = hs })))
 
-  -- ---- the two calls
+  lone-sound : Sound loneHeader
+  unfolding loneHeader
+  lone-sound = joined header-sound (λ h. joined end-sound (λ u. given h))
 
-  -- no refusal of the header call has number 0
+  -- ---- the calls that read a header: alone in its text, or not
+
+  step-7 : (x : Step Header) → Has (λ (h : Header). Unit) (Fault s) x → headerOutcome x .number ≡ 7 → BreaksIn s (headerOutcome x .place)
+  step-7 (got h i) f e = absurd (omega arith)
+  step-7 (refused n p) f e = f .seven e
+
+  step-12 : (x : Step Header) → Has (λ (h : Header). Unit) (Fault s) x → headerOutcome x .number ≡ 12 → CommaIn s (headerOutcome x .place)
+  step-12 (got h i) f e = absurd (omega arith)
+  step-12 (refused n p) f e = f .twelve e
+
+  -- no refusal has number 0
   pub header-some : (n p : ℕ) → header s 0 ≡ refused n p → 0 < n
   header-some n p e = subst (Has (λ (h : Header). Unit) (Fault s)) e (header-sound .keeps 0) .some
 
-  -- refusal 7 of the header call: a word of the text breaks at the place
-  pub header-7 : headerAnswer s .number ≡ 7 → BreaksIn s (headerAnswer s .place)
-  header-7 e = go (header s 0) (header-sound .keeps 0) e
-    where
-      go : (x : Step Header) → Has (λ (h : Header). Unit) (Fault s) x → headerOutcome x .number ≡ 7 → BreaksIn s (headerOutcome x .place)
-      go (got h i) f e = absurd (omega arith)
-      go (refused n p) f e = f .seven e
+  pub lone-some : (n p : ℕ) → loneHeader s 0 ≡ refused n p → 0 < n
+  lone-some n p e = subst (Has (λ (h : Header). Unit) (Fault s)) e (lone-sound .keeps 0) .some
 
-  -- refusal 12 of the header call: the place is the comma of a comma decimal
+  -- refusal 7: a word of the text breaks at the place
+  pub header-7 : headerAnswer s .number ≡ 7 → BreaksIn s (headerAnswer s .place)
+  header-7 e = step-7 (header s 0) (header-sound .keeps 0) e
+
+  pub lone-7 : loneHeaderAnswer s .number ≡ 7 → BreaksIn s (loneHeaderAnswer s .place)
+  lone-7 e = step-7 (loneHeader s 0) (lone-sound .keeps 0) e
+
+  -- refusal 12: the place is the comma of a comma decimal
   pub header-12 : headerAnswer s .number ≡ 12 → CommaIn s (headerAnswer s .place)
-  header-12 e = go (header s 0) (header-sound .keeps 0) e
-    where
-      go : (x : Step Header) → Has (λ (h : Header). Unit) (Fault s) x → headerOutcome x .number ≡ 12 → CommaIn s (headerOutcome x .place)
-      go (got h i) f e = absurd (omega arith)
-      go (refused n p) f e = f .twelve e
+  header-12 e = step-12 (header s 0) (header-sound .keeps 0) e
+
+  pub lone-12 : loneHeaderAnswer s .number ≡ 12 → CommaIn s (loneHeaderAnswer s .place)
+  lone-12 e = step-12 (loneHeader s 0) (lone-sound .keeps 0) e
 
   -- the same of the call that reads the whole text
   module _ (lent : List ℤ) where

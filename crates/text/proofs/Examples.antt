@@ -11,8 +11,8 @@ use Rattle.text.specs.Reader.{Step, got, refused}
 use Rattle.text.specs.Words.{run, wordStart, wordEnd, word}
 use Rattle.text.specs.Numbers.{Placed, value, countFormAt, decimals, numberAt, isNumber, firstComma, commaDecimal, read, count, number, measure}
 use Rattle.text.specs.Headers.{named, name, corner, side, field, anyMeasure, noData, extent, corners, sideAndNoData, head, header}
-use Rattle.text.specs.Heights.{height, heights, end, body, grid}
-use Rattle.text.specs.Answers.{GridOutcome, headerAnswer, noSpan, cornersAnswer, gridAnswer}
+use Rattle.text.specs.Heights.{height, heights, end, loneHeader, body, grid}
+use Rattle.text.specs.Answers.{Outcome, GridOutcome, headerAnswer, loneHeaderAnswer, noSpan, cornersAnswer, gridAnswer}
 use Rattle.text.specs.declared.Span.{Span}
 
 -- ---- numbers, each as the only word of a text
@@ -192,6 +192,40 @@ pub eleventh-word : headerAnswer (bytes "ncols 2 nrows 1 xllcorner 0 yllcorner 0
     ≡ record { number = 6; place = 54; rows = 0; columns = 0; side = pos 0; noData = pos 0 }
 unfolding bytes run wordStart wordEnd word value countFormAt decimals numberAt firstComma commaDecimal read count number measure named name corner side field anyMeasure noData extent corners sideAndNoData head header
 eleventh-word = refl
+
+-- ---- a header that stands alone in its text: blanks may follow it, and no word
+
+pub record Lone : Type 0 where
+  pub text : String
+  pub outcome : Outcome
+
+-- 1 row of 2 columns, side 12.5 m, and so many cm as the NoData number
+abbrev pub lone : ℤ → Outcome
+lone noData = record { number = 0; place = 0; rows = 1; columns = 2; side = pos 1250; noData = noData }
+
+abbrev pub notLone : ℕ → ℕ → Outcome
+notLone number place = record { number = number; place = place; rows = 0; columns = 0; side = pos 0; noData = pos 0 }
+
+unfoldable pub lones : List Lone
+lones =
+    record { text = "ncols 2 nrows 1 xllcorner 0 yllcorner 0 cellsize 12.5"; outcome = lone (negℤ (pos 999900)) } ∷
+    record { text = "\n ncols 2 nrows 1 xllcorner 0 yllcorner 0 cellsize 12.5 \t\r\n"; outcome = lone (negℤ (pos 999900)) } ∷
+    record { text = "ncols 2 nrows 1 xllcorner 0 yllcorner 0 cellsize 12.5 nodata_value -1"; outcome = lone (negℤ (pos 100)) } ∷
+    record { text = "ncols 2 nrows 1 xllcorner 0 yllcorner 0 cellsize 12.5\r\nNODATA_value 0\r\n"; outcome = lone (pos 0) } ∷
+    -- 10 at the word, whatever it is
+    record { text = "ncols 2 nrows 1 xllcorner 0 yllcorner 0 cellsize 12.5 1,0"; outcome = notLone 10 54 } ∷
+    record { text = "ncols 2 nrows 1 xllcorner 0 yllcorner 0 cellsize 12.5\nnodata_value -1\n\n\t x y"; outcome = notLone 10 73 } ∷
+    record { text = "ncols 2 nrows 1 xllcorner 0 yllcorner 0 cellsize 12.5\nnodata_value -1 -1"; outcome = notLone 10 70 } ∷
+    -- what the header call refuses, with its number and place
+    record { text = ""; outcome = notLone 9 0 } ∷
+    record { text = "ncols 2 nrows 1 xllcorner 0 yllcorner 0 cellsize 12.5 nodata_value \n"; outcome = notLone 9 68 } ∷
+    record { text = "ncols 2 nrows 1 xllcorner 0 yllcorner 0 cellsize 12.5 nan"; outcome = notLone 6 54 } ∷
+    record { text = "ncols 2 nrows 1 xllcorner 0 yllcorner 0 cellsize 12.5 nodata_value 1,5 x"; outcome = notLone 12 68 } ∷ []
+
+pub lones-hold : map (λ (x : Lone). loneHeaderAnswer (bytes (x .text))) lones ≡ map (λ (x : Lone). x .outcome) lones
+unfolding lones bytes run wordStart wordEnd word value countFormAt decimals numberAt firstComma commaDecimal read count number measure
+    named name corner side field anyMeasure noData extent corners sideAndNoData head header end loneHeader
+lones-hold = refl
 
 -- ---- the corners: where their words stand, zeros at a refusal
 

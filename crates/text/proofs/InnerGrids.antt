@@ -19,8 +19,8 @@ use Rattle.text.specs.Reader.{Step, got, refused, after, give}
 use Rattle.text.specs.Words.{wordStart}
 use Rattle.text.specs.Numbers.{measure}
 use Rattle.text.specs.Headers as H
-use Rattle.text.specs.Heights.{same, height, heights, end, body, grid}
-use Rattle.text.specs.Answers.{refusal, headerOf, gridOutcome, gridAnswer}
+use Rattle.text.specs.Heights.{same, height, heights, end, loneHeader, body, grid}
+use Rattle.text.specs.Answers.{accepted, refusal, headerOf, loneHeaderAnswer, gridOutcome, gridAnswer}
 use Rattle.text.specs.declared.Refusal.{Refusal}
 use Rattle.text.specs.declared.words.Cursor.{Cursor}
 use Rattle.text.specs.declared.numbers.Measure as M
@@ -219,6 +219,22 @@ module _ (h : H.Header) (k : ℕ) (s : List ℕ) (at : ℕ) where
       pub body-on : (j : Cursor) → q ≡ On j → body h k s at ≡ got (valuesOf (heights (h .noData) k s at)) (j .at)
       unfolding body
       body-on j u = rw (eq-eqb k (h .rows * h .columns) l, got-heights, moved-on q _ j t u)
+
+-- ---- a header that stands alone
+
+module _ (s : List ℕ) (r : Headed) (m : headedOf r ≡ H.head s 0) where
+  pub lone-off : (f : Refusal) → r ≡ NoHead f → refusal (f .number) (f .place) ≡ loneHeaderAnswer s
+  unfolding loneHeader H.header
+  lone-off f e = rw (sym m ∙ ap headedOf e)
+
+  module _ (x : D.Head) (e : r ≡ Head x) (q : Moved) (t : movedOf q ≡ end s (x .rest .at)) where
+    pub lone-more : (f : Refusal) → q ≡ Off f → refusal (f .number) (f .place) ≡ loneHeaderAnswer s
+    unfolding loneHeader H.header
+    lone-more f u = rw (sym m ∙ ap headedOf e, moved-off q _ f t u)
+
+    pub lone-on : (k : Cursor) → q ≡ On k → accepted (headerOf (x .header)) ≡ loneHeaderAnswer s
+    unfolding loneHeader H.header
+    lone-on k u = rw (sym m ∙ ap headedOf e, moved-on q _ k t u)
 
 -- ---- the whole text
 

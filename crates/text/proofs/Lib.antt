@@ -20,5 +20,6 @@ pub mod Shifted
 pub mod Formed
 pub mod Pieces
 pub mod Carried
+pub mod Sizes
 pub mod Calls
 pub mod CornerWords

@@ -1,4 +1,4 @@
--- RULES 2.5 and 3: the answers of the two calls, as the promises state them. Assumes nothing.
+-- RULES 2.5, 3 and 11.3: the answers of the calls that read a text, as the promises state them. Assumes nothing.
 use Prim.Native.Nat.{ℕ}
 use mathlib.Core.List.{List}
 use lib.IntN.{ℤ, pos}
@@ -48,12 +48,16 @@ cornersOutcome (refused n p) = record { x = noSpan; y = noSpan }
 abbrev pub cornersAnswer : List ℕ → Corners
 cornersAnswer s = cornersOutcome (H.head s 0)
 
+-- Another reads a header that stands alone in its text: the same four numbers, and no word may follow it.
+abbrev pub loneHeaderAnswer : List ℕ → Outcome
+loneHeaderAnswer s = headerOutcome (G.loneHeader s 0)
+
 -- the answer with the lent heights afterwards
 pub record GridOutcome : Type 0 where
   pub answer : Outcome
   pub heights : List ℤ
 
--- The other reads the whole text into lent heights and answers the same four numbers. A refusal changes no lent grid.
+-- The third reads the whole text into lent heights and answers the same four numbers. A refusal changes no lent grid.
 abbrev pub gridOutcome : List ℤ → Step G.Grid → GridOutcome
 gridOutcome lent (got g i) = record { answer = accepted (g .header); heights = g .heights }
 gridOutcome lent (refused n p) = record { answer = refusal n p; heights = lent }

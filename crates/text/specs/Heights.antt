@@ -38,6 +38,13 @@ ended i (refused n p) = got tt i
 unfoldable pub end : Reader Unit
 end s i = ended i (word s i)
 
+-- a header that stands alone in its text: 10 for a word after it
+unfoldable pub loneHeader : Reader Header
+loneHeader = do
+  h ← header
+  end
+  give h
+
 -- what follows the header h, with k heights lent. The lent length is tested right after the header.
 -- 2: a lent grid is not exactly rows times columns long
 unfoldable pub body : Header → ℕ → Reader (List ℤ)

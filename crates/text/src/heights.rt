@@ -86,7 +86,7 @@ fn judge_heights(s: &[u8], k: Cursor, n: i64, count: usize) -> Moved
 }
 
 // Judges that no word is left.
-fn judge_end(s: &[u8], k: Cursor) -> Moved
+pub(crate) fn judge_end(s: &[u8], k: Cursor) -> Moved
     ensures { λ r. ⌜ movedOf r ≡ end (now (s .entry)) (k .at) ⌝ }
 {
     let at = k.at;

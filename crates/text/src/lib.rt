@@ -9,8 +9,9 @@ mod ranges;
 mod words;
 
 ghost use mathlib.Core.Path.{_≡_};
-ghost use Rattle.text.specs.Answers.{outcomeOf, gridOutcomeOf, headerAnswer, cornersAnswer, gridAnswer};
+ghost use Rattle.text.specs.Answers.{outcomeOf, gridOutcomeOf, headerAnswer, cornersAnswer, loneHeaderAnswer, gridAnswer};
 use headers::Headed;
+use headers::Moved;
 pub use numbers::is_number;
 pub use ranges::first_bad;
 pub use ranges::is_height;
@@ -35,7 +36,7 @@ pub struct Header {
     pub no_data: i64,
 }
 
-// What both calls answer.
+// What a call that reads a text answers.
 pub enum Answer {
     Accepted(Header),
     Refused(Refusal),
@@ -85,6 +86,25 @@ pub fn read_header(text: &[u8]) -> HeaderAnswer
             HeaderAnswer {
                 answer: Answer::Accepted(header),
                 corners,
+            }
+        }
+    }
+}
+
+// Reads a header that stands alone in its text, so that no word may follow it.
+pub fn read_lone_header(text: &[u8]) -> Answer
+    ensures { λ r. ⌜ outcomeOf r ≡ loneHeaderAnswer (now (text .entry)) ⌝ }
+{
+    let h = headers::read(text, Cursor { at: 0 });
+    match h {
+        Headed::NoHead(refusal) => Answer::Refused(refusal),
+        Headed::Head(x) => {
+            let header = x.header;
+            let rest = x.rest;
+            let m = heights::judge_end(text, rest);
+            match m {
+                Moved::Off(refusal) => Answer::Refused(refusal),
+                Moved::On(_) => Answer::Accepted(header),
             }
         }
     }

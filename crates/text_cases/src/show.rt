@@ -2,12 +2,8 @@
 // number, and after the reader call's stand the lent heights.
 ghost use Prim.Native.Nat.{_≤_};
 use output::write;
-use output::write_height;
-use output::write_integer;
-use output::write_natural;
-use text::Answer;
-use text::Header;
-use text::Refusal;
+use output::write_answer;
+use output::write_heights;
 
 // What every lent height is beforehand, so that an untouched grid shows.
 const MARK: i32 = 77;
@@ -46,33 +42,4 @@ fn answers(text: &[u8], heights: &mut [i32]) {
     write(b":");
     write_heights(heights);
     write(b"\n");
-}
-
-fn write_answer(answer: Answer) {
-    match answer {
-        Answer::Accepted(header) => write_header(header),
-        Answer::Refused(refusal) => write_refusal(refusal),
-    }
-}
-
-fn write_header(header: Header) {
-    write(b" 0 0");
-    write_natural(header.rows as u64);
-    write_natural(header.columns as u64);
-    write_natural(header.side as u64);
-    write_integer(header.no_data);
-}
-
-fn write_refusal(refusal: Refusal) {
-    write_natural(refusal.number as u64);
-    write_natural(refusal.place as u64);
-    write(b" 0 0 0 0");
-}
-
-fn write_heights(heights: &[i32]) {
-    let mut i = 0;
-    while i < heights.len() {
-        write_height(heights[i]);
-        i += 1;
-    }
 }

@@ -3,6 +3,7 @@
 
 pub mod compare;
 mod fast_ways;
+pub mod floats;
 pub mod full;
 mod second_ways;
 pub mod selfcheck;

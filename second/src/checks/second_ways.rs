@@ -4,6 +4,8 @@
 use crate::rules::direction::NO_DIRECTION;
 use crate::rules::factor::slope_length_factor;
 use crate::rules::fill::rim;
+use crate::rules::float::nearest;
+use crate::rules::float_grid::read_floats;
 use crate::rules::grid::{Shape, NODATA};
 use crate::rules::length::Terrain;
 use crate::rules::map::{map, Map};
@@ -137,13 +139,14 @@ pub fn any_settings(seed: &mut Seed) -> Settings {
     Settings { low: seed.below(101) as f64 / 100.0, high: seed.below(101) as f64 / 100.0, channel }
 }
 
-/// The reader gives a field back, the writer its ground, and the map's grids hold in the second way too.
+/// The readers give a field back, the writer its ground, and the map's grids hold in the second way too.
 pub fn field(number: usize) {
     let mut seed = Seed::of(1, number as u64);
     let shape = Shape { rows: 1 + seed.below(12), columns: 1 + seed.below(12) };
     let field = fields::field(&mut seed, number % fields::RELIEFS.len(), shape);
     let ground: Vec<i32> = field.heights.iter().map(|height| height.map_or(NODATA, |height| height as i32)).collect();
     read_back(&mut seed, &field, &ground);
+    read_floats_back(&mut seed, &field, &ground);
     let settings = any_settings(&mut seed);
     let map = map(shape, field.side, &ground, settings).expect("a field is accepted");
     assert_eq!(map.filled, filled_by_thresholds(shape, &ground));
@@ -164,6 +167,17 @@ fn read_back(seed: &mut Seed, field: &Field, ground: &[i32]) {
     assert_eq!(lent, ground);
     let corners = corners.map(|span| span.of(&bytes));
     written_back(Frame { shape: header.shape, side: header.side, corners }, ground);
+}
+
+/// A field's header alone and the floats nearest to its heights are read as that field.
+fn read_floats_back(seed: &mut Seed, field: &Field, ground: &[i32]) {
+    let nodata = field.nodata.unwrap_or(-999_900);
+    let header = text(seed, Manner::Mixed, &Field { heights: Vec::new(), ..field.clone() }).bytes;
+    let floats = field.heights.iter().map(|height| nearest(height.unwrap_or(nodata)));
+    let floats: Vec<u8> = floats.flat_map(u32::to_le_bytes).collect();
+    let mut lent = vec![0; ground.len()];
+    let read = read_floats(&header, &floats, &mut lent).expect("a field's floats are accepted");
+    assert_eq!((read.shape, read.side, read.nodata, &lent[..]), (field.shape, field.side, nodata, ground));
 }
 
 /// A ground that is written and read again is the same, and so are its shape, side and corner words.

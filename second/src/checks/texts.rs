@@ -11,7 +11,7 @@ use crate::texts::cornered;
 use crate::texts::seed::Seed;
 use std::io;
 use std::path::Path;
-use std::process::{Command, Stdio};
+use std::process::{Command, Output};
 
 /// A field's text and the settings of its map.
 fn case(seed: u64, number: usize) -> (Vec<u8>, Settings) {
@@ -21,7 +21,7 @@ fn case(seed: u64, number: usize) -> (Vec<u8>, Settings) {
 }
 
 /// The settings as the program's words.
-fn words(settings: Settings) -> [String; 6] {
+pub fn words(settings: Settings) -> [String; 6] {
     let channel = match settings.channel {
         Channel::None => "none".to_string(),
         Channel::Cells(cells) => format!("cells:{cells}"),
@@ -36,18 +36,27 @@ fn bytes(file: &Path) -> io::Result<Vec<u8>> {
     std::fs::read(file).map_err(|why| io::Error::other(format!("{}: {why}", file.display())))
 }
 
-/// Runs the program on a field's file; the four texts that it writes to a folder that was not there.
-fn run(program: &[&str], settings: Settings, folder: &Path, field: &Path) -> io::Result<[Vec<u8>; 4]> {
+/// Runs the program on the words that name a field; it has to write four texts to a folder that was not there.
+pub fn output(program: &[&str], settings: Settings, folder: &Path, field: &[&Path]) -> io::Result<Output> {
     if folder.exists() {
         std::fs::remove_dir_all(folder)?;
     }
     let mut command = Command::new(program[0]);
-    command.args(&program[1..]).args(words(settings)).arg("--text").arg(folder).arg("--quiet").arg(field);
-    let output = command.stderr(Stdio::inherit()).output();
-    let output = output.map_err(|why| io::Error::other(format!("{}: {why}", program[0])))?;
+    command.args(&program[1..]).args(words(settings)).arg("--text").arg(folder).arg("--quiet").args(field);
+    command.output().map_err(|why| io::Error::other(format!("{}: {why}", program[0])))
+}
+
+/// A program's ending that was not expected.
+pub fn unexpected(output: &Output) -> io::Error {
+    let [printed, said] = [&output.stdout, &output.stderr].map(|bytes| String::from_utf8_lossy(bytes));
+    io::Error::other(format!("the program ended with {}, printed {printed:?} and said {said:?}", output.status))
+}
+
+/// The four texts that the program writes to the folder; it prints nothing.
+pub fn run(program: &[&str], settings: Settings, folder: &Path, field: &[&Path]) -> io::Result<[Vec<u8>; 4]> {
+    let output = output(program, settings, folder, field)?;
     if !output.status.success() || !output.stdout.is_empty() {
-        let printed = String::from_utf8_lossy(&output.stdout);
-        return Err(io::Error::other(format!("{} ended with {} and printed {printed:?}", program[0], output.status)));
+        return Err(unexpected(&output));
     }
     let file = |name: &str| bytes(&folder.join(format!("{name}.asc")));
     let [ground, filled, count, ls] = NAMES;
@@ -65,7 +74,7 @@ fn difference(given: &[u8], expected: &[u8]) -> Option<String> {
 }
 
 /// The four texts of the program are those that are expected.
-fn same_texts(given: &[Vec<u8>; 4], expected: &[Vec<u8>; 4]) -> io::Result<()> {
+pub fn same_texts(given: &[Vec<u8>; 4], expected: &[Vec<u8>; 4]) -> io::Result<()> {
     let pairs = given.iter().zip(expected).map(|(given, expected)| difference(given, expected));
     let first = NAMES.iter().zip(pairs).find_map(|(name, difference)| Some((name, difference?)));
     first.map_or(Ok(()), |(name, difference)| Err(io::Error::other(format!("{name}.asc: {difference}"))))
@@ -85,12 +94,12 @@ fn same_case(program: &[&str], made: &Path, text: &[u8], settings: Settings) -> 
     let [field, first, again] = ["field.asc", "first", "again"].map(|name| made.join(name));
     std::fs::write(&field, text)?;
     let expected = grid_texts(text, settings).map_err(|refusal| io::Error::other(format!("{refusal:?}")))?;
-    let given = run(program, settings, &first, &field)?;
+    let given = run(program, settings, &first, &[&field])?;
     same_texts(&given, &expected)?;
     if content(&given[0])? != content(text)? {
         return Err(io::Error::other("ground.asc has another content than the field"));
     }
-    same_texts(&run(program, settings, &again, &first.join("ground.asc"))?, &expected)
+    same_texts(&run(program, settings, &again, &[&first.join("ground.asc")])?, &expected)
 }
 
 /// Compares the first fields of a seed; stops at the first difference and keeps that field's text.

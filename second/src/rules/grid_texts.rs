@@ -1,10 +1,11 @@
 //! The four grids of a field's map that have a text, given back as texts. Serves docs/RULES.md, 10 The text that is
-//! written.
+//! written, and 11 Grids of floats.
 
+use super::float_grid::read_floats;
 use super::map::map;
 use super::refusal::Refusal;
 use super::settings::Settings;
-use super::text::{read_grid, read_header};
+use super::text::{read_grid, read_header, Header};
 use super::write::{room, write, Frame, Numbers};
 
 /// The names of the grids.
@@ -17,11 +18,25 @@ fn written(frame: Frame, grid: Numbers) -> Result<Vec<u8>, Refusal> {
     Ok(text)
 }
 
-/// The texts of a field's grids, in the order of the names; the corner words are copied from the text that was read.
+/// The texts of the grids of a text's field, in the order of the names.
 pub fn grid_texts(text: &[u8], settings: Settings) -> Result<[Vec<u8>; 4], Refusal> {
+    texts(text, |ground| read_grid(text, ground), settings)
+}
+
+/// The same of a header and its floats.
+pub fn float_grid_texts(header: &[u8], floats: &[u8], settings: Settings) -> Result<[Vec<u8>; 4], Refusal> {
+    texts(header, |ground| read_floats(header, floats, ground), settings)
+}
+
+/// The texts of a ground as it is read; the corner words are copied from the text that was read.
+fn texts(
+    text: &[u8],
+    read: impl Fn(&mut [i32]) -> Result<Header, Refusal>,
+    settings: Settings,
+) -> Result<[Vec<u8>; 4], Refusal> {
     let (header, corners) = read_header(text)?;
     let mut ground = vec![0; header.shape.cells()];
-    read_grid(text, &mut ground)?;
+    read(&mut ground)?;
     let map = map(header.shape, header.side, &ground, settings)?;
     let frame = Frame { shape: header.shape, side: header.side, corners: corners.map(|span| span.of(text)) };
     Ok([

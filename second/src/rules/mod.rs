@@ -1,9 +1,11 @@
-//! The rules of docs/RULES.md read literally: the reader, the map, the sheet and the writer.
+//! The rules of docs/RULES.md read literally: the readers, the map, the sheet and the writer.
 
 mod big;
 pub mod direction;
 pub mod factor;
 pub mod fill;
+pub mod float;
+pub mod float_grid;
 pub mod grid;
 pub mod grid_texts;
 pub mod length;

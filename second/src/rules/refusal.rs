@@ -25,3 +25,5 @@ pub const AFTER: u32 = 10;
 pub const PRINTER: u32 = 11;
 pub const COMMA: u32 = 12;
 pub const ROOM: u32 = 13;
+pub const BYTES: u32 = 14;
+pub const NOT_FINITE: u32 = 15;

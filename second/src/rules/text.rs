@@ -150,11 +150,23 @@ impl<'a> Words<'a> {
         let nodata = self.nodata()?;
         Ok((Header { shape: Shape { rows, columns }, side, nodata }, [x, y]))
     }
+
+    /// 10, a word after what is read.
+    fn end(&mut self) -> Result<(), Refusal> {
+        self.next().map_or(Ok(()), |word| refuse(refusal::AFTER, word.place))
+    }
 }
 
 /// Reads the header alone, tells where the two corner words stand, and judges nothing after it.
 pub fn read_header(text: &[u8]) -> Result<(Header, [Span; 2]), Refusal> {
     Words::of(text).header()
+}
+
+/// Reads a header that stands alone in its text.
+pub fn read_lone_header(text: &[u8]) -> Result<Header, Refusal> {
+    let mut words = Words::of(text);
+    let (header, _) = words.header()?;
+    words.end().map(|()| header)
 }
 
 /// Reads the whole text into lent heights. The lent length is tested right after the header, and a refusal changes no
@@ -166,9 +178,7 @@ pub fn read_grid(text: &[u8], lent: &mut [i32]) -> Result<Header, Refusal> {
         return refuse(refusal::LENT, 0);
     }
     let heights = (0..lent.len()).map(|_| words.height(header.nodata)).collect::<Result<Vec<i32>, Refusal>>()?;
-    if let Some(word) = words.next() {
-        return refuse(refusal::AFTER, word.place);
-    }
+    words.end()?;
     lent.copy_from_slice(&heights);
     Ok(header)
 }

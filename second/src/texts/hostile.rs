@@ -39,7 +39,7 @@ const NAMES: [&[u8]; 14] = [
     b"ncol", b"NROWS_", b"xllcenter", b"yllcenter", b"cellsize=10", b"nodata", b"NODATA-VALUE", b"\xEF\xBB\xBFncols",
     b"ncols\0", b"x", b"5", b"\x1A", b"\xC3\xA4", b"dx",
 ];
-const LETTERS: [&[u8]; 9] =
+pub const LETTERS: [&[u8]; 9] =
     [b"x", b"nan", b"NaN", b"inf", b"nodata_valu", b"NODATA_VALUES", b"e5", b"Z9999", b"ncols"];
 /// Words that are no counts, with the place at which each breaks.
 const COUNTS: [(&[u8], usize); 12] = [
@@ -64,12 +64,12 @@ const NO_SIDES: [&[u8]; 9] = [b"0", b"-0", b"0.00", b"-1", b"1000.01", b"9999999
 const NO_HEIGHTS: [&[u8]; 8] = [
     b"-500.01", b"9000.01", b"-999999999.98", b"999999999.98", b"-501", b"9001", b"-9998.99", b"100000.000000",
 ];
-const AFTER: [&[u8]; 9] = [b"0", b"x", b"\0", b"\x1A", b"12,5", b"-9999", b"9999999999", b"ncols", b"\x0C"];
+pub const AFTER: [&[u8]; 9] = [b"0", b"x", b"\0", b"\x1A", b"12,5", b"-9999", b"9999999999", b"ncols", b"\x0C"];
 
 /// A word put in the place of another one, and the number and place of its refusal, from its first byte.
-struct Fault {
-    index: usize,
-    word: &'static [u8],
+pub struct Fault {
+    pub index: usize,
+    pub word: &'static [u8],
     number: u32,
     place: usize,
 }
@@ -80,6 +80,15 @@ fn at_word(index: usize, word: &'static [u8], number: u32) -> Fault {
 }
 
 type Fails = fn(&mut Seed, &Field) -> Fault;
+
+/// The faults of one word.
+const FAULTS: [Fails; 7] =
+    [wrong_name, malformed_count, count_out_of_range, malformed, too_fine, side_out_of_range, height_out_of_range];
+
+/// Any fault of one word.
+pub fn fault(seed: &mut Seed, field: &Field) -> Fault {
+    seed.pick(&FAULTS)(seed, field)
+}
 
 /// A small field of any kind.
 fn small(seed: &mut Seed) -> Field {
@@ -159,10 +168,8 @@ fn spoiled(seed: &mut Seed, fails: Fails) -> Hostile {
 
 /// Words are judged in order, and the first fault decides.
 fn two_faults(seed: &mut Seed) -> Hostile {
-    let kinds: [Fails; 7] =
-        [wrong_name, malformed_count, count_out_of_range, malformed, too_fine, side_out_of_range, height_out_of_range];
     let field = small(seed);
-    let (one, other) = (seed.pick(&kinds)(seed, &field), seed.pick(&kinds)(seed, &field));
+    let (one, other) = (fault(seed, &field), fault(seed, &field));
     faulty(seed, &field, &[one, other])
 }
 
@@ -288,10 +295,16 @@ fn levels(seed: &mut Seed, cells: usize) -> Vec<Option<i64>> {
     (0..cells).map(|_| Some(100 * seed.between(0, 9)).filter(|&height| height != 0)).collect()
 }
 
-/// A good text with a few bytes changed, left out or put in, or cut off: whatever the reader says.
+/// A good text with a few bytes changed: whatever the reader says.
 fn mutated(seed: &mut Seed) -> Hostile {
     let (field, manner) = (small(seed), manner(seed));
     let mut bytes = spelling::text(seed, manner, &field).bytes;
+    mutate(seed, &mut bytes);
+    Hostile { bytes, known: None }
+}
+
+/// Changes a few bytes, leaves some out or puts some in, or cuts them off.
+pub fn mutate(seed: &mut Seed, bytes: &mut Vec<u8>) {
     for _ in 0..1 + seed.below(3) {
         let any = seed.below(256) as u8;
         let byte = if seed.once_in(8) { any } else { *seed.pick(b" \n\r\t019-.,+eN\0\x1A\x0B\xFF") };
@@ -305,5 +318,4 @@ fn mutated(seed: &mut Seed) -> Hostile {
             _ => bytes[at] ^= 1 << seed.below(8),
         }
     }
-    Hostile { bytes, known: None }
 }

@@ -12,7 +12,7 @@ use Rattle.numerals.specs.Writing.{Wrote}
 use Rattle.sheet.specs.InnerAnswers.{headNumbers}
 use Rattle.sheet.specs.declared.answers.Head.{Head}
 use Rattle.numerals.proofs.Writing.{wrote-as}
-use Rattle.sheet.proofs.Sizes.{header-few}
+use Rattle.text.proofs.Sizes.{header-few}
 use Rattle.sheet.proofs.InnerSheets.{text-long, head-refused, head-large, head-printed}
 use borrow.Author.Needs.{needs}
 use Rattle.sheet.proofs.print.Statement.{statement}

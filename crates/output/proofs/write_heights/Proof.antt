@@ -2,8 +2,8 @@
 use Prim.Native.Nat.{_≤_, _-_}
 use borrow.Author.Needs.{needs}
 use lib.ListN.{length}
-use Rattle.text_cases.proofs.show.write_heights.Statement.{statement}
-use Rattle.text_cases.proofs.show.write_heights.Tie as tie
+use Rattle.output.proofs.write_heights.Statement.{statement}
+use Rattle.output.proofs.write_heights.Tie as tie
 
 abbrev Inv-loop : tie.InvT-loop
 Inv-loop heights i₀ i = i ≤ length heights
