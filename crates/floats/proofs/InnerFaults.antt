@@ -1,13 +1,11 @@
 -- Which floats have a fault, by their bits: rounding never falls as a float rises, so the range is one of bits. Assumes nothing.
 use mathlib.Core.Path.{_≡_, refl, sym, ap, _∙_, subst}
-use mathlib.Core.Bool.{Bool, true, false, cond, _&&_, _||_, true≢false}
+use mathlib.Core.Bool.{Bool, true, false, cond, _||_}
 use Prim.Native.Nat.{ℕ, zero, suc, _*_, _/_, _^_, _≤_, _<_}
-use native.Mathlib.Nat.{le-refl}
 use native.Mathlib.Decide.{decLe}
 use native.Mathlib.Omega.{arith}
 use borrow.Author.Tests.{lt-ltb, le-ltb, le-leb, lt-leb}
-use lib.Dec.{leb, ltb}
-use lib.IntN.{ℤ, pos, negsuc, negℤ, _-ℤ_, +ℤ-idl}
+use lib.IntN.{ℤ, pos, negℤ, _-ℤ_, +ℤ-idl}
 use mir.Syntax.{w32}
 use mir.Val.{SFits, toZ, ofZ}
 use mir.Facts.{toZ-ofZ}
@@ -19,9 +17,6 @@ use Rattle.floats.specs.Answers.{faultOf, heightOf}
 use Rattle.floats.proofs.Units.{plus-in, plus-out, minus-in, minus-out}
 
 -- ---- heights of either sign
-
-plus-height : (k : ℕ) → heightIn (centimetres false k) ≡ leb k 900000
-plus-height k = refl
 
 minus-low : (k : ℕ) → k ≤ 50000 → heightIn (centimetres true k) ≡ true
 minus-low zero h = refl

@@ -1,9 +1,9 @@
 -- Rounding by a division and by a shift, as the functions do it. Assumes nothing.
-use mathlib.Core.Path.{_≡_, refl, sym, ap, _∙_, subst}
+use mathlib.Core.Path.{_≡_, sym, ap, _∙_, subst}
 use Prim.Native.Nat.{ℕ, suc, _+_, _-_, _*_, _/_, _%_, _^_, _≤_, _<_}
-use native.Mathlib.Nat.{le-of-lt, le-trans, mod-lt, mod-eq-of-lt, div-lt-iff-lt-mul, pow-suc, mul-comm, one-mul, mul-one, mul-le-mul, le-refl, lt-of-le-of-lt}
+use native.Mathlib.Nat.{le-of-lt, mod-lt, mod-eq-of-lt, div-lt-iff-lt-mul, pow-suc, mul-comm, one-mul, mul-one, mul-le-mul, le-refl, lt-of-le-of-lt}
 use native.Mathlib.Omega.{arith}
-use lib.Dec.{lit≤, lit<}
+use lib.Dec.{lit<}
 use lib.Pow.{pow-pos, pow-mono}
 use Rattle.floats.specs.Rounding.{nearest}
 use Rattle.floats.proofs.Nearest.{nearest-down, nearest-up, nearest-half, nearest-shift, nearest-le}

@@ -1,10 +1,10 @@
 -- A NoData number of 64 bits and its sign, as `nearest_float` takes it apart. Assumes nothing.
 use mathlib.Core.Path.{_≡_, refl, sym, ap, _∙_, subst}
 use mathlib.Core.Bool.{Bool, true, false, true≢false, cond}
-use Prim.Native.Nat.{ℕ, zero, suc, _+_, _-_, _≤_}
+use Prim.Native.Nat.{ℕ, suc, _+_, _-_, _≤_}
 use native.Mathlib.Omega.{arith}
 use borrow.Author.Tests.{ltb-true, le-ltb}
-use lib.Dec.{T, ltb}
+use lib.Dec.{T}
 use lib.IntN.{ℤ, pos, negsuc, natAbs, _-ℤ_}
 use lib.Signed.{ltZ, nonNeg, natAbs-le}
 use mir.Syntax.{w64}
@@ -30,9 +30,6 @@ minus-one-less k =
 module _ (z : ℤ) (f : SFits w64 z) (h : ltZ (toZ w64 (ofZ w64 z)) (pos 0) ≡ true) where
   split : (k : ℕ) × Below z k
   split = below z f (rw (toZ-ofZ f) at h)
-
-  depth : ℕ
-  depth = split .0
 
   depth-is : negsuc 0 -ℤ toZ w64 (ofZ w64 z) ≡ pos (split .0)
   depth-is = ap (λ (x : ℤ). negsuc 0 -ℤ x) (toZ-ofZ f ∙ split .1 .is) ∙ minus-one-less (split .0)

@@ -1,5 +1,5 @@
 -- `floats::read_floats` meets its contract. Assumes nothing.
-use mathlib.Core.Path.{_≡_, sym, ap, _∙_, subst}
+use mathlib.Core.Path.{sym, ap, _∙_, subst}
 use denote.Ref.{now}
 use Rattle.text.specs.Answers.{outcomeOf}
 use Rattle.text.proofs.Sizes.{FewIn, lone-few}

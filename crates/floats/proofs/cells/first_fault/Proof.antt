@@ -1,8 +1,7 @@
 -- `floats::cells::first_fault` meets its contract. Assumes nothing.
-use mathlib.Core.Path.{_≡_, sym, ap, _∙_}
+use mathlib.Core.Path.{sym, ap, _∙_}
 use Prim.Native.Nat.{_≤_, _-_}
 use native.Mathlib.Omega.{arith}
-use denote.Ref.{now}
 use Rattle.floats.specs.Answers.{faultOf}
 use Rattle.floats.proofs.InnerCells.{ClearTo, clear-none, clear-more, first-fault, all-clear}
 use Rattle.floats.proofs.cells.first_fault.Statement.{statement}

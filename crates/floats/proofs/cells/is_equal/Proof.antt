@@ -1,8 +1,6 @@
 -- `floats::cells::is_equal` meets its contract. Assumes nothing.
-use mathlib.Core.Path.{refl, sym}
-use mathlib.Core.Bool.{true, false, _||_, _&&_}
+use mathlib.Core.Path.{refl}
 use borrow.Author.Tests.{eq-eqb, ne-eqb}
-use lib.Dec.{eqb}
 use Rattle.floats.specs.Floats.{magnitude, equal}
 use Rattle.floats.proofs.cells.is_equal.Statement.{statement}
 use Rattle.floats.proofs.cells.is_equal.Tie as tie

@@ -1,6 +1,5 @@
 -- `floats::rounding::quotient` meets its contract. Assumes nothing.
 use native.Mathlib.Omega.{arith}
-use native.Mathlib.Nat.{mod-lt}
 use Rattle.floats.proofs.InnerRounding.{quotient-few, rest-le, down-is, up-is, half-is}
 use borrow.Author.Needs.{needs}
 use Rattle.floats.proofs.rounding.quotient.Statement.{statement}
