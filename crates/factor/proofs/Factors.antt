@@ -1,11 +1,10 @@
--- The class of an exponent, how large a factor can be, and the two cases of a cell. Assumes nothing.
-use mathlib.Core.Path.{_≡_, refl}
+-- The bounds of an exponent, how large a factor can be, and the two cases of a cell. Assumes nothing.
+use mathlib.Core.Path.{_≡_}
 use mathlib.Core.Bool.{Bool, true, false, cond}
-use Prim.Native.Nat.{ℕ, _+_, _*_, _≤_, _<_}
+use Prim.Native.Nat.{ℕ, _*_, _≤_, _<_}
 use native.Mathlib.Nat.{mul-le-mul}
 use native.Mathlib.Omega.{arith}
-use borrow.Author.Tests.{leb-true, leb-false, ltb-true, ltb-false, lt-ltb, le-ltb}
-use mir.Val.{boolByte}
+use borrow.Author.Tests.{lt-ltb, le-ltb}
 use lib.Dec.{leb, ltb}
 use Rattle.factor.specs.Exponent.{exponentOf}
 use Rattle.factor.specs.LengthFactor.{millimetres, greatestMm, reached, lengthFactor}
@@ -15,30 +14,15 @@ use Rattle.factor.specs.Grid.{noDataFactor}
 use Rattle.laws.proofs.Greatest.{greatest-within}
 use Rattle.factor.proofs.Sines.{sine-within}
 
-pub exponent-in : (c q : ℕ) → exponentOf c q ≤ 5
+pub exponent-in : (c q : ℕ) → (2 ≤ exponentOf c q) × (exponentOf c q ≤ 5)
 unfolding exponentOf
 exponent-in c q = go (leb (c * c) (200 * q)) (ltb (9 * (c * c)) (5000 * q)) (leb (c * c) (5000 * q))
   where
-    go : (a b d : Bool) → cond a 5 (cond b 4 (cond d 3 2)) ≤ 5
-    go true b d = omega arith
-    go false true d = omega arith
-    go false false true = omega arith
-    go false false false = omega arith
-
--- a class counts the tests of the exponents 3/10, 4/10 and 5/10 that hold: each implies those before it
-pub class-is : (c q : ℕ) → 1 ≤ c → boolByte (leb (c * c) (5000 * q)) + boolByte (ltb (9 * (c * c)) (5000 * q)) + boolByte (leb (c * c) (200 * q)) + 2 ≡ exponentOf c q
-unfolding exponentOf
-class-is c q h = go (leb (c * c) (5000 * q)) (ltb (9 * (c * c)) (5000 * q)) (leb (c * c) (200 * q)) refl refl refl
-  where
-    go : (three four five : Bool) → leb (c * c) (5000 * q) ≡ three → ltb (9 * (c * c)) (5000 * q) ≡ four → leb (c * c) (200 * q) ≡ five →
-        boolByte three + boolByte four + boolByte five + 2 ≡ cond five 5 (cond four 4 (cond three 3 2))
-    go true true true x y z = refl
-    go true true false x y z = refl
-    go true false false x y z = refl
-    go false false false x y z = refl
-    go true false true x y z = absurd (omega (arith, mul-le-mul h h, ltb-false (9 * (c * c)) (5000 * q) y, leb-true (c * c) (200 * q) z))
-    go false true five x y z = absurd (omega (arith, leb-false (c * c) (5000 * q) x, ltb-true (9 * (c * c)) (5000 * q) y))
-    go false false true x y z = absurd (omega (arith, leb-false (c * c) (5000 * q) x, leb-true (c * c) (200 * q) z))
+    go : (a b d : Bool) → (2 ≤ cond a 5 (cond b 4 (cond d 3 2))) × (cond a 5 (cond b 4 (cond d 3 2)) ≤ 5)
+    go true b d = (omega arith, omega arith)
+    go false true d = (omega arith, omega arith)
+    go false false true = (omega arith, omega arith)
+    go false false false = (omega arith, omega arith)
 
 pub length-factor-within : (k mm : ℕ) → lengthFactor k mm ≤ 1000
 unfolding lengthFactor

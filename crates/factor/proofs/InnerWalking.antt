@@ -1,5 +1,5 @@
 -- The pass along the order: when a cell's turn comes, its length and its LS are those of the definitions, and it hands on what it brings. Assumes nothing.
-use mathlib.Core.Path.{_≡_, refl, sym, ap, ap₂, subst, _∙_}
+use mathlib.Core.Path.{_≡_, sym, ap, ap₂, subst, _∙_}
 use mathlib.Core.List.{List}
 use mathlib.Core.Logic.{⊎-elim}
 use mathlib.Core.Bool.{Bool, true, false, cond}
@@ -55,8 +55,6 @@ pub record Charted (rows : ℕ) (lv : List ℕ) (rules : Rules) (terms : Terms) 
   pub directed : Directed rows (terms .columns) dir
   pub capped : (x : ℕ) → getD lv x 0 ≤ top
   pub ruled : Ruled rules terms
-  pub side-some : 1 ≤ terms .side
-  pub side-small : terms .side ≤ 100000
   pub count-long : length count ≡ rows * terms .columns
   pub channel : (x : ℕ) → x < rows * terms .columns → ltb (terms .most) (getD count x 0) ≡ channelAt rows (terms .columns) rules count x
   pub order-is : Downhill rows (terms .columns) dir order places
@@ -169,8 +167,6 @@ module _ {rows : ℕ} {lv dir count order : List ℕ} {places : ℕ} {rules : Ru
         record {
           rules = rules;
           ruled = c .ruled;
-          side-some = c .side-some;
-          side-small = c .side-small;
           dir-in = omega (arith, here-in, c .directed .long);
           count-in = omega (arith, here-in, c .count-long);
           lengths-in = omega (arith, here-in, w .handing .long);
@@ -246,14 +242,12 @@ module _ {rows cols side : ℕ} {lv dir count order lengths factors : List ℕ} 
 
   pub measure-charted : {low high most : ℕ} → low ≡ leftBy (rules .low) → high ≡ leftBy (rules .high) →
       ((x : ℕ) → x < rows * cols → ltb most (getD count x 0) ≡ channelAt rows cols rules count x) →
-      Charted rows lv rules (record { columns = cols; side = side; square = side * side; low = low; high = high; most = most }) dir count order places
+      Charted rows lv rules (record { columns = cols; side = side; low = low; high = high; most = most }) dir count order places
   measure-charted l h q =
       record {
         directed = m .directed;
         capped = m .capped;
-        ruled = record { square-is = refl; low-is = l; high-is = h };
-        side-some = m .side-some;
-        side-small = m .side-small;
+        ruled = record { side-some = m .side-some; side-small = m .side-small; low-is = l; high-is = h };
         count-long = m .count-long;
         channel = q;
         order-is = m .order-is;

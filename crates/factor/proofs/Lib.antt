@@ -3,6 +3,7 @@ pub mod Power
 pub mod Sines
 pub mod Factors
 pub mod Slopes
+pub mod Percents
 pub mod Lengths
 pub mod Judging
 pub mod Answers

@@ -16,9 +16,10 @@ use Rattle.factor.specs.Inflow.{startLength}
 use Rattle.factor.specs.Inner.{greatestFall, greatestLength, steepnessOf, finalLength, leftBy, broughtBy}
 use Rattle.factor.specs.declared.pass.Terms.{Terms}
 
--- the terms are those of these rules: the square of the cell side, and what the cutoffs leave, squared
+-- the terms are those of these rules: an accepted cell side, and what the cutoffs leave, squared
 pub record Ruled (rules : Rules) (terms : Terms) : Type 0 where
-  pub square-is : terms .square ≡ terms .side * terms .side
+  pub side-some : 1 ≤ terms .side
+  pub side-small : terms .side ≤ 100000
   pub low-is : terms .low ≡ leftBy (rules .low)
   pub high-is : terms .high ≡ leftBy (rules .high)
 
@@ -32,8 +33,6 @@ bearingAt dir x = trailingZeros 8 (getD dir x 0)
 pub record Turning (terms : Terms) (dir count lengths factors : List ℕ) (x : ℕ) : Type 0 where
   pub rules : Rules
   pub ruled : Ruled rules terms
-  pub side-some : 1 ≤ terms .side
-  pub side-small : terms .side ≤ 100000
   pub dir-in : x < length dir
   pub count-in : x < length count
   pub lengths-in : x < length lengths

@@ -1,5 +1,6 @@
 -- What `factor::map` promises is stated in the files from Slope to Answers; only inner functions cite Inner and InnerPass.
 pub mod Slope
+pub mod Percent
 pub mod Channel
 pub mod Inflow
 pub mod Length

@@ -3,10 +3,11 @@ ghost use mathlib.Core.Path.{_≡_};
 ghost use Rattle.factor.specs.Cell.{factorOf};
 ghost use Rattle.factor.specs.Steepness.{steepnessFactor};
 ghost use Rattle.factor.specs.Inner.{Sloping, Measured};
-use crate::exponent::class_of;
+use crate::exponent::exponent_of;
 use crate::guess::Guesses;
 use crate::guess::length_factor;
 use crate::guess::sine_of;
+use crate::slope::Slope;
 use crate::thresholds::Lists;
 
 // The greatest length in mm that has a factor.
@@ -40,6 +41,7 @@ pub(crate) fn factor_of(
     if GREATEST_MM < mm {
         return TOO_LONG;
     }
-    let t = length_factor(class_of(side, q), mm as u32, lists, guesses) as u64;
+    let class = exponent_of(Slope { side, q }) - 2;
+    let t = length_factor(class, mm as u32, lists, guesses) as u64;
     (t * steepness_factor(side, q, fall, guesses)) as u32
 }

@@ -14,7 +14,7 @@ ghost use Rattle.settings.specs.declared.Rules.{Rules};
 ghost use Rattle.factor.specs.Inflow.{cutoffFor};
 ghost use Rattle.factor.specs.Length.{lengthsOf};
 ghost use Rattle.factor.specs.Grid.{factorsOf};
-ghost use Rattle.factor.specs.Inner.{steepest, greatestLength, finalLength, leftBy, broughtBy, Listed};
+ghost use Rattle.factor.specs.Inner.{steepest, greatestLength, finalLength, leftBy, broughtBy, Sloping, Listed};
 ghost use Rattle.factor.specs.InnerPass.{Ruled, Turning, Turned, Measuring};
 use crate::cell::factor_of;
 use crate::channel::channel_bound;
@@ -24,17 +24,17 @@ use crate::inflow::amount_of;
 use crate::inflow::left_by;
 use crate::inflow::start_length;
 use crate::inflow::step_over;
+use crate::slope::Slope;
 use crate::slope::steepness_of;
 use crate::thresholds;
 use crate::thresholds::Lists;
 use settings::Rules;
 
-// What lengths are measured by: the columns of the map, its cell side in cm and the square of that, what the low and the high cutoff
-// leave, squared, and the greatest count that is no channel's. The squares are made once for a map, and each cell compares with them.
+// What lengths are measured by: the columns of the map, its cell side in cm, what the low and the high cutoff leave, squared, and the
+// greatest count that is no channel's. The squares are made once for a map, and each cell compares with them.
 pub(crate) struct Terms {
     columns: usize,
     side: u32,
-    square: u64,
     low: u64,
     high: u64,
     most: u64,
@@ -69,13 +69,17 @@ fn beside(columns: usize, shifts: &[usize; 8], x: usize, k: usize) -> usize
 
 // What is left, squared, by the cutoff that a cell of steepness q uses for its inflows.
 fn left_for(terms: Terms, q: u64) -> u64
-    requires { ⌜ q ≤ steepest ⌝ }
+    requires { ⌜ Sloping (terms .side) q ⌝ }
     ensures { λ r. ⌜ ((rules : Rules) → Ruled rules terms → r ≡ leftBy (cutoffFor (rules .low) (rules .high) (terms .side) q)) ⌝ }
 {
-    if 200 * q < terms.square {
-        return terms.low;
+    let slope = Slope {
+        side: terms.side,
+        q,
+    };
+    if slope.is_at_least(5) {
+        return terms.high;
     }
-    terms.high
+    terms.low
 }
 
 // What an inflow of steepness p and this length brings to its neighbour k, a cell of steepness q whose length would start with `start`.
@@ -154,12 +158,10 @@ pub(crate) fn measure(
         (now (lengths .exit) ≡ lengthsOf rows columns side rules lv (now (direction .entry)) (now (count .entry)))
         × (now (factors .exit) ≡ factorsOf rows columns side lv (now (direction .entry)) (now (lengths .exit)))) ⌝ }
 {
-    let square = (side as u64) * (side as u64);
     let threshold = rules.threshold;
     let terms = Terms {
         columns: columns,
         side: side,
-        square: square,
         low: left_by(rules.low),
         high: left_by(rules.high),
         most: channel_bound(threshold, largest(count)),

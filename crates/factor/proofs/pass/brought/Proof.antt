@@ -9,7 +9,9 @@ use Rattle.factor.proofs.pass.brought.Statement.{statement}
 use Rattle.factor.proofs.pass.brought.Tie as tie
 
 left-for-requires : tie.Need-left-for-requires
-left-for-requires c κs = search needs
+left-for-requires c κs =
+    let r = c .pre .3 .1 in
+    record { side-some = r .side-some; side-small = r .side-small; steepness-small = omega (arith, c .pre .1) }
 
 step-over-requires : tie.Need-step-over-requires
 step-over-requires c κs = search needs

@@ -2,7 +2,6 @@
 use mathlib.Core.Path.{_≡_, refl, subst, _∙_}
 use mathlib.Core.List.{List}
 use Prim.Native.Nat.{ℕ, _*_, _-_, _≤_, _<_}
-use native.Mathlib.Nat.{mul-le-mul}
 use native.Mathlib.Omega.{arith}
 use lib.Dec.{ltb}
 use lib.ListN.{length, getD}
@@ -16,14 +15,14 @@ use Rattle.factor.proofs.pass.measure.Statement.{statement}
 use Rattle.factor.proofs.pass.measure.Tie as tie
 
 abbrev Inv-loop : tie.InvT-loop
-Inv-loop columns side direction count order places lengths₀ factors₀ square terms shifts lists guesses₀ place₀ lengths factors guesses place =
+Inv-loop columns side direction count order places lengths₀ factors₀ terms shifts lists guesses₀ place₀ lengths factors guesses place =
     (length lengths ≡ length lengths₀) × (length factors ≡ length factors₀) × (place ≤ places)
     × ((rows : ℕ) (lv : List ℕ) (rules : Rules) → Charted rows lv rules terms direction count order places →
     Walking rows (terms .columns) (terms .side) rules lv direction count order lengths₀ factors₀ 0 →
     Walking rows (terms .columns) (terms .side) rules lv direction count order lengths factors place)
 
 abbrev μ-loop : tie.MeasureT-loop
-μ-loop columns side direction count order places lengths₀ factors₀ square terms shifts lists guesses₀ place₀ lengths factors guesses place =
+μ-loop columns side direction count order places lengths₀ factors₀ terms shifts lists guesses₀ place₀ lengths factors guesses place =
     places - place
 
 -- the arguments, and what the cutoffs leave, from the channel rule's bound on; and the cleared lengths, from the loop on
@@ -49,9 +48,6 @@ channels c rows e =
     let s = start c in
     bounded rows (s .args .columns) (s .args .rules) (c .channel-bound .result) (s .args .count .now) e
     (subst (λ (n : ℕ). (k : ℕ) → k ≤ n → ltb (c .channel-bound .result) k ≡ isChannel (s .args .rules .threshold) n k) (c .before .largest .ensures) (c .channel-bound .ensures))
-
-mul-square : tie.Need-mul-square Inv-loop μ-loop
-mul-square c = let h = c .before .before .before .before .before .pre .2 .side-small in omega (arith, mul-le-mul h h)
 
 left-by-requires : tie.Need-left-by-requires Inv-loop μ-loop
 left-by-requires c κs = search needs
@@ -149,7 +145,6 @@ measure-spec =
     (tie.spec
     Inv-loop
     μ-loop
-    mul-square
     left-by-requires
     left-by-requires-2
     largest-requires

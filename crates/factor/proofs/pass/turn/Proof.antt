@@ -101,7 +101,7 @@ factor-of-requires c κs =
     let s = start t in
     let small = steepness-small {fall = getD (s .args .factors .now) (s .args .x) 0} (s .pre .0 .fall-small) in
     record {
-      sloping = record { side-some = s .pre .0 .side-some; side-small = s .pre .0 .side-small; steepness-small = omega (arith, c .before .steepness-of .ensures, small) };
+      sloping = record { side-some = s .pre .0 .ruled .side-some; side-small = s .pre .0 .ruled .side-small; steepness-small = omega (arith, c .before .steepness-of .ensures, small) };
       length-small = omega (arith, length-small t);
       listed = s .pre .1;
     }
