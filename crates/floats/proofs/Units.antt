@@ -1,6 +1,7 @@
 -- The exact size of a float rises with its bits, and which floats are in range: their cm by a shift, and the last floats within the bounds of heights.
 -- Assumes nothing.
-use mathlib.Core.Path.{_≡_, sym, ap, ap₂, _∙_}
+use mathlib.Core.Path.{_≡_, refl, sym, ap, ap₂, _∙_, subst}
+use mathlib.Core.Bool.{Bool, true, false}
 use Prim.Native.Nat.{ℕ, zero, suc, _+_, _-_, _*_, _/_, _%_, _^_, _≤_, _<_, zero-le}
 use native.Mathlib.Nat.{div-eq-of-lt, mod-eq-of-lt, mul-one, mul-assoc, mul-le-mul-left, mul-lt-mul-of-pos-right, pow-suc}
 use native.Mathlib.Nat.{le-trans, lt-trans, lt-of-lt-of-le, le-of-eq, le-of-lt, le-antisymm}
@@ -8,11 +9,13 @@ use native.Mathlib.Decide.{decLt, ℕ-discrete}
 use native.Mathlib.Omega.{arith}
 use borrow.Author.Tests.{lt-ltb, le-ltb}
 use lib.Dec.{ltb, lit≤, lit<, eqb·suc-zero}
+use lib.IntN.{natAbs}
 use lib.Pow.{pow-pos, pow-mono, pow-add, high, low}
 use Rattle.laws.proofs.First.{first-is}
-use Rattle.floats.specs.Floats.{units, metre}
-use Rattle.floats.specs.Rounding.{nearest, doublings}
-use Rattle.floats.proofs.Nearest.{nearest-scale, nearest-mono}
+use Rattle.text.specs.Numbers.{centimetres}
+use Rattle.floats.specs.Floats.{sign, magnitude, units, metre}
+use Rattle.floats.specs.Rounding.{nearest, Near, cm, doublings}
+use Rattle.floats.proofs.Nearest.{nearest-near, nearest-scale, nearest-mono}
 
 -- ---- the units, by the doublings e of a whole number s
 
@@ -71,6 +74,18 @@ pub units-mono : (a b : ℕ) → a ≤ b → units a ≤ units b
 units-mono a b h = elim (ℕ-discrete a b) [ yes e ↦ le-of-eq (ap units e) | no f ↦ le-of-lt (units-rise a b (omega (arith, f))) ]
 
 -- ---- the cm of a float
+
+-- They are near its exact value: twice the distance, in units of 2 ^ -149 cm, is at most 2 ^ 149, and where it is that, they are even.
+pub cm-near : (b : ℕ) → Near (100 * units (magnitude b)) metre (natAbs (cm b))
+unfolding cm
+cm-near b =
+    let n = 100 * units (magnitude b) in
+    subst (Near n metre) (sym (size-of (sign b) (nearest n metre))) (nearest-near n metre (pow-pos 149))
+  where
+    size-of : (minus : Bool) (k : ℕ) → natAbs (centimetres minus k) ≡ k
+    size-of false k = refl
+    size-of true zero = refl
+    size-of true (suc k) = refl
 
 cm-mono : (a b : ℕ) → a ≤ b → nearest (100 * units a) metre ≤ nearest (100 * units b) metre
 cm-mono a b h = nearest-mono (100 * units a) (100 * units b) metre (pow-pos 149) (mul-le-mul-left 100 (units-mono a b h))

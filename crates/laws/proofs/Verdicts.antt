@@ -1,5 +1,5 @@
 -- Laws of the tests of a call: what one test gives, and what a list of them does. Assumes nothing.
-use mathlib.Core.Path.{_≡_, refl, sym, ap}
+use mathlib.Core.Path.{_≡_, refl, sym, ap, _∙_}
 use mathlib.Core.List.{List, [], _∷_, _++_}
 use mathlib.Core.Bool.{Bool, true, false}
 use Prim.Native.Nat.{ℕ, _≤_}
@@ -42,6 +42,14 @@ pub verdict-passed : (t : Test) (l : List Test) → verdict (t ∷ l) ≡ passed
 unfolding verdict
 verdict-passed passed l e = (refl, e)
 verdict-passed (failed number place) l e = absurd (passed-failed (sym e))
+
+-- if all of two lists are passed, all of each are
+pub verdict-parts : (l m : List Test) → verdict (l ++ m) ≡ passed → (verdict l ≡ passed) × (verdict m ≡ passed)
+verdict-parts [] m e = (verdict-none, e)
+verdict-parts (t ∷ l) m e =
+    let w = verdict-passed t (l ++ m) e in
+    let p = verdict-parts l m (w .1) in
+    (verdict-next l (w .0) ∙ p .0, p .1)
 
 -- one list of tests after another: the first list decides if it fails
 pub verdict-before : (l m : List Test) {number place : ℕ} → verdict l ≡ failed number place → verdict (l ++ m) ≡ failed number place

@@ -1,7 +1,7 @@
 -- Laws of the ranges: what is known of a size, a side and heights that are accepted, and when each test of a call is passed. Assumes nothing.
 use mathlib.Core.Path.{_≡_, refl, sym, ap, ap₂, _∙_}
 use mathlib.Core.List.{List, [], _∷_}
-use mathlib.Core.Bool.{Bool, true, false, not, _&&_}
+use mathlib.Core.Bool.{Bool, true, false, not, _&&_, true≢false}
 use Prim.Native.Nat.{ℕ, _*_, _≤_, _<_}
 use native.Mathlib.Nat.{le-trans, mul-le-mul-right}
 use native.Mathlib.Omega.{arith}
@@ -116,6 +116,13 @@ bits-none z f e = sym (toZ-ofZ f) ∙ ap (toZ w32) e
 
 pub none-bits : (z : ℤ) → (ofZ w32 z ≡ 4293967396 → ⊥) → z ≡ noDataHeight → ⊥
 none-bits z d e = d (ap (ofZ w32) e)
+
+-- numbers that are the same to the reader are equal
+pub same-equal : (a b : ℤ) → same a b ≡ true → a ≡ b
+same-equal (pos a) (pos b) e = let w = and-both (leb a b) (leb b a) e in ap pos (omega (arith, leb-true a b (w .0), leb-true b a (w .1)))
+same-equal (pos a) (negsuc b) e = absurd (true≢false (sym e))
+same-equal (negsuc a) (pos b) e = absurd (true≢false (sym e))
+same-equal (negsuc a) (negsuc b) e = let w = and-both (leb b a) (leb a b) e in ap negsuc (omega (arith, leb-true b a (w .0), leb-true a b (w .1)))
 
 -- a height is NoData, or the test says that it is not
 pub same-not : (z : ℤ) → (z ≡ noDataHeight → ⊥) → same z noDataHeight ≡ false

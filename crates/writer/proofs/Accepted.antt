@@ -7,7 +7,7 @@ use native.Mathlib.Omega.{arith}
 use lib.IntN.{ℤ}
 use lib.ListN.{length, getD}
 use Rattle.laws.specs.Tests.{Test, passed, verdict}
-use Rattle.laws.proofs.Verdicts.{test-passed, verdict-none, verdict-next, verdict-passed}
+use Rattle.laws.proofs.Verdicts.{test-passed, verdict-passed, verdict-parts}
 use Rattle.text.specs.Quantities.{noDataHeight}
 use Rattle.text.specs.Numbers.{Form, formed, malformed, Number, numberAt, isFormed, isNumber}
 use Rattle.text.specs.Ranges.{sizeAccepted, sideAccepted, heightAccepted, heightTest}
@@ -66,14 +66,6 @@ corner-short w e = go (is-right w e)
     go : RightNumber w → length w ≤ 17
     go r = rest (sign (r .sign)) (r .few) (r .decimals)
 
--- all tests of two lists are passed, so all of each are
-pub parts-passed : (l m : List Test) → verdict (l ++ m) ≡ passed → (verdict l ≡ passed) × (verdict m ≡ passed)
-parts-passed [] m e = (verdict-none, e)
-parts-passed (t ∷ l) m e =
-    let w = verdict-passed t (l ++ m) e in
-    let p = parts-passed l m (w .1) in
-    (verdict-next l (w .0) ∙ p .0, p .1)
-
 -- the tests of a frame are passed
 module _ (f : Frame) (n : ℕ) (e : verdict (frameTests f n) ≡ passed) where
   pub frame-accepted : FrameAccepted f × (n ≡ f .rows * f .columns)
@@ -103,7 +95,7 @@ module _ (f : Frame) (hs : List ℤ) (room : List ℕ) where
   heights-accepted e =
       let n = f .rows * f .columns in
       let rest = roomTest (textOf f (heightCells f hs .words)) room ∷ [] in
-      let p = parts-passed (frameTests f (length hs)) (heightTest n hs ∷ []) (parts-passed (frameTests f (length hs) ++ (heightTest n hs ∷ [])) rest e .0) in
+      let p = verdict-parts (frameTests f (length hs)) (heightTest n hs ∷ []) (verdict-parts (frameTests f (length hs) ++ (heightTest n hs ∷ [])) rest e .0) in
       let w = frame-accepted f (length hs) (p .0) in
       let each = height-passed n hs (verdict-passed (heightTest n hs) [] (p .1) .0) in
       record { frame = w .0; cells = w .1; each = λ x l. each x (subst (λ (k : ℕ). x < k) (w .1) l) }

@@ -1,6 +1,6 @@
 -- What the reader makes of the words that the writer writes: metres, NoData, and the word of a height. Assumes nothing.
 use mathlib.Core.Path.{_≡_, refl, sym, ap, ap₂, _∙_}
-use mathlib.Core.Bool.{Bool, true, false, cond, _&&_, _||_, true≢false}
+use mathlib.Core.Bool.{Bool, true, false, cond, _&&_, _||_}
 use mathlib.Core.List.{List, [], _∷_, _++_}
 use Prim.Native.Nat.{ℕ, suc, _+_, _-_, _*_, _/_, _%_, _<_, _≤_}
 use native.Mathlib.Omega.{arith}
@@ -16,6 +16,7 @@ use Rattle.text.specs.Reader.{got}
 use Rattle.text.specs.Words.{run}
 use Rattle.text.specs.Numbers.{digit, zero, value, formed, Number, decimals, wholeAndDecimals, numberAt, centimetres}
 use Rattle.text.specs.Heights.{same, height}
+use Rattle.text.proofs.Accepted.{same-equal}
 use Rattle.text.proofs.Bytes.{digit-range}
 use Rattle.text.proofs.Every.{every-each}
 use Rattle.text.proofs.InnerRuns.{run-lower}
@@ -125,13 +126,6 @@ unfolding numberAt decimals none bytes run value
 none-form = refl
 
 -- ---- the words of heights
-
--- numbers that are the same to the reader are equal
-same-equal : (a b : ℤ) → same a b ≡ true → a ≡ b
-same-equal (pos a) (pos b) e = let w = and-both (leb a b) (leb b a) e in ap pos (omega (arith, leb-true a b (w .0), leb-true b a (w .1)))
-same-equal (pos a) (negsuc b) e = absurd (true≢false (sym e))
-same-equal (negsuc a) (pos b) e = absurd (true≢false (sym e))
-same-equal (negsuc a) (negsuc b) e = let w = and-both (leb b a) (leb a b) e in ap negsuc (omega (arith, leb-true b a (w .0), leb-true a b (w .1)))
 
 pub height-small : (z : ℤ) → heightIn z ≡ true → natAbs z ≤ 900000
 height-small (pos n) e = omega (arith, leb-true n 900000 e)

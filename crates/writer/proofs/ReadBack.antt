@@ -11,7 +11,7 @@ use lib.IntN.{ℤ, natAbs}
 use lib.ListN.{length, drop, length-map}
 use lib.Seq.{sets-eq}
 use Rattle.laws.specs.Tests.{passed}
-use Rattle.laws.proofs.Verdicts.{test-passed, verdict-passed}
+use Rattle.laws.proofs.Verdicts.{test-passed, verdict-passed, verdict-parts}
 use Rattle.text.specs.Headers.{header}
 use Rattle.text.specs.Heights.{grid}
 use Rattle.text.specs.Answers.{Outcome, GridOutcome, accepted, headerAnswer, cornersAnswer, gridAnswer}
@@ -20,7 +20,7 @@ use Rattle.writer.specs.Words.{heightWord}
 use Rattle.writer.specs.Text.{Frame, frame, headerWords, lines, textOf}
 use Rattle.writer.specs.Answers.{roomTest, frameTests, Cells, heightCells, judged, roomOf, after}
 use Rattle.writer.specs.InnerCells.{cellsFrom}
-use Rattle.writer.proofs.Accepted.{HeightsAccepted, parts-passed}
+use Rattle.writer.proofs.Accepted.{HeightsAccepted}
 use Rattle.writer.proofs.InnerRows.{text-flat}
 use Rattle.writer.proofs.HeightsBack.{body-back}
 use Rattle.writer.proofs.HeaderBack.{cut, frameHeader, HeadRead, head-back}
@@ -85,7 +85,7 @@ module _ (f : Frame) (c : Cells) (room : List ℕ) (e : judged f c room ≡ pass
   unfolding judged roomTest
   fits =
       let t = textOf f (c .words) in
-      let w = parts-passed (frameTests f (c .number) ++ c .tests) (roomTest t room ∷ []) e .1 in
+      let w = verdict-parts (frameTests f (c .number) ++ c .tests) (roomTest t room ∷ []) e .1 in
       let k = test-passed (not (ltb (length room) (length t))) 13 0 (verdict-passed (roomTest t room) [] w .0) in
       omega (arith, ltb-false (length room) (length t) (not-true (ltb (length room) (length t)) k))
 
