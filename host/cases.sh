@@ -3,7 +3,7 @@
 head='ncols 3 nrows 3 xllcorner 0 yllcorner 0 cellsize 10'
 
 # The printer's settings.
-printers='--channel none --low 0.5 --high 0.5'
+printers='--channel none --low 0.5 --high 0.5 --steepness older'
 
 # Sheets that are known: the pit of docs/RULES.md 8; and of the real grids the sums that the second program's sheets have,
 # with its limits of a printer (2,048 cells, 32,768 bytes) lifted for volcano.
