@@ -68,7 +68,7 @@ mapOf rows cols side rules ground dir =
     let lv = filledLevels rows cols ground in
     let count = countsOf rows cols dir in
     let lengths = lengthsOf rows cols side rules lv dir count in
-    lent (filledOf rows cols ground) dir count lengths (factorsOf rows cols side lv dir lengths) (replicate (rows * cols) 0)
+    lent (filledOf rows cols ground) dir count lengths (factorsOf rows cols side (rules .formula) lv dir lengths) (replicate (rows * cols) 0)
 
 -- The answer also gives the number of valid cells and the longest trail; a refusal has number and place
 unfoldable pub answerOf : ℕ → ℕ → List ℤ → Test → Answer

@@ -15,6 +15,7 @@ mod pass;
 mod search;
 mod sine;
 mod slope;
+mod steepness;
 mod thresholds;
 
 pub use cell::TOO_LONG;
