@@ -23,8 +23,8 @@ use Rattle.terrain.specs.declared.Answer.the-variants as drained
 use Rattle.terrain.proofs.Public.{passed-ready, filled-small, directions-directed, counts-long}
 use Rattle.factor.specs.Length.{lengthsOf}
 use Rattle.factor.specs.Grid.{factorsOf}
-use Rattle.factor.specs.Answers.{Grids, lent, judged, mapOf, answerOf, gridsOf, answer, after, accepts}
-use Rattle.factor.specs.Inner.{firstTests, Promised}
+use Rattle.factor.specs.Answers.{Grids, lent, judged, mapOf, answerOf, gridsOf, answer, after, firstTests, accepts}
+use Rattle.factor.specs.Inner.{Promised}
 use Rattle.factor.specs.InnerPass.{Measuring}
 use Rattle.factor.specs.declared.Answer.{Answer}
 use Rattle.factor.specs.declared.Answer.the-variants.{Accepted, Refused}
