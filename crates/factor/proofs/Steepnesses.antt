@@ -65,8 +65,12 @@ unfolding isSteep
 gentle-sine c q e =
     let h = leb-false (81 * (c * c)) (5000 * q) e in
     elim (decLt 89 (sineOf c q)) [
-      | yes l ↦ absurd (omega (arith, h, leb-true (90 * 90 * (q + 2 * (c * c))) (1000000 * q)
-          (sine-falling c q 1000 90 (sineOf c q) (omega arith) (omega (arith, l)) (sine-within c q) (sine-reaches c q (omega (arith, l))))))
+      | yes l ↦ absurd (omega (
+        arith,
+        h,
+        leb-true (90 * 90 * (q + 2 * (c * c))) (1000000 * q)
+            (sine-falling c q 1000 90 (sineOf c q) (omega arith) (omega (arith, l)) (sine-within c q) (sine-reaches c q (omega (arith, l)))),
+      ))
       | no f ↦ omega (arith, f)
     ]
 

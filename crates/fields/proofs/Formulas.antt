@@ -46,7 +46,46 @@ formulas =
 
 pub formulas-hold : All formulas
 unfolding formulas answer after sizeTest lengthTest sideTest settingsTest heightTest sineOf steepnessFactor
-formulas-hold =
-    ((refl, refl, refl), ((refl, refl, refl), ((refl, refl, refl), ((refl, refl, refl), ((refl, refl, refl), ((refl, refl, refl), ((refl, refl, refl),
-    ((refl, refl, refl), ((refl, refl, refl), ((refl, refl, refl), ((refl, refl, refl), ((refl, refl, refl), ((refl, refl, refl), ((refl, refl, refl),
-    ((refl, refl, refl), ((refl, refl), tt))))))))))))))))
+formulas-hold = (
+  (refl, refl, refl),
+  (
+    (refl, refl, refl),
+    (
+      (refl, refl, refl),
+      (
+        (refl, refl, refl),
+        (
+          (refl, refl, refl),
+          (
+            (refl, refl, refl),
+            (
+              (refl, refl, refl),
+              (
+                (refl, refl, refl),
+                (
+                  (refl, refl, refl),
+                  (
+                    (refl, refl, refl),
+                    (
+                      (refl, refl, refl),
+                      (
+                        (refl, refl, refl),
+                        (
+                          (refl, refl, refl),
+                          (
+                            (refl, refl, refl),
+                            ((refl, refl, refl), ((refl, refl), tt)),
+                          ),
+                        ),
+                      ),
+                    ),
+                  ),
+                ),
+              ),
+            ),
+          ),
+        ),
+      ),
+    ),
+  ),
+)
