@@ -3,7 +3,7 @@
 head='ncols 3 nrows 3 xllcorner 0 yllcorner 0 cellsize 10'
 
 # The printer's settings.
-printers='--channel none --low 0.5 --high 0.5'
+printers='--channel none --low 0.5 --high 0.5 --steepness older'
 
 # Sheets that are known: the pit of docs/RULES.md 8; and of the real grids the sums that the second program's sheets have,
 # with its limits of a printer (2,048 cells, 32,768 bytes) lifted for volcano.
@@ -69,14 +69,20 @@ files() {
     stops 2 '' 'cannot read standard input: Is a directory' - <folder.asc
 }
 
-# lengths HEIGHTS WORDS...: the slope lengths of a strip of heights.
-lengths() {
-    printf 'ncols %d nrows 1 xllcorner 0 yllcorner 0 cellsize 10 %s\n' "$(echo "$1" | wc -w)" "$1" >strip.asc
-    shift
-    "$lsmap" strip.asc "$@" | awk 'NR > 1 { printf " %s", $7 }'
+# column N HEIGHTS WORDS...: the Nth number of each cell of a strip of heights.
+column() {
+    number=$1
+    printf 'ncols %d nrows 1 xllcorner 0 yllcorner 0 cellsize 10 %s\n' "$(echo "$2" | wc -w)" "$2" >strip.asc
+    shift 2
+    "$lsmap" strip.asc "$@" | awk -v number="$number" 'NR > 1 { printf " %s", $number }'
 }
 
-# The strips of docs/RULES.md 8, by which each flag shows that it reaches the library as the setting that it names.
+# The slope lengths of a strip, and its LS.
+lengths() { column 7 "$@"; }
+factors() { column 8 "$@"; }
+
+# The strips of docs/RULES.md 8 and one of nine percent, by which each flag shows that it reaches the library as the setting
+# that it names.
 settings() {
     [ "$(lengths '9 8 7 5' --channel none)" = ' 5000 15000 25000 0' ] || fail "the default high cutoff, 0.5"
     [ "$(lengths '9 8.6 8.44 8.4' --channel none)" = ' 5000 15000 0 0' ] || fail "the default low cutoff, 0.7"
@@ -86,6 +92,9 @@ settings() {
     [ "$(lengths '9 8 7 5' --channel none --low 1.0)" = ' 5000 15000 25000 35000' ] || fail "the low cutoff"
     [ "$(lengths '9 8 7 6' --channel cells:2)" = ' 5000 15000 0 0' ] || fail "a number of cells"
     [ "$(lengths '9 8 7 6' --channel percent:75.0)" = ' 5000 15000 25000 0' ] || fail "a percentage"
+    [ "$(factors '9 8.1' --channel none --low 1.0)" = ' 46436 5980' ] || fail "the default steepness formula, older"
+    [ "$(factors '9 8.1' --channel none --low 1.0 --steepness older)" = ' 46436 5980' ] || fail "the older steepness formula"
+    [ "$(factors '9 8.1' --channel none --low 1.0 --steepness newer)" = ' 46765 3680' ] || fail "the newer steepness formula"
 }
 
 # Settings that the library refuses, and words that are no flags.
@@ -97,14 +106,16 @@ flags() {
     stops 2 '' '--low: "half" is not a number' pit.asc --low half
     stops 2 '' '--channel cells:N: "1.5" is not a number' pit.asc --channel cells:1.5
     stops 2 '' '--channel: "some" is none of none, cells:N, percent:P' pit.asc --channel some
+    stops 2 '' '--steepness: "new" is neither older nor newer' pit.asc --steepness new
     stops 2 '' '--deep: no such flag' pit.asc --deep
     stops 2 '' '-x: no such flag' -x
     stops 2 '' '--deep: no such flag; --low wants a value; -x: no such flag' --deep 3 pit.asc --low --high 0.5 -x
     stops 2 '' 'one field at a time' pit.asc pit.asc
     stops 2 '' 'no FIELD.asc is named'
-    "$lsmap" pit.asc --verbose 2>&1 >out | grep -qx 'lsmap: low 0.7, high 0.5, channel percent:1' || fail "the defaults"
-    "$lsmap" pit.asc --channel percent:1.0 --low 0.7 --high 0.5 | cmp - out || fail "the defaults as flags"
-    "$lsmap" --help | grep -q 'default: low 0.7, high 0.5, channel percent:1;' || fail "the defaults in --help"
+    "$lsmap" pit.asc --verbose 2>&1 >out | grep -qx 'lsmap: low 0.7, high 0.5, channel percent:1, steepness older' || fail "the defaults"
+    "$lsmap" pit.asc --channel percent:1.0 --low 0.7 --high 0.5 --steepness older | cmp - out || fail "the defaults as flags"
+    "$lsmap" pit.asc --verbose --steepness newer 2>&1 >out | grep -q ', steepness newer$' || fail "--verbose tells the formula"
+    "$lsmap" --help | grep -q 'default: low 0.7, high 0.5, channel percent:1, steepness older;' || fail "the defaults in --help"
     "$lsmap" --help | grep -q 'Exit status' || fail "--help"
     "$lsmap" --version | grep -qx 'lsmap [^ ].*' || fail "--version"
     stops 2 '' 'cannot make pit.asc' pit.asc --grids pit.asc

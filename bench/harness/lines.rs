@@ -1,6 +1,7 @@
 //! Measurements as lines, so that those of several layouts can be put together: layout, terrain, size, the milliseconds
-//! of both sides for the map, for reading the text, for writing one and for reading floats, those of another commit's
-//! library for the map or `-`, the bytes that are read, those that are written and those of the floats, the peak.
+//! of both sides for the map, for reading the text, for writing one and for reading floats, those of the measured side for
+//! the map under the newer formula, those of another commit's library for the map or `-`, the bytes that are read, those
+//! that are written and those of the floats, the peak.
 
 use crate::files::field;
 use crate::layout::BYTES;
@@ -35,10 +36,10 @@ pub fn print(rounds: usize, folder: &Path) -> Result<(), String> {
         for (size, rounds) in [(SMALL, MORE_ROUNDS * rounds), (LARGE, rounds)] {
             let (text, lent) = field(&folder.join(format!("{terrain}-{size}.asc")))?;
             let found = measure(rounds, &text, lent);
-            let Found { map, text, write, floats, before, bytes, written, float_bytes, peak } = found;
+            let Found { map, text, write, floats, newer, before, bytes, written, float_bytes, peak } = found;
             let times = [map, text, write, floats].map(|pair| format!("{} {}", word(pair.measured), word(pair.plain)));
-            let (times, before) = (times.join(" "), before.map_or(NONE.into(), word));
-            println!("{BYTES} {terrain} {size} {times} {before} {bytes} {written} {float_bytes} {peak}");
+            let (times, newer, before) = (times.join(" "), word(newer), before.map_or(NONE.into(), word));
+            println!("{BYTES} {terrain} {size} {times} {newer} {before} {bytes} {written} {float_bytes} {peak}");
         }
     }
     Ok(())
@@ -47,7 +48,7 @@ pub fn print(rounds: usize, folder: &Path) -> Result<(), String> {
 /// The measurement of a line.
 pub fn parse(line: &str) -> Option<Line> {
     let words: Vec<&str> = line.split_whitespace().collect();
-    let &[layout, terrain, size, ref times @ .., before, bytes, written, float_bytes, peak] = &words[..] else {
+    let &[layout, terrain, size, ref times @ .., newer, before, bytes, written, float_bytes, peak] = &words[..] else {
         return None;
     };
     let times: Option<Vec<f64>> = times.iter().map(|word| word.parse().ok()).collect();
@@ -59,6 +60,7 @@ pub fn parse(line: &str) -> Option<Line> {
         text,
         write,
         floats,
+        newer: newer.parse().ok()?,
         before: if before == NONE { None } else { Some(before.parse().ok()?) },
         bytes: bytes.parse().ok()?,
         written: written.parse().ok()?,

@@ -3,7 +3,7 @@
 use crate::clock::time;
 use crate::lent::{Lent, Side};
 use crate::memory::peak;
-use crate::sides::{all, MEASURED, OTHERS, PLAIN};
+use crate::sides::{all, MEASURED, NEWER, OTHERS, PLAIN, PLAIN_NEWER};
 
 /// Best milliseconds of the measured side and of the plain one.
 #[derive(Clone, Copy)]
@@ -24,14 +24,15 @@ impl Pair {
 }
 
 /// What is found of one text: the times of mapping, reading and writing, and of reading the same heights as floats; the
-/// map call's by the library of another commit; the bytes of the text that is read, of the one that is written and of the
-/// floats; and the KiB by which the first map call raised the peak.
+/// map call's under the newer steepness formula, and by the library of another commit; the bytes of the text that is read,
+/// of the one that is written and of the floats; and the KiB by which the first map call raised the peak.
 #[derive(Clone, Copy)]
 pub struct Found {
     pub map: Pair,
     pub text: Pair,
     pub write: Pair,
     pub floats: Pair,
+    pub newer: f64,
     pub before: Option<f64>,
     pub bytes: usize,
     pub written: usize,
@@ -40,6 +41,11 @@ pub struct Found {
 }
 
 impl Found {
+    /// The measured side's map call under the newer formula by that under the older.
+    pub fn ratio_newer(&self) -> f64 {
+        self.newer / self.map.measured
+    }
+
     /// The measured side's map call by that of the library of another commit.
     pub fn ratio_before(&self) -> Option<f64> {
         self.before.map(|before| self.map.measured / before)
@@ -52,6 +58,7 @@ impl Found {
             text: self.text.or(&other.text),
             write: self.write.or(&other.write),
             floats: self.floats.or(&other.floats),
+            newer: self.newer.min(other.newer),
             before: self.before.zip(other.before).map(|(one, other)| one.min(other)),
             bytes: self.bytes,
             written: self.written,
@@ -81,6 +88,14 @@ fn compare_floats(lent: &Lent) {
     }
 }
 
+/// Under the newer formula the measured side gives the grids of the plain one.
+fn compare_newer(lent: &mut Lent) {
+    (NEWER.map)(lent);
+    let mut other = lent.clone();
+    (PLAIN_NEWER.map)(&mut other);
+    assert!(*lent == other, "{} and {} must give the same grids", NEWER.name, PLAIN_NEWER.name);
+}
+
 /// Measures one text, in lent grids that were made for it; all sides must give the same grids and write the same bytes.
 pub fn measure(rounds: usize, text: &[u8], mut lent: Lent) -> Found {
     let others: Vec<(&Side, Lent)> = OTHERS.iter().map(|side| (side, lent.clone())).collect();
@@ -94,17 +109,19 @@ pub fn measure(rounds: usize, text: &[u8], mut lent: Lent) -> Found {
         assert!(lent == other, "{} and {} must give the same grids and bytes", MEASURED.name, side.name);
     }
     compare_floats(&lent);
+    compare_newer(&mut lent);
     let reading = in_turn(rounds, &[MEASURED, PLAIN], |side| (side.read)(text, &mut lent.ground));
     let floats = |side: Side| (side.read_floats)(&lent.header, &lent.floats, &mut lent.ground);
     let reading_floats = in_turn(rounds, &[MEASURED, PLAIN], floats);
     let writing = in_turn(rounds, &[MEASURED, PLAIN], |side| (side.write)(&mut lent));
-    let mapping = in_turn(rounds, &all(), |side| (side.map)(&mut lent));
+    let mapping = in_turn(rounds, &[&[MEASURED, NEWER], OTHERS].concat(), |side| (side.map)(&mut lent));
     Found {
-        map: Pair { measured: mapping[0], plain: mapping[1] },
+        map: Pair { measured: mapping[0], plain: mapping[2] },
         text: Pair { measured: reading[0], plain: reading[1] },
         write: Pair { measured: writing[0], plain: writing[1] },
         floats: Pair { measured: reading_floats[0], plain: reading_floats[1] },
-        before: mapping.get(2).copied(),
+        newer: mapping[1],
+        before: mapping.get(3).copied(),
         bytes: text.len(),
         written: lent.written,
         float_bytes: lent.floats.len(),

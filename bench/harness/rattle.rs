@@ -1,5 +1,6 @@
-//! The proved library as a side: crates/fullsize, through the declarations of the program that lends it memory; and the
-//! library of another commit, through the same declarations with other names, which the build makes.
+//! The proved library as a side: crates/fullsize, through the declarations of the program that lends it memory, under the
+//! older steepness formula and under the newer; and the library of another commit, through its own declarations with other
+//! names, which the build makes.
 
 #[path = "../../host/src/library.rs"]
 #[allow(dead_code, reason = "the default settings and the texts of counts and LS are the other program's")]
@@ -14,12 +15,11 @@ mod before {
 use crate::lent::{Lent, Side, CUTOFF};
 use std::mem::take;
 
-/// The side of a library that a module declares. Cutoffs as in every measurement, and no channels.
+/// The side of a library that a module declares. Cutoffs as in every measurement, no channels and the older formula, but
+/// for the settings that are given.
 macro_rules! side {
-    ($name:literal, $library:ident) => {{
+    ($name:literal, $library:ident $(, $setting:ident: $value:expr)*) => {{
         use $library::{Corners, Grids, Header, Numbers, Settings};
-
-        const SETTINGS: Settings = Settings { low: CUTOFF, high: CUTOFF, kind: 0, cells: 0, percentage: 0.0 };
 
         fn read(text: &[u8], heights: &mut [i32]) {
             let (header, _) = $library::read_header(text).ok().expect("a terrain's text is accepted");
@@ -44,7 +44,8 @@ macro_rules! side {
                 factors: take(&mut lent.factors),
                 workspace: take(&mut lent.workspace),
             };
-            let totals = $library::map(header(lent), SETTINGS, &lent.ground, &mut grids);
+            let settings = Settings { low: CUTOFF, high: CUTOFF, $($setting: $value,)* ..Settings::default() };
+            let totals = $library::map(header(lent), settings, &lent.ground, &mut grids);
             let totals = totals.ok().expect("a terrain is accepted");
             lent.answer = (totals.valid, totals.longest);
             Grids {
@@ -68,6 +69,7 @@ macro_rules! side {
 }
 
 pub const RATTLE: Side = side!("rattle", library);
+pub const NEWER: Side = side!("rattle newer", library, formula: 1);
 
 #[cfg(before)]
 pub const BEFORE: Side = side!("before", before);

@@ -1,7 +1,7 @@
 //! The sides: the plain program and, where they are built, the proved library and that of another commit.
 
 use crate::lent::{Lent, Side, CUTOFF};
-use plain::{Channel, Frame, Grids, Settings};
+use plain::{Channel, Formula, Frame, Grids, Settings};
 
 fn plain_read(text: &[u8], heights: &mut [i32]) {
     let header = plain::read_header(text).expect("a terrain's text is accepted");
@@ -12,8 +12,8 @@ fn plain_read_floats(header: &[u8], floats: &[u8], heights: &mut [i32]) {
     plain::read_floats(header, floats, heights).expect("a terrain's floats are accepted");
 }
 
-fn plain_map(lent: &mut Lent) {
-    let settings = Settings { low: CUTOFF, high: CUTOFF, channel: Channel::None };
+fn plain_map_by(formula: Formula, lent: &mut Lent) {
+    let settings = Settings { low: CUTOFF, high: CUTOFF, channel: Channel::None, formula };
     let grids = Grids {
         filled: &mut lent.filled,
         direction: &mut lent.direction,
@@ -26,6 +26,14 @@ fn plain_map(lent: &mut Lent) {
     lent.answer = answer.expect("a terrain is accepted");
 }
 
+fn plain_map(lent: &mut Lent) {
+    plain_map_by(Formula::Older, lent);
+}
+
+fn plain_map_newer(lent: &mut Lent) {
+    plain_map_by(Formula::Newer, lent);
+}
+
 fn plain_write(lent: &mut Lent) {
     let [x, y] = &lent.corners;
     let frame = Frame { rows: lent.rows, columns: lent.columns, side: lent.side, corners: [x, y] };
@@ -35,11 +43,20 @@ fn plain_write(lent: &mut Lent) {
 pub const PLAIN: Side =
     Side { name: "plain", read: plain_read, read_floats: plain_read_floats, map: plain_map, write: plain_write };
 
+/// The same under the newer steepness formula.
+pub const PLAIN_NEWER: Side = Side { name: "plain newer", map: plain_map_newer, ..PLAIN };
+
 /// The side that is measured: the proved library, or the plain program itself where that is not built.
 #[cfg(rattle)]
 pub const MEASURED: Side = crate::rattle::RATTLE;
 #[cfg(not(rattle))]
 pub const MEASURED: Side = PLAIN;
+
+/// The same under the newer steepness formula.
+#[cfg(rattle)]
+pub const NEWER: Side = crate::rattle::NEWER;
+#[cfg(not(rattle))]
+pub const NEWER: Side = PLAIN_NEWER;
 
 /// The sides that the measured one is held to: the plain program, then the library of another commit.
 #[cfg(before)]
@@ -47,7 +64,7 @@ pub const OTHERS: &[Side] = &[PLAIN, crate::rattle::BEFORE];
 #[cfg(not(before))]
 pub const OTHERS: &[Side] = &[PLAIN];
 
-/// Every side, the measured one first.
+/// Every side under the older steepness formula, the measured one first.
 pub fn all() -> Vec<Side> {
     [&[MEASURED], OTHERS].concat()
 }

@@ -22,7 +22,7 @@ mod write;
 
 pub use floats::read_floats;
 pub use map::{map, Grids};
-pub use settings::{Channel, Settings};
+pub use settings::{Channel, Formula, Settings};
 pub use text::{read_grid, read_header, Header, Span};
 pub use write::{room, write_counts, write_factors, write_heights, Frame};
 

@@ -66,6 +66,15 @@ fn set_channel(settings: &mut Settings, text: &str) -> Result<(), String> {
     Ok(())
 }
 
+/// The number of the steepness formula that `older` or `newer` names.
+fn formula(text: &str) -> Result<u32, String> {
+    match text {
+        "older" => Ok(0),
+        "newer" => Ok(1),
+        _ => Err(format!("--steepness: {text:?} is neither older nor newer")),
+    }
+}
+
 /// The channel rule as the flag names it.
 pub fn channel_text(settings: &Settings) -> String {
     match settings.kind {
@@ -73,6 +82,11 @@ pub fn channel_text(settings: &Settings) -> String {
         1 => format!("cells:{}", settings.cells),
         _ => format!("percent:{}", settings.percentage),
     }
+}
+
+/// The steepness formula as the flag names it.
+pub fn steepness_text(settings: &Settings) -> &'static str {
+    if settings.formula == 0 { "older" } else { "newer" }
 }
 
 /// The word after a flag, unless it is a long flag itself. A minus alone may begin a number.
@@ -92,6 +106,7 @@ impl Flags {
             "--low" => self.settings.low = number(flag, &text(flag, words)?)?,
             "--high" => self.settings.high = number(flag, &text(flag, words)?)?,
             "--channel" => set_channel(&mut self.settings, &text(flag, words)?)?,
+            "--steepness" => self.settings.formula = formula(&text(flag, words)?)?,
             "--floats" => self.floats = Some(Field::of(value(flag, words)?)),
             "--output" => self.output = Some(value(flag, words)?).filter(|v| v != "-").map(PathBuf::from),
             "--grids" => self.grids = Some(value(flag, words)?.into()),
@@ -143,7 +158,7 @@ pub fn read(words: impl Iterator<Item = OsString>, settings: Settings) -> Result
 mod tests {
     use super::*;
 
-    const DEFAULTS: Settings = Settings { low: 0.7, high: 0.5, kind: 2, cells: 0, percentage: 1.0 };
+    const DEFAULTS: Settings = Settings { low: 0.7, high: 0.5, kind: 2, cells: 0, percentage: 1.0, formula: 0 };
 
     fn asked(line: &str) -> Result<Asked, String> {
         read(line.split_whitespace().map(OsString::from), DEFAULTS)
@@ -168,7 +183,7 @@ mod tests {
         let (name, flags) = wanted("a.asc");
         assert_eq!(name, "a.asc");
         assert_eq!((flags.settings.low, flags.settings.high), (0.7, 0.5));
-        assert_eq!(channel_text(&flags.settings), "percent:1");
+        assert_eq!((channel_text(&flags.settings).as_str(), steepness_text(&flags.settings)), ("percent:1", "older"));
         assert_eq!((flags.output, flags.grids, flags.text), (None, None, None));
         assert_eq!((flags.floats.is_some(), flags.quiet, flags.verbose), (false, false, false));
     }
@@ -193,6 +208,20 @@ mod tests {
         );
         assert!(wrong("a.asc --channel percent:").starts_with("--channel percent:P: \"\" is not a number"));
         assert_eq!(wrong("a.asc --channel Cells:2"), "--channel: \"Cells:2\" is none of none, cells:N, percent:P");
+    }
+
+    #[test]
+    fn steepness_formulas_are_numbers() {
+        for (number, name) in [(0, "older"), (1, "newer")] {
+            let settings = wanted(&format!("a.asc --steepness {name}")).1.settings;
+            assert_eq!((settings.formula, steepness_text(&settings)), (number, name));
+        }
+        assert_eq!(wanted("a.asc --steepness newer --steepness older").1.settings.formula, 0);
+        for word in ["Newer", "0", "1", ""] {
+            let wrong = formula(word).err().unwrap_or_else(|| panic!("{word:?} is accepted"));
+            assert_eq!(wrong, format!("--steepness: {word:?} is neither older nor newer"));
+        }
+        assert_eq!(wrong("a.asc --steepness --quiet"), "--steepness wants a value");
     }
 
     #[test]

@@ -42,7 +42,14 @@ unsafe extern "C" {
         no_data: &mut i64,
     ) -> u32;
 
-    fn lsmap_default_settings(low: &mut f64, high: &mut f64, kind: &mut u32, cells: &mut u32, percentage: &mut f64);
+    fn lsmap_default_settings(
+        low: &mut f64,
+        high: &mut f64,
+        kind: &mut u32,
+        cells: &mut u32,
+        percentage: &mut f64,
+        formula: &mut u32,
+    );
 
     fn lsmap_map(
         rows: usize,
@@ -53,6 +60,7 @@ unsafe extern "C" {
         kind: u32,
         cells: u32,
         percentage: f64,
+        formula: u32,
         ground: *const i32,
         ground_len: usize,
         filled: *mut i32,
@@ -146,7 +154,8 @@ pub struct Corners<'a> {
     pub y: &'a [u8],
 }
 
-/// The two cutoffs and the channel rule as the library takes them: kind 0 is none, 1 cells, 2 a percentage.
+/// The two cutoffs, the channel rule and the steepness formula as the library takes them: kind 0 is none, 1 cells, 2 a
+/// percentage; formula 0 is the older one, 1 the newer.
 #[derive(Clone, Copy, Default)]
 pub struct Settings {
     pub low: f64,
@@ -154,6 +163,7 @@ pub struct Settings {
     pub kind: u32,
     pub cells: u32,
     pub percentage: f64,
+    pub formula: u32,
 }
 
 /// The grids of a map, one value per cell in row order.
@@ -243,7 +253,12 @@ pub fn read_floats(header: &[u8], floats: &[u8], heights: &mut [i32]) -> Result<
 /// The library's default settings.
 pub fn default_settings() -> Settings {
     let mut s = Settings::default();
-    unsafe { lsmap_default_settings(&mut s.low, &mut s.high, &mut s.kind, &mut s.cells, &mut s.percentage) };
+    #[rustfmt::skip]
+    unsafe {
+        lsmap_default_settings(
+            &mut s.low, &mut s.high, &mut s.kind, &mut s.cells, &mut s.percentage, &mut s.formula,
+        )
+    };
     s
 }
 
@@ -253,7 +268,7 @@ pub fn map(h: Header, s: Settings, ground: &[i32], g: &mut Grids) -> Result<Tota
     #[rustfmt::skip]
     let number = unsafe {
         lsmap_map(
-            h.rows, h.columns, h.side, s.low, s.high, s.kind, s.cells, s.percentage,
+            h.rows, h.columns, h.side, s.low, s.high, s.kind, s.cells, s.percentage, s.formula,
             ground.as_ptr(), ground.len(),
             g.filled.as_mut_ptr(), g.filled.len(),
             g.direction.as_mut_ptr(), g.direction.len(),

@@ -69,7 +69,8 @@ fn tell(message: &str) {
 }
 
 fn tell_settings(s: &Settings) {
-    tell(&format!("low {}, high {}, channel {}", s.low, s.high, flags::channel_text(s)));
+    let (channel, steepness) = (flags::channel_text(s), flags::steepness_text(s));
+    tell(&format!("low {}, high {}, channel {channel}, steepness {steepness}", s.low, s.high));
 }
 
 /// The bytes of a field's text, or of its floats.

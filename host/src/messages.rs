@@ -112,6 +112,7 @@ pub fn of_map(refusal: Refusal, header: Header) -> String {
     let what = match (number, place) {
         (4, 1) => "--low is a cutoff: 0.00, 0.01 and so on up to 1.00".to_string(),
         (4, 2) => "--high is a cutoff: 0.00, 0.01 and so on up to 1.00".to_string(),
+        (4, 7) => "--steepness takes older or newer".to_string(),
         (4, _) => "--channel percent:P takes 0.0, 0.1 and so on up to 100.0".to_string(),
         (5, x) => format!("row {}, column {}: {}", x / header.columns, x % header.columns, expected(5)),
         _ => expected(number).to_string(),
@@ -231,6 +232,7 @@ mod tests {
         assert!(said(4, 1).starts_with("refused 4 at 1: --low is a cutoff"));
         assert!(said(4, 2).starts_with("refused 4 at 2: --high is a cutoff"));
         assert!(said(4, 3).starts_with("refused 4 at 3: --channel percent:P takes"));
+        assert_eq!(said(4, 7), "refused 4 at 7: --steepness takes older or newer");
         assert!(said(5, 5).starts_with("refused 5 at 5: row 1, column 2: a height is"));
         assert!(said(2, 0).starts_with("refused 2 at 0: a lent grid has the wrong length"));
     }

@@ -5,13 +5,16 @@ use crate::rules::grid::MOST_ROWS;
 use crate::rules::grid_texts::{grid_texts, NAMES};
 use crate::rules::program::Program;
 use crate::rules::refusal::Refusal;
+use crate::rules::settings::{Formula, Settings};
 use crate::rules::sheet::sheet;
 use crate::texts::{cases, float_grids, telling, terrains};
 use std::io::{self, Read, Write};
 
-pub const USAGE: &str = "usage: second sheet [--program PROGRAM] < TEXT    PROGRAM: printer job; printer if not named
-       second sheets [--program PROGRAM] < STREAM
-       second text [--program PROGRAM] GRID < TEXT       GRID: ground filled count ls
+pub const USAGE: &str = "usage: second sheet [--program PROGRAM] [--steepness FORMULA] < TEXT
+       second sheets [--program PROGRAM] [--steepness FORMULA] < STREAM
+       second text [--program PROGRAM] [--steepness FORMULA] GRID < TEXT
+           PROGRAM: printer job, printer if not named; FORMULA: older newer, the program's if not named;
+           GRID: ground filled count ls
        second as-floats < TEXT
        second cases SEED N
        second telling SEED N
@@ -26,9 +29,9 @@ pub const USAGE: &str = "usage: second sheet [--program PROGRAM] < TEXT    PROGR
 /// A command with its words read; programs are given as their words.
 #[derive(Debug, PartialEq)]
 pub enum Command<'a> {
-    Sheet { program: Program },
-    Sheets { program: Program },
-    Text { program: Program, grid: usize },
+    Sheet { settings: Settings },
+    Sheets { settings: Settings },
+    Text { settings: Settings, grid: usize },
     AsFloats,
     Cases { seed: u64, number: usize },
     Telling { seed: u64, number: usize },
@@ -62,16 +65,16 @@ fn standard_input() -> io::Result<Vec<u8>> {
 }
 
 /// The sheets of a framed stream, each after a line with its case.
-fn sheets(stream: &[u8], program: Program) -> io::Result<String> {
+fn sheets(stream: &[u8], settings: Settings) -> io::Result<String> {
     let texts = cases::texts(stream)?;
-    let numbered = |(number, text): (usize, &&[u8])| format!("case {number}\n{}", sheet(text, program.settings()));
+    let numbered = |(number, text): (usize, &&[u8])| format!("case {number}\n{}", sheet(text, settings));
     Ok(texts.iter().enumerate().map(numbered).collect())
 }
 
 /// The text of a grid of a field's map; a refusal as a sheet has it.
-fn grid_text(text: &[u8], program: Program, grid: usize) -> Vec<u8> {
+fn grid_text(text: &[u8], settings: Settings, grid: usize) -> Vec<u8> {
     let refused = |Refusal { number, place }| format!("refused {number} at {place}\n").into_bytes();
-    grid_texts(text, program.settings()).map_or_else(refused, |texts| texts[grid].clone())
+    grid_texts(text, settings).map_or_else(refused, |texts| texts[grid].clone())
 }
 
 /// The heights of a text as floats.
@@ -97,15 +100,26 @@ impl<'a> Command<'a> {
         }
     }
 
-    /// A command that prints or compares a program's sheets, or prints a text under its settings.
+    /// A command that compares a program's sheets, or prints under its settings.
     fn for_program(program: Program, name: &str, words: &'a [&'a str]) -> Option<Command<'a>> {
-        Some(match (name, words) {
-            ("sheet", []) => Command::Sheet { program },
-            ("sheets", []) => Command::Sheets { program },
-            ("text", [name]) => Command::Text { program, grid: grid(name)? },
+        let settings = program.settings();
+        match (name, words) {
             ("compare", [seed, number, printer @ ..]) if !printer.is_empty() => {
-                Command::Compare { program, seed: whole(seed)?, number: whole(number)?, printer }
+                Some(Command::Compare { program, seed: whole(seed)?, number: whole(number)?, printer })
             }
+            (_, ["--steepness", formula, words @ ..]) => {
+                Command::under(Settings { formula: Formula::of(formula)?, ..settings }, name, words)
+            }
+            _ => Command::under(settings, name, words),
+        }
+    }
+
+    /// A command that prints sheets or a text under these settings.
+    fn under(settings: Settings, name: &str, words: &[&str]) -> Option<Command<'a>> {
+        Some(match (name, words) {
+            ("sheet", []) => Command::Sheet { settings },
+            ("sheets", []) => Command::Sheets { settings },
+            ("text", [name]) => Command::Text { settings, grid: grid(name)? },
             _ => return None,
         })
     }
@@ -136,9 +150,9 @@ impl<'a> Command<'a> {
     pub fn run(&self) -> io::Result<()> {
         let mut output = io::stdout();
         match *self {
-            Command::Sheet { program } => output.write_all(sheet(&standard_input()?, program.settings()).as_bytes()),
-            Command::Sheets { program } => output.write_all(sheets(&standard_input()?, program)?.as_bytes()),
-            Command::Text { program, grid } => output.write_all(&grid_text(&standard_input()?, program, grid)),
+            Command::Sheet { settings } => output.write_all(sheet(&standard_input()?, settings).as_bytes()),
+            Command::Sheets { settings } => output.write_all(sheets(&standard_input()?, settings)?.as_bytes()),
+            Command::Text { settings, grid } => output.write_all(&grid_text(&standard_input()?, settings, grid)),
             Command::AsFloats => output.write_all(&as_floats(&standard_input()?)?),
             Command::Cases { seed, number } => output.write_all(&cases::stream(cases::case, seed, number)),
             Command::Telling { seed, number } => output.write_all(&cases::stream(telling::text, seed, number)),
@@ -182,25 +196,42 @@ mod tests {
     #[test]
     fn commands_for_a_program() {
         let (printer, job) = (Program::Printer, Program::Job);
-        assert_eq!(Command::of(&["sheet"]), Some(Command::Sheet { program: printer }));
-        assert_eq!(Command::of(&["sheet", "--program", "printer"]), Some(Command::Sheet { program: printer }));
-        assert_eq!(Command::of(&["sheets"]), Some(Command::Sheets { program: printer }));
-        assert_eq!(Command::of(&["sheets", "--program", "job"]), Some(Command::Sheets { program: job }));
-        assert_eq!(Command::of(&["text", "ground"]), Some(Command::Text { program: printer, grid: 0 }));
-        assert_eq!(Command::of(&["text", "--program", "job", "ls"]), Some(Command::Text { program: job, grid: 3 }));
+        let [settings, jobs] = [printer, job].map(Program::settings);
+        assert_eq!(Command::of(&["sheet"]), Some(Command::Sheet { settings }));
+        assert_eq!(Command::of(&["sheet", "--program", "printer"]), Some(Command::Sheet { settings }));
+        assert_eq!(Command::of(&["sheets"]), Some(Command::Sheets { settings }));
+        assert_eq!(Command::of(&["sheets", "--program", "job"]), Some(Command::Sheets { settings: jobs }));
+        assert_eq!(Command::of(&["text", "ground"]), Some(Command::Text { settings, grid: 0 }));
+        let text = Command::Text { settings: jobs, grid: 3 };
+        assert_eq!(Command::of(&["text", "--program", "job", "ls"]), Some(text));
         let compare = |program| Some(Command::Compare { program, seed: 1, number: 10, printer: &["valgrind", "job"] });
         assert_eq!(Command::of(&["compare", "1", "10", "valgrind", "job"]), compare(printer));
         assert_eq!(Command::of(&["compare", "--program", "job", "1", "10", "valgrind", "job"]), compare(job));
     }
 
+    /// The formula may be another than the program's.
+    #[test]
+    fn commands_under_a_formula() {
+        let [printers, jobs] = [Program::Printer, Program::Job].map(Program::settings);
+        let settings = Settings { formula: Formula::Newer, ..printers };
+        assert_eq!(Command::of(&["sheet", "--steepness", "newer"]), Some(Command::Sheet { settings }));
+        assert_eq!(Command::of(&["text", "--steepness", "newer", "ls"]), Some(Command::Text { settings, grid: 3 }));
+        let older = ["sheets", "--program", "job", "--steepness", "older"];
+        assert_eq!(Command::of(&older), Some(Command::Sheets { settings: jobs }));
+    }
+
     #[test]
     fn other_words_are_a_usage_error() {
-        let wrong: [&[&str]; 26] = [
+        let wrong: [&[&str]; 30] = [
             &[],
             &["sheet", "field.asc"],
             &["sheet", "--program"],
             &["sheet", "--program", "lsmap"],
             &["sheets", "--program", "job", "stream"],
+            &["sheet", "--steepness"],
+            &["sheet", "--steepness", "Newer"],
+            &["sheet", "--steepness", "newer", "--program", "job"],
+            &["compare", "--steepness", "newer", "1", "10", "target/bin/printer"],
             &["--program", "job", "sheet"],
             &["--help"],
             &["cases", "12"],

@@ -23,8 +23,8 @@ use Rattle.terrain.specs.declared.Answer.the-variants as drained
 use Rattle.terrain.proofs.Public.{passed-ready, filled-small, directions-directed, counts-long}
 use Rattle.factor.specs.Length.{lengthsOf}
 use Rattle.factor.specs.Grid.{factorsOf}
-use Rattle.factor.specs.Answers.{Grids, lent, judged, mapOf, answerOf, gridsOf, answer, after, accepts}
-use Rattle.factor.specs.Inner.{firstTests, Promised}
+use Rattle.factor.specs.Answers.{Grids, lent, judged, mapOf, answerOf, gridsOf, answer, after, firstTests, accepts}
+use Rattle.factor.specs.Inner.{Promised}
 use Rattle.factor.specs.InnerPass.{Measuring}
 use Rattle.factor.specs.declared.Answer.{Answer}
 use Rattle.factor.specs.declared.Answer.the-variants.{Accepted, Refused}
@@ -135,7 +135,7 @@ module _ (rows cols side : ℕ) (settings : Settings) (ground : List ℤ) (g : G
 
       -- and the whole promise
       pub accepted-promised : {rules : Rules} {lengths factors workspace : List ℕ} → rules ≡ rulesOf settings →
-          (lengths ≡ lengthsOf rows cols side rules lv (t .direction) (t .count)) × (factors ≡ factorsOf rows cols side lv (t .direction) lengths) →
+          (lengths ≡ lengthsOf rows cols side rules lv (t .direction) (t .count)) × (factors ≡ factorsOf rows cols side (rules .formula) lv (t .direction) lengths) →
           workspace ≡ replicate (rows * cols) 0 → Drainage rows cols ground (t .filled) (t .direction) (t .count) valid →
           Made (Accepted valid longest) (returned t lengths factors workspace)
       unfolding answer after answerOf gridsOf mapOf
@@ -157,8 +157,10 @@ module _ (rows cols side : ℕ) (settings : Settings) (ground : List ℤ) (g : G
           lengths-are : lengths ≡ lengthsOf rows cols side (rulesOf settings) lv dir (countsOf rows cols dir)
           lengths-are = d .0 ∙ rw (r, direction-is, count-is)
 
-          factors-are : factors ≡ factorsOf rows cols side lv dir (lengthsOf rows cols side (rulesOf settings) lv dir (countsOf rows cols dir))
-          factors-are = d .1 ∙ ap₂ (factorsOf rows cols side lv) direction-is lengths-are
+          factors-are : factors ≡ factorsOf rows cols side (rulesOf settings .formula) lv dir (lengthsOf rows cols side (rulesOf settings) lv dir (countsOf rows cols dir))
+          factors-are =
+              d .1 ∙ ap (λ (r : Rules). factorsOf rows cols side (r .formula) lv (t .direction) lengths) r
+              ∙ ap₂ (factorsOf rows cols side (rulesOf settings .formula) lv) direction-is lengths-are
 
           grids-are : returned t lengths factors workspace ≡ mapOf rows cols side (rulesOf settings) ground dir
           grids-are = lent-same (found .mapped .filled-is) direction-is count-is lengths-are factors-are w

@@ -32,9 +32,9 @@ unfolding broughtBy
 brought-small side rules k p q i len s h = amount-le (cutoffFor (rules .low) (rules .high) side q) q p i (stepOver k) len greatestLength (step-le k) s h
 
 module _ (terms : Terms) (dir count lengths factors : List ℕ) (x : ℕ) {len f p : ℕ} (l : len ≡ lengthNow terms dir count lengths factors x)
-    (s : p ≡ steepnessOf (getD factors x 0)) (e : f ≡ factorOf (terms .side) p len) where
-  factors-now : set factors x f ≡ set factors x (factorOf (terms .side) (steepnessOf (getD factors x 0)) (lengthNow terms dir count lengths factors x))
-  factors-now = ap (set factors x) (e ∙ ap₂ (factorOf (terms .side)) s l)
+    (s : p ≡ steepnessOf (getD factors x 0)) (e : f ≡ factorOf (terms .formula) (terms .side) p len) where
+  factors-now : set factors x f ≡ set factors x (factorOf (terms .formula) (terms .side) (steepnessOf (getD factors x 0)) (lengthNow terms dir count lengths factors x))
+  factors-now = ap (set factors x) (e ∙ ap₂ (factorOf (terms .formula) (terms .side)) s l)
 
   pub turned-off : 8 ≤ bearingAt dir x → Turned terms dir count lengths factors x (set lengths x len) (set factors x f)
   turned-off h = record { factors-are = factors-now; leaves = (λ k. ap (set lengths x) l); hands-on = (λ rules r k. absurd (omega arith)) }

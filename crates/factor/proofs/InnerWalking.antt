@@ -18,6 +18,7 @@ use Rattle.laws.proofs.Lists.{getD-tab, length-tab}
 use Rattle.laws.proofs.Sums.{when-yes, when-no}
 use Rattle.laws.proofs.Orders.{stands-none, stands-more, order-cell, order-new}
 use Rattle.laws.proofs.Handing.{hand-start, hand-next, turn-off, turn-on, turn-stored, next-whole, next-turn, hand-all, hand-rest}
+use Rattle.settings.specs.declared.Formula.{Formula}
 use Rattle.settings.specs.declared.Rules.{Rules}
 use Rattle.terrain.specs.Cells.{bearingOf}
 use Rattle.terrain.specs.Trail.{mappedAt, flowsAt, nextAt, receiverOf}
@@ -48,7 +49,7 @@ module _ (rows cols side : ℕ) (rules : Rules) (lv dir count : List ℕ) where
         (gatheredAt rows cols side rules lv dir count) (finalAt rows cols side rules lv dir count) order lengths p
     pub factors-long : length factors ≡ rows * cols
     pub falls : (z : ℕ) → z < rows * cols → standsIn order p z ≡ 0 → getD factors z 0 ≡ fallAt rows cols lv dir z
-    pub done : (z : ℕ) → 0 < standsIn order p z → getD factors z 0 ≡ factorOf side (steepnessAt rows cols lv dir z) (lengthAt rows cols side rules lv dir count z)
+    pub done : (z : ℕ) → 0 < standsIn order p z → getD factors z 0 ≡ factorOf (rules .formula) side (steepnessAt rows cols lv dir z) (lengthAt rows cols side rules lv dir count z)
 
 -- what the pass assumes of a map: its levels lv, rules, directions, counts, and an order of its cells
 pub record Charted (rows : ℕ) (lv : List ℕ) (rules : Rules) (terms : Terms) (dir count order : List ℕ) (places : ℕ) : Type 0 where
@@ -208,20 +209,21 @@ module _ {rows : ℕ} {lv dir count order : List ℕ} {places : ℕ} {rules : Ru
       stands z = stands-more order p z ∙ ap (λ (y : ℕ). standsIn order p z + when (eqb y z) 1) (sym e)
 
       abbrev made : ℕ
-      made = factorOf (terms .side) (steepnessOf (getD factors x 0)) now
+      made = factorOf (terms .formula) (terms .side) (steepnessOf (getD factors x 0)) now
 
       other : (z : ℕ) → (z ≡ x → ⊥) → getD factors′ z 0 ≡ getD factors z 0
       other z q = ap (λ (l : List ℕ). getD l z 0) (t .factors-are) ∙ getD-set-other factors x z made 0 q
 
-      same : getD factors′ x 0 ≡ factorOf (terms .side) (steepnessAt rows cols lv dir x) (final x)
+      same : getD factors′ x 0 ≡ factorOf (rules .formula) (terms .side) (steepnessAt rows cols lv dir x) (final x)
       same =
           ap (λ (l : List ℕ). getD l x 0) (t .factors-are) ∙ getD-set-same factors x made 0 (omega (arith, here-in, w .factors-long))
-          ∙ ap₂ (factorOf (terms .side)) (here-fall .1) here-final
+          ∙ ap₂ (factorOf (terms .formula) (terms .side)) (here-fall .1) here-final
+          ∙ ap (λ (f : Formula). factorOf f (terms .side) (steepnessAt rows cols lv dir x) (final x)) (c .ruled .formula-is)
 
-      done-next : (z : ℕ) → 0 < standsIn order (p + 1) z → getD factors′ z 0 ≡ factorOf (terms .side) (steepnessAt rows cols lv dir z) (final z)
+      done-next : (z : ℕ) → 0 < standsIn order (p + 1) z → getD factors′ z 0 ≡ factorOf (rules .formula) (terms .side) (steepnessAt rows cols lv dir z) (final z)
       done-next z q =
           elim (ℕ-discrete z x) [
-            | yes g ↦ ap (λ (y : ℕ). getD factors′ y 0) g ∙ same ∙ ap (λ (y : ℕ). factorOf (terms .side) (steepnessAt rows cols lv dir y) (final y)) (sym g)
+            | yes g ↦ ap (λ (y : ℕ). getD factors′ y 0) g ∙ same ∙ ap (λ (y : ℕ). factorOf (rules .formula) (terms .side) (steepnessAt rows cols lv dir y) (final y)) (sym g)
             | no f ↦ other z f ∙ w .done z (omega (arith, stands z, when-no 1 (ne-eqb x z (λ g. f (sym g)))))
           ]
 
@@ -240,14 +242,14 @@ module _ {rows cols side : ℕ} {lv dir count order lengths factors : List ℕ} 
   abbrev cells : ℕ
   cells = rows * cols
 
-  pub measure-charted : {low high most : ℕ} → low ≡ leftBy (rules .low) → high ≡ leftBy (rules .high) →
+  pub measure-charted : {low high most : ℕ} {formula : Formula} → low ≡ leftBy (rules .low) → high ≡ leftBy (rules .high) → formula ≡ rules .formula →
       ((x : ℕ) → x < rows * cols → ltb most (getD count x 0) ≡ channelAt rows cols rules count x) →
-      Charted rows lv rules (record { columns = cols; side = side; low = low; high = high; most = most }) dir count order places
-  measure-charted l h q =
+      Charted rows lv rules (record { columns = cols; side = side; low = low; high = high; most = most; formula = formula }) dir count order places
+  measure-charted l h f q =
       record {
         directed = m .directed;
         capped = m .capped;
-        ruled = record { side-some = m .side-some; side-small = m .side-small; low-is = l; high-is = h };
+        ruled = record { side-some = m .side-some; side-small = m .side-small; low-is = l; high-is = h; formula-is = f };
         count-long = m .count-long;
         channel = q;
         order-is = m .order-is;
@@ -292,10 +294,10 @@ module _ {rows cols side : ℕ} {lv dir count order lengths factors : List ℕ} 
         ∙ sym (length-none (m .directed) side rules lv count z v))
         (two (valid-at z))
 
-    factor-there : (z : ℕ) → z < cells → getD factors′ z 0 ≡ factorAt rows cols side lv dir lengths′ z
+    factor-there : (z : ℕ) → z < cells → getD factors′ z 0 ≡ factorAt rows cols side (rules .formula) lv dir lengths′ z
     unfolding factorAt
     factor-there z h =
-        ⊎-elim (λ v. w .done z (omega (arith, m .order-is .cells .once z, when-yes 1 v)) ∙ ap (factorOf side (steepnessAt rows cols lv dir z)) (sym (length-there z h)) ∙ sym (rw v))
+        ⊎-elim (λ v. w .done z (omega (arith, m .order-is .cells .once z, when-yes 1 v)) ∙ ap (factorOf (rules .formula) side (steepnessAt rows cols lv dir z)) (sym (length-there z h)) ∙ sym (rw v))
         (λ v. w .falls z h (omega (arith, m .order-is .cells .once z, when-no 1 v)) ∙ fall-none rows cols lv dir (m .capped) z v ∙ sym (rw v)) (two (valid-at z))
 
     lengths-all : lengths′ ≡ lengthsOf rows cols side rules lv dir count
@@ -305,14 +307,14 @@ module _ {rows cols side : ℕ} {lv dir count order lengths factors : List ℕ} 
         at z h = let l : z < cells = omega (arith, w .handing .long) in length-there z l ∙ sym (lengths-at (m .directed) side rules lv count z l)
 
     abbrev factor-of : ℕ → ℕ
-    factor-of = factorAt rows cols side lv dir lengths′
+    factor-of = factorAt rows cols side (rules .formula) lv dir lengths′
 
-    factors-all : factors′ ≡ factorsOf rows cols side lv dir lengths′
+    factors-all : factors′ ≡ factorsOf rows cols side (rules .formula) lv dir lengths′
     unfolding factorsOf
-    factors-all = ext-getD 0 factors′ (factorsOf rows cols side lv dir lengths′) (w .factors-long ∙ sym (length-tab cells factor-of)) at
+    factors-all = ext-getD 0 factors′ (factorsOf rows cols side (rules .formula) lv dir lengths′) (w .factors-long ∙ sym (length-tab cells factor-of)) at
       where
-        at : (z : ℕ) → z < length factors′ → getD factors′ z 0 ≡ getD (factorsOf rows cols side lv dir lengths′) z 0
+        at : (z : ℕ) → z < length factors′ → getD factors′ z 0 ≡ getD (factorsOf rows cols side (rules .formula) lv dir lengths′) z 0
         at z h = let l : z < cells = omega (arith, w .factors-long) in factor-there z l ∙ sym (getD-tab cells factor-of 0 z l)
 
-    pub walk-all : (lengths′ ≡ lengthsOf rows cols side rules lv dir count) × (factors′ ≡ factorsOf rows cols side lv dir lengths′)
+    pub walk-all : (lengths′ ≡ lengthsOf rows cols side rules lv dir count) × (factors′ ≡ factorsOf rows cols side (rules .formula) lv dir lengths′)
     walk-all = (lengths-all, factors-all)

@@ -20,10 +20,9 @@ use Rattle.settings.specs.declared.Judged.the-variants.{Accepted, Refused}
 use Rattle.settings.specs.Settings.{rulesOf, judgedOf, settingsTest, told as testOf}
 use Rattle.settings.proofs.Verdicts.{judged-passed, judged-failed}
 use Rattle.terrain.specs.Answers.{Grids as TerrainGrids, lent as lentTerrain, placesOf as terrainPlaces, tests as terrainTests, judged as terrainJudged}
-use Rattle.factor.specs.Answers.{Grids, placesOf, tests, judged, answerOf, answer, told, accepts}
-use Rattle.factor.specs.Inner.{found, firstTests, Judges}
-use Rattle.factor.specs.declared.judge.Judgement.{Judgement}
-use Rattle.factor.specs.declared.judge.Judgement.the-variants.{Sound}
+use Rattle.factor.specs.Answers.{Grids, placesOf, tests, judged, answerOf, answer, found, firstTests, Judges, told, accepts}
+use Rattle.factor.specs.declared.tests.Judgement.{Judgement}
+use Rattle.factor.specs.declared.tests.Judgement.the-variants.{Sound}
 
 -- the grids that are lent on to the terrain layer: the grid of LS for its falls, and all but that of the lengths
 abbrev pub lentOn : Grids → TerrainGrids
@@ -34,6 +33,13 @@ all-long : (n : ℕ) (l : List ℕ) → AllLong n l → allLong n l ≡ true
 unfolding allLong
 all-long n [] w = refl
 all-long n (a ∷ l) w = ap₂ _&&_ (eq-eqb a n (w .0)) (all-long n l (w .1))
+
+-- an answer with number 0 is no refusal, whatever the tests were, if none of them refuses with 0
+pub answer-some : (rows cols : ℕ) (ground : List ℤ) (t : Test) → Numbered t → told (answerOf rows cols ground t) .number ≡ 0 →
+    accepts (answerOf rows cols ground t) ≡ true
+unfolding answerOf
+answer-some rows cols ground passed n e = refl
+answer-some rows cols ground (failed number place) n e = absurd (omega arith)
 
 module _ (rows cols side : ℕ) (settings : Settings) (ground : List ℤ) (g : Grids) where
   abbrev size : Test
@@ -166,13 +172,20 @@ module _ (rows cols side : ℕ) (settings : Settings) (ground : List ℤ) (g : G
       go (Accepted rules) = tt
       go (Refused place) = omega arith
 
-  heights-numbered : Numbered heights
+  pub heights-numbered : Numbered (heightTest (rows * cols) ground)
   unfolding heightTest
   heights-numbered = test-numbered (not (ltb (firstBad (rows * cols) ground) (rows * cols))) 5 (firstBad (rows * cols) ground) (omega arith)
 
   none-numbered : Numbered (verdict [])
   unfolding verdict
   none-numbered = tt
+
+  pub first-numbered : Numbered (verdict (firstTests rows cols side settings ground g))
+  unfolding firstTests
+  first-numbered =
+      verdict-numbered size (long ∷ sided ∷ chosen ∷ []) size-numbered
+      (verdict-numbered long (sided ∷ chosen ∷ []) long-numbered
+      (verdict-numbered sided (chosen ∷ []) side-numbered (verdict-numbered chosen [] settings-numbered none-numbered)))
 
   judged-numbered : Numbered (judged rows cols side settings ground g)
   unfolding judged tests
@@ -184,9 +197,5 @@ module _ (rows cols side : ℕ) (settings : Settings) (ground : List ℤ) (g : G
 
   -- an answer with number 0 is no refusal
   pub number-some : told (answer rows cols side settings ground g) .number ≡ 0 → accepts (answer rows cols side settings ground g) ≡ true
-  unfolding answer answerOf
-  number-some = go (judged rows cols side settings ground g) judged-numbered
-    where
-      go : (t : Test) → Numbered t → told (answerOf rows cols ground t) .number ≡ 0 → accepts (answerOf rows cols ground t) ≡ true
-      go passed n e = refl
-      go (failed number place) n e = absurd (omega arith)
+  unfolding answer
+  number-some = answer-some rows cols ground (judged rows cols side settings ground g) judged-numbered

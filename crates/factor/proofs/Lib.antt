@@ -4,6 +4,7 @@ pub mod Sines
 pub mod Factors
 pub mod Slopes
 pub mod Percents
+pub mod Steepnesses
 pub mod Lengths
 pub mod Judging
 pub mod Answers

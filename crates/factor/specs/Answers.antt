@@ -1,5 +1,6 @@
--- RULES 3 and 7.2 to 7.4: what the map call answers, and what each lent grid holds afterwards. Assumes nothing.
+-- RULES 3 and 7.2 to 7.4: what the map call answers, and what each lent grid holds afterwards; and the tests 1 to 4 by themselves. Assumes nothing.
 use mathlib.Core.List.{List, [], _∷_}
+use mathlib.Core.Path.{_≡_}
 use mathlib.Core.Bool.{Bool, true, false}
 use Prim.Native.Nat.{ℕ, _*_}
 use lib.ListN.{length, replicate}
@@ -18,6 +19,8 @@ use Rattle.factor.specs.Length.{lengthsOf}
 use Rattle.factor.specs.Grid.{factorsOf}
 use Rattle.factor.specs.declared.Answer.{Answer}
 use Rattle.factor.specs.declared.Answer.the-variants.{Accepted, Refused}
+use Rattle.factor.specs.declared.tests.Judgement.{Judgement}
+use Rattle.factor.specs.declared.tests.Judgement.the-variants.{Sound, Unsound}
 
 -- the grids that a call is lent to write
 pub record Grids : Type 0 where
@@ -68,7 +71,7 @@ mapOf rows cols side rules ground dir =
     let lv = filledLevels rows cols ground in
     let count = countsOf rows cols dir in
     let lengths = lengthsOf rows cols side rules lv dir count in
-    lent (filledOf rows cols ground) dir count lengths (factorsOf rows cols side lv dir lengths) (replicate (rows * cols) 0)
+    lent (filledOf rows cols ground) dir count lengths (factorsOf rows cols side (rules .formula) lv dir lengths) (replicate (rows * cols) 0)
 
 -- The answer also gives the number of valid cells and the longest trail; a refusal has number and place
 unfoldable pub answerOf : ℕ → ℕ → List ℤ → Test → Answer
@@ -90,6 +93,21 @@ answer rows cols side settings ground g = answerOf rows cols ground (judged rows
 unfoldable pub after : ℕ → ℕ → ℕ → Settings → List ℤ → Grids → Grids
 unfolding judged gridsOf
 after rows cols side settings ground g = gridsOf rows cols side settings ground g (judged rows cols side settings ground g)
+
+-- ---- the tests 1 to 4, which are made before the heights are looked at
+
+-- the verdict that a case of the enum stands for
+abbrev pub found : Judgement → Test
+found (Sound rules) = passed
+found (Unsound f) = failed (f .number) (f .place)
+
+unfoldable pub firstTests : ℕ → ℕ → ℕ → Settings → List ℤ → Grids → List Test
+firstTests rows cols side settings ground g = sizeTest rows cols ∷ lengthTest (rows * cols) (placesOf ground g) ∷ sideTest side ∷ settingsTest settings ∷ []
+
+-- what is found by them; the rules are those of the settings
+pub record Judges (rows cols side : ℕ) (settings : Settings) (ground : List ℤ) (g : Grids) (r : Judgement) : Type 0 where
+  pub verdict-is : found r ≡ verdict (firstTests rows cols side settings ground g)
+  pub rules-are : (rules : Rules) → r ≡ Sound rules → rules ≡ rulesOf settings
 
 -- ---- an answer as the paper's numbers, for the promises of the crates above
 

@@ -4,6 +4,7 @@ use mathlib.Core.Bool.{cond}
 use Prim.Native.Nat.{ℕ, _*_}
 use lib.ListN.{getD}
 use Rattle.laws.specs.Lists.{tab}
+use Rattle.settings.specs.declared.Formula.{Formula}
 use Rattle.terrain.specs.Trail.{mappedAt}
 use Rattle.factor.specs.Slope.{steepnessAt}
 use Rattle.factor.specs.Cell.{factorOf}
@@ -12,11 +13,11 @@ use Rattle.factor.specs.Cell.{factorOf}
 abbrev pub noDataFactor : ℕ
 noDataFactor = 4294967295
 
-module _ (rows cols side : ℕ) (lv dir lengths : List ℕ) where
-  -- LS of the cell x: that of its steepness q and its length
+module _ (rows cols side : ℕ) (formula : Formula) (lv dir lengths : List ℕ) where
+  -- LS of the cell x: that of its steepness q and its length, by the chosen formula
   unfoldable pub factorAt : ℕ → ℕ
   unfolding mappedAt steepnessAt factorOf
-  factorAt x = cond (mappedAt rows cols dir x) (factorOf side (steepnessAt rows cols lv dir x) (getD lengths x 0)) noDataFactor
+  factorAt x = cond (mappedAt rows cols dir x) (factorOf formula side (steepnessAt rows cols lv dir x) (getD lengths x 0)) noDataFactor
 
   unfoldable pub factorsOf : List ℕ
   unfolding tab factorAt

@@ -1,25 +1,22 @@
 -- Only inner functions cite this file: what they assume, and what they answer. Assumes nothing.
 use Prim.Native.Nat.{ℕ, _+_, _-_, _*_, _/_, _%_, _^_, _≤_, _<_}
 use mathlib.Core.Bool.{Bool, true, cond}
-use mathlib.Core.List.{List, [], _∷_}
+use mathlib.Core.List.{List}
 use mathlib.Core.Path.{_≡_}
 use lib.Dec.{ltb, leb, eqb}
 use lib.IntN.{ℤ}
 use lib.ListN.{getD}
-use Rattle.laws.specs.Tests.{Test, passed, failed, verdict}
-use Rattle.text.specs.Ranges.{sizeTest, lengthTest, sideTest}
+use Rattle.laws.specs.Tests.{passed, verdict}
 use Rattle.settings.specs.declared.Settings.{Settings}
 use Rattle.settings.specs.declared.Rules.{Rules}
-use Rattle.settings.specs.Settings.{rulesOf, settingsTest}
+use Rattle.settings.specs.Settings.{rulesOf}
 use Rattle.factor.specs.Inflow.{cutoffFor, stepOver, amountOf}
 use Rattle.factor.specs.LengthFactor.{greatestMm, reached}
 use Rattle.terrain.specs.Filled.{top}
 use Rattle.terrain.specs.Drainage.{Trails, Totals, Surface}
 use Rattle.terrain.specs.Answers.{groundValids}
-use Rattle.factor.specs.Answers.{Grids, placesOf, answer, after, accepts, told}
+use Rattle.factor.specs.Answers.{Grids, firstTests, answer, after, accepts, told}
 use Rattle.factor.specs.declared.Answer.{Answer}
-use Rattle.factor.specs.declared.judge.Judgement.{Judgement}
-use Rattle.factor.specs.declared.judge.Judgement.the-variants.{Sound, Unsound}
 
 -- a cell side, and a steepness as small as those of a map: at most twice the square of a drop below 2^21 cm
 pub record Sloping (side q : ℕ) : Type 0 where
@@ -71,23 +68,7 @@ unfoldable pub broughtBy : ℕ → Rules → ℕ → ℕ → ℕ → ℕ → ℕ
 unfolding cutoffFor amountOf stepOver
 broughtBy side rules k p q start len = amountOf (cutoffFor (rules .low) (rules .high) side q) q p start (stepOver k) len
 
--- ---- the tests that are made before the terrain layer is called
-
--- the verdict that a case of the code's enum stands for
-abbrev pub found : Judgement → Test
-found (Sound rules) = passed
-found (Unsound f) = failed (f .number) (f .place)
-
--- the tests 1 to 4
-unfoldable pub firstTests : ℕ → ℕ → ℕ → Settings → List ℤ → Grids → List Test
-firstTests rows cols side settings ground g = sizeTest rows cols ∷ lengthTest (rows * cols) (placesOf ground g) ∷ sideTest side ∷ settingsTest settings ∷ []
-
--- what is found by them; the rules are those of the settings
-pub record Judges (rows cols side : ℕ) (settings : Settings) (ground : List ℤ) (g : Grids) (r : Judgement) : Type 0 where
-  pub verdict-is : found r ≡ verdict (firstTests rows cols side settings ground g)
-  pub rules-are : (rules : Rules) → r ≡ Sound rules → rules ≡ rulesOf settings
-
--- ---- the map call after these tests
+-- ---- the map call after the tests 1 to 4
 
 module _ (rows cols side : ℕ) (settings : Settings) where
   -- they are passed, and the rules are those of the settings

@@ -16,12 +16,13 @@ use Rattle.factor.specs.Inflow.{startLength}
 use Rattle.factor.specs.Inner.{greatestFall, greatestLength, steepnessOf, finalLength, leftBy, broughtBy}
 use Rattle.factor.specs.declared.pass.Terms.{Terms}
 
--- the terms are those of these rules: an accepted cell side, and what the cutoffs leave, squared
+-- the terms are those of these rules: an accepted cell side, what the cutoffs leave, squared, and the formula
 pub record Ruled (rules : Rules) (terms : Terms) : Type 0 where
   pub side-some : 1 ≤ terms .side
   pub side-small : terms .side ≤ 100000
   pub low-is : terms .low ≡ leftBy (rules .low)
   pub high-is : terms .high ≡ leftBy (rules .high)
+  pub formula-is : terms .formula ≡ rules .formula
 
 -- ---- the turn of one cell
 
@@ -63,7 +64,7 @@ module _ (terms : Terms) (dir count lengths factors : List ℕ) (x : ℕ) where
 
   -- the lists after its turn
   pub record Turned (lengths′ factors′ : List ℕ) : Type 0 where
-    pub factors-are : factors′ ≡ set factors x (factorOf (terms .side) (steepnessOf (getD factors x 0)) lengthNow)
+    pub factors-are : factors′ ≡ set factors x (factorOf (terms .formula) (terms .side) (steepnessOf (getD factors x 0)) lengthNow)
     pub leaves : 8 ≤ bearingAt dir x → lengths′ ≡ set lengths x lengthNow
     pub hands-on : (rules : Rules) → Ruled rules terms → bearingAt dir x < 8 → lengths′ ≡ lengthsNext rules (besideOf (terms .columns) x (bearingAt dir x))
 

@@ -9,17 +9,20 @@ mod channel;
 mod exponent;
 mod guess;
 mod inflow;
-mod judge;
 mod length_factor;
 mod pass;
 mod search;
 mod sine;
 mod slope;
+mod steepness;
+mod tests;
 mod thresholds;
 
 pub use cell::TOO_LONG;
 pub use settings::Channel;
 pub use settings::Settings;
+pub use tests::Judgement;
+pub use tests::judge;
 ghost use mathlib.Core.Path.{_≡_};
 ghost use mathlib.Core.Bool.{true};
 ghost use lib.ListN.{length, replicate};
@@ -27,7 +30,6 @@ ghost use Rattle.terrain.specs.Drainage.{Trails, Totals, Surface};
 ghost use Rattle.settings.specs.declared.Settings.{Settings};
 ghost use Rattle.factor.specs.Answers.{lentAt, lentBefore, lentAfter, answer, after, told, accepts};
 ghost use Rattle.factor.specs.Inner.{Passing, Promised};
-use judge::Judgement;
 use settings::Rules;
 use text::Refusal;
 
@@ -125,7 +127,7 @@ pub fn map(
         Totals rows columns (now (ground .entry)) (now (direction .exit)) (now (count .exit)) (told r .valids)) ⌝ }
     ensures surface { λ r. ⌜ (accepts r ≡ true → Surface rows columns (now (ground .entry)) (now (filled .exit))) ⌝ }
 {
-    let judgement = judge::judge(
+    let judgement = judge(
         rows,
         columns,
         side,

@@ -28,16 +28,18 @@ use crate::slope::Slope;
 use crate::slope::steepness_of;
 use crate::thresholds;
 use crate::thresholds::Lists;
+use settings::Formula;
 use settings::Rules;
 
-// What lengths are measured by: the columns of the map, its cell side in cm, what the low and the high cutoff leave, squared, and the
-// greatest count that is no channel's. The squares are made once for a map, and each cell compares with them.
+// What lengths and LS are measured by: the columns of the map, its cell side in cm, what the low and the high cutoff leave, squared, the
+// greatest count that is no channel's, and the steepness formula. The squares are made once for a map, and each cell compares with them.
 pub(crate) struct Terms {
     columns: usize,
     side: u32,
     low: u64,
     high: u64,
     most: u64,
+    formula: Formula,
 }
 
 fn longer(a: u64, b: u64) -> u64
@@ -111,7 +113,8 @@ fn turn(
     lengths[x] = length;
     let fall = factors[x];
     let p = steepness_of(fall);
-    factors[x] = factor_of(terms.side, p, length, fall, lists, guesses);
+    let formula = terms.formula;
+    factors[x] = factor_of(formula, terms.side, p, length, fall, lists, guesses);
     let k = u8::trailing_zeros(direction[x]) as usize;
     if 8 <= k {
         return;
@@ -156,15 +159,17 @@ pub(crate) fn measure(
         Measuring rows columns side lv (now (direction .entry)) (now (count .entry)) (now (order .entry)) places
         (now (lengths .entry)) (now (factors .entry)) →
         (now (lengths .exit) ≡ lengthsOf rows columns side rules lv (now (direction .entry)) (now (count .entry)))
-        × (now (factors .exit) ≡ factorsOf rows columns side lv (now (direction .entry)) (now (lengths .exit)))) ⌝ }
+        × (now (factors .exit) ≡ factorsOf rows columns side (rules .formula) lv (now (direction .entry)) (now (lengths .exit)))) ⌝ }
 {
     let threshold = rules.threshold;
+    let formula = rules.formula;
     let terms = Terms {
         columns: columns,
         side: side,
         low: left_by(rules.low),
         high: left_by(rules.high),
         most: channel_bound(threshold, largest(count)),
+        formula: formula,
     };
     let shifts = terrain::shifts_of(columns);
     let lists = thresholds::all();

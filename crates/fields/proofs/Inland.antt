@@ -6,6 +6,7 @@ use Prim.Native.Nat.{ℕ}
 use Rattle.text.specs.Ranges.{sizeTest, lengthTest, sideTest, heightTest}
 use Rattle.settings.specs.declared.Channel.{Channel}
 use Rattle.settings.specs.declared.Channel.the-variants.{Percentage, NoChannel}
+use Rattle.settings.specs.declared.Formula.the-variants.{Older}
 use Rattle.settings.specs.declared.Settings.{Settings}
 use Rattle.settings.specs.Settings.{quotient, settingsTest}
 use Rattle.terrain.specs.Cells.{noData}
@@ -14,7 +15,7 @@ use Rattle.fields.specs.Claims.{Claim, mapped, refusedAt, half, All}
 
 -- cutoffs in thousandths
 abbrev thousandths : ℕ → ℕ → Channel → Settings
-thousandths low high channel = record { low = quotient 1000 low; high = quotient 1000 high; channel = channel }
+thousandths low high channel = record { low = quotient 1000 low; high = quotient 1000 high; channel = channel; formula = Older }
 
 unfoldable pub inland : List Claim
 inland =

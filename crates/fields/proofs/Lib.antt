@@ -1,3 +1,4 @@
 pub mod Papers
 pub mod Inland
 pub mod Rules
+pub mod Formulas

@@ -5,6 +5,7 @@ use lib.IntN.{pos, negsuc}
 use Prim.Native.Nat.{ℕ}
 use Rattle.settings.specs.declared.Threshold.{Threshold}
 use Rattle.settings.specs.declared.Threshold.the-variants.{Share, Over, Never}
+use Rattle.settings.specs.declared.Formula.the-variants.{Older}
 use Rattle.settings.specs.declared.Rules.{Rules}
 use Rattle.terrain.specs.Cells.{noData}
 use Rattle.terrain.specs.Answers.{groundDirections}
@@ -14,7 +15,7 @@ use Rattle.factor.specs.Answers.{mapOf}
 use Rattle.fields.specs.Claims.{Claim, measured, reaches, factored, All}
 
 abbrev rules : ℕ → ℕ → Threshold → Rules
-rules low high threshold = record { low = low; high = high; threshold = threshold }
+rules low high threshold = record { low = low; high = high; threshold = threshold; formula = Older }
 
 unfoldable pub edges : List Claim
 edges =

@@ -5,12 +5,15 @@ use Prim.Native.Nat.{ℕ, _*_}
 use lib.ListN.{replicate}
 use lib.IntN.{ℤ, pos}
 use Rattle.settings.specs.declared.Channel.the-variants.{NoChannel}
+use Rattle.settings.specs.declared.Formula.{Formula}
+use Rattle.settings.specs.declared.Formula.the-variants.{Older, Newer}
 use Rattle.settings.specs.declared.Settings.{Settings}
 use Rattle.settings.specs.declared.Rules.{Rules}
 use Rattle.settings.specs.Settings.{quotient}
 use Rattle.terrain.specs.Answers.{groundDirections}
 use Rattle.factor.specs.Exponent.{exponentOf}
 use Rattle.factor.specs.LengthFactor.{lengthFactor}
+use Rattle.factor.specs.Steepness.{sineOf, steepnessFactor}
 use Rattle.factor.specs.Cell.{factorOf}
 use Rattle.factor.specs.Answers.{Grids, mapOf, answer, after}
 use Rattle.factor.specs.declared.Answer.the-variants.{Accepted, Refused}
@@ -25,9 +28,13 @@ pub record Maps : Type 0 where
   pub lengths : List ℕ
   pub factors : List ℕ
 
--- cutoffs in percent, and no channels
+-- a formula, cutoffs in percent, and no channels
+abbrev pub settingsBy : Formula → ℕ → ℕ → Settings
+settingsBy formula low high = record { low = quotient 100 low; high = quotient 100 high; channel = NoChannel; formula = formula }
+
+-- the older formula, unless said
 abbrev pub settings : ℕ → ℕ → Settings
-settings low high = record { low = quotient 100 low; high = quotient 100 high; channel = NoChannel }
+settings = settingsBy Older
 
 -- cutoffs 0.5, no channels, unless said
 abbrev pub half : Settings
@@ -46,6 +53,8 @@ pub data Claim : Type 0 where
   east : (drop k : ℕ) → Claim
   -- a steepness and a length give LS; the side is 10 m
   factored : (q length ls : ℕ) → Claim
+  -- a cell side and a steepness give the sine u, and by each formula S
+  steep : (side q u older newer : ℕ) → Claim
 
 -- n places of each grid, as they are lent
 abbrev pub lent : ℕ → Grids
@@ -61,7 +70,8 @@ Holds (refusedAt rows cols side given ground number place) =
 Holds (measured rows cols side rules ground lengths) = (let dir = groundDirections rows cols ground in mapOf rows cols side rules ground dir .lengths) ≡ lengths
 Holds (reaches k mm t) = lengthFactor k mm ≡ t
 Holds (east drop k) = exponentOf 1000 (2 * (drop * drop)) ≡ k
-Holds (factored q length ls) = factorOf 1000 q length ≡ ls
+Holds (factored q length ls) = factorOf Older 1000 q length ≡ ls
+Holds (steep side q u older newer) = (sineOf side q ≡ u) × (steepnessFactor Older side q ≡ older) × (steepnessFactor Newer side q ≡ newer)
 
 abbrev pub All : List Claim → Type 0
 All [] = Unit

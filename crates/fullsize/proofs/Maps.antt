@@ -1,30 +1,139 @@
--- What a map call promises, told of the numbers that are handed out and of the settings that the five numbers stand for. Assumes nothing.
-use mathlib.Core.Path.{_≡_, sym, ap, subst, _∙_}
-use mathlib.Core.Bool.{true}
-use mathlib.Core.List.{List}
-use Prim.Native.Nat.{ℕ}
+-- What a map call promises, with the formula's number judged after its own tests 1 to 4, and told of the numbers that are handed out and of the
+-- settings that the six numbers stand for. Assumes nothing.
+use mathlib.Core.Path.{_≡_, refl, sym, ap, subst, _∙_}
+use mathlib.Core.Bool.{true, true≢false}
+use mathlib.Core.List.{List, [], _∷_, _++_}
+use Prim.Native.Nat.{ℕ, _*_, _≤_, _<_}
+use native.Mathlib.Omega.{arith}
 use lib.IntN.{ℤ}
+use lib.Dec.{leb}
+use borrow.Author.Tests.{le-leb, lt-leb}
+use Rattle.laws.specs.Tests.{Test, passed, failed, verdict}
+use Rattle.laws.proofs.Verdicts.{test-yes, test-no, verdict-next, verdict-stops, verdict-before, verdict-after, Numbered, test-numbered, verdict-numbered}
+use Rattle.text.specs.Ranges.{heightTest}
 use Rattle.settings.specs.declared.Settings.{Settings}
 use Rattle.terrain.specs.Drainage.{Totals}
-use Rattle.factor.specs.Answers.{Grids, answer, after, Numbers, told, accepts}
+use Rattle.factor.specs.Answers.{Grids, tests, judged, answerOf, gridsOf, answer, after, found, firstTests, Judges, Numbers, told, accepts}
 use Rattle.factor.specs.declared.Answer.{Answer}
-use Rattle.factor.proofs.Judging.{number-some}
+use Rattle.factor.specs.declared.tests.Judgement.{Judgement}
+use Rattle.factor.specs.declared.tests.Judgement.the-variants.{Sound, Unsound}
+use Rattle.factor.proofs.Judging.{answer-some, first-numbered, heights-numbered}
+use Rattle.fullsize.specs.Crossing.{formulaTest}
+use Rattle.fullsize.specs.Mapping.{judgedBy, answerBy, afterBy}
+use Rattle.fullsize.specs.InnerMapping.{withoutFormula}
 
-module _ (rows cols side : ℕ) (ground : List ℤ) (g : Grids) {s t : Settings} (same : s ≡ t) where
-  pub answers-of : {n : Numbers} {a : Answer} → n ≡ told a → a ≡ answer rows cols side s ground g → n ≡ told (answer rows cols side t ground g)
-  answers-of e p = e ∙ ap told (p ∙ ap (λ (x : Settings). answer rows cols side x ground g) same)
+-- ---- the number of the formula
 
-  pub leaves-of : {left : Grids} → left ≡ after rows cols side s ground g → left ≡ after rows cols side t ground g
-  leaves-of p = p ∙ ap (λ (x : Settings). after rows cols side x ground g) same
+formula-passes : (n : ℕ) → n ≤ 1 → formulaTest n ≡ passed
+unfolding formulaTest
+formula-passes n h = test-yes 4 7 (le-leb n 1 h)
 
-module _ (rows cols side : ℕ) (settings : Settings) (ground : List ℤ) (g : Grids) where
+formula-fails : (n : ℕ) → 1 < n → formulaTest n ≡ failed 4 7
+unfolding formulaTest
+formula-fails n h = test-no 4 7 (lt-leb n 1 h)
+
+formula-numbered : (n : ℕ) → Numbered (formulaTest n)
+unfolding formulaTest
+formula-numbered n = test-numbered (leb n 1) 4 7 (omega arith)
+
+-- two lists of tests after a third decide alike, if they do by themselves
+verdict-same : (l m n : List Test) → verdict m ≡ verdict n → verdict (l ++ m) ≡ verdict (l ++ n)
+unfolding verdict
+verdict-same [] m n e = e
+verdict-same (passed ∷ l) m n e = verdict-same l m n e
+verdict-same (failed number place ∷ l) m n e = refl
+
+-- a refusal by either of two lists of tests has a number
+joined-numbered : (l m : List Test) → Numbered (verdict l) → Numbered (verdict m) → Numbered (verdict (l ++ m))
+unfolding verdict
+joined-numbered [] m h i = i
+joined-numbered (passed ∷ l) m h i = joined-numbered l m h i
+joined-numbered (failed number place ∷ l) m h i = h
+
+module _ (rows cols side : ℕ) (settings : Settings) (formula : ℕ) (ground : List ℤ) (g : Grids) where
+  abbrev first : List Test
+  first = firstTests rows cols side settings ground g
+
+  abbrev heights : Test
+  heights = heightTest (rows * cols) ground
+
+  none-numbered : Numbered (verdict [])
+  unfolding verdict
+  none-numbered = tt
+
+  judged-numbered : Numbered (judgedBy rows cols side settings formula ground g)
+  unfolding judgedBy
+  judged-numbered =
+      joined-numbered first (formulaTest formula ∷ heights ∷ []) (first-numbered rows cols side settings ground g)
+      (verdict-numbered (formulaTest formula) (heights ∷ []) (formula-numbered formula)
+      (verdict-numbered heights [] (heights-numbered rows cols side settings ground g) none-numbered))
+
+  -- ---- there is such a formula: the tests decide as the map call's do
+
+  module _ (h : formula ≤ 1) where
+    judged-is : judged rows cols side settings ground g ≡ judgedBy rows cols side settings formula ground g
+    unfolding judged tests firstTests judgedBy
+    judged-is = verdict-same first (heights ∷ []) (formulaTest formula ∷ heights ∷ []) (sym (verdict-next (heights ∷ []) (formula-passes formula h)))
+
+    pub answer-is : {a : Answer} → a ≡ answer rows cols side settings ground g → a ≡ answerBy rows cols side settings formula ground g
+    unfolding answer answerBy
+    answer-is e = e ∙ ap (answerOf rows cols ground) judged-is
+
+    pub after-is : {left : Grids} → left ≡ after rows cols side settings ground g → left ≡ afterBy rows cols side settings formula ground g
+    unfolding after afterBy
+    after-is e = e ∙ ap (gridsOf rows cols side settings ground g) judged-is
+
+  -- ---- there is none: a refusal, and the grids stay as they were
+
+  module _ (h : 1 < formula) {j : Judgement} (judges : Judges rows cols side settings ground g j) where
+    -- the tests refuse with what was found before, or with 4 at 7
+    abbrev Decided : Test → Type 0
+    Decided t = (withoutFormula j ≡ answerOf rows cols ground t) × (g ≡ gridsOf rows cols side settings ground g t)
+
+    decided : Decided (judgedBy rows cols side settings formula ground g)
+    unfolding judgedBy answerOf gridsOf
+    decided = go j (judges .verdict-is)
+      where
+        go : (k : Judgement) → found k ≡ verdict first →
+            (withoutFormula k ≡ answerOf rows cols ground (verdict (first ++ (formulaTest formula ∷ heights ∷ []))))
+            × (g ≡ gridsOf rows cols side settings ground g (verdict (first ++ (formulaTest formula ∷ heights ∷ []))))
+        go (Unsound f) e =
+            let d = verdict-before first (formulaTest formula ∷ heights ∷ []) (sym e) in
+            (sym (ap (answerOf rows cols ground) d), sym (ap (gridsOf rows cols side settings ground g) d))
+        go (Sound rules) e =
+            let d = verdict-after first (formulaTest formula ∷ heights ∷ []) (sym e) ∙ verdict-stops (heights ∷ []) (formula-fails formula h) in
+            (sym (ap (answerOf rows cols ground) d), sym (ap (gridsOf rows cols side settings ground g) d))
+
+    pub none-answers : {a : Answer} → a ≡ withoutFormula j → a ≡ answerBy rows cols side settings formula ground g
+    unfolding answerBy
+    none-answers e = e ∙ decided .0
+
+    pub none-leaves : g ≡ afterBy rows cols side settings formula ground g
+    unfolding afterBy
+    none-leaves = decided .1
+
+-- it is no acceptance
+pub none-accepted : {a : Answer} (j : Judgement) → a ≡ withoutFormula j → accepts a ≡ true → ⊥
+none-accepted (Unsound f) e z = true≢false (sym z ∙ ap accepts e)
+none-accepted (Sound rules) e z = true≢false (sym z ∙ ap accepts e)
+
+-- ---- the numbers that are handed out
+
+module _ (rows cols side formula : ℕ) (ground : List ℤ) (g : Grids) {s t : Settings} (same : s ≡ t) where
+  pub answers-of : {n : Numbers} {a : Answer} → n ≡ told a → a ≡ answerBy rows cols side s formula ground g → n ≡ told (answerBy rows cols side t formula ground g)
+  answers-of e p = e ∙ ap told (p ∙ ap (λ (x : Settings). answerBy rows cols side x formula ground g) same)
+
+  pub leaves-of : {left : Grids} → left ≡ afterBy rows cols side s formula ground g → left ≡ afterBy rows cols side t formula ground g
+  leaves-of p = p ∙ ap (λ (x : Settings). afterBy rows cols side x formula ground g) same
+
+module _ (rows cols side : ℕ) (settings : Settings) (formula : ℕ) (ground : List ℤ) (g : Grids) where
   -- a call that hands out the number 0 is accepted
-  module _ {n : Numbers} {a : Answer} (e : n ≡ told a) (p : a ≡ answer rows cols side settings ground g) (z : n .number ≡ 0) where
-    told-is : n ≡ told (answer rows cols side settings ground g)
-    told-is = e ∙ ap told p
-
-    accepted : accepts (answer rows cols side settings ground g) ≡ true
-    accepted = number-some rows cols side settings ground g (sym (ap (λ (x : Numbers). x .number) told-is) ∙ z)
+  module _ {n : Numbers} {a : Answer} (e : n ≡ told a) (p : a ≡ answerBy rows cols side settings formula ground g) (z : n .number ≡ 0) where
+    accepted : accepts (answerBy rows cols side settings formula ground g) ≡ true
+    unfolding answerBy
+    accepted =
+        answer-some rows cols ground (judgedBy rows cols side settings formula ground g) (judged-numbered rows cols side settings formula ground g)
+        (sym (ap (λ (x : Numbers). x .number) (e ∙ ap told p)) ∙ z)
 
     pub accepts-of : accepts a ≡ true
     accepts-of = ap accepts p ∙ accepted

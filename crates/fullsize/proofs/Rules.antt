@@ -1,5 +1,5 @@
 -- Settings as numbers: none is lost on the way, and a kind that is no rule is not accepted. Assumes nothing.
-use mathlib.Core.Path.{_≡_, refl, sym, ap}
+use mathlib.Core.Path.{_≡_, refl, sym, ap, _∙_}
 use mathlib.Core.Bool.{false}
 use Prim.Native.Nat.{ℕ, _≤_, _<_}
 use native.Mathlib.Omega.{arith}
@@ -8,24 +8,33 @@ use lib.Ieee.{Float}
 use Rattle.settings.specs.Settings.{wholeOf, thresholdOf, thresholdAccepted, judgedOf}
 use Rattle.settings.specs.declared.Channel.{Channel}
 use Rattle.settings.specs.declared.Channel.the-variants.{Percentage, Cells, NoChannel}
+use Rattle.settings.specs.declared.Formula.{Formula}
+use Rattle.settings.specs.declared.Formula.the-variants.{Older, Newer}
 use Rattle.settings.specs.declared.Settings.{Settings}
 use Rattle.settings.specs.declared.Judged.the-variants.{Refused}
 use Rattle.settings.proofs.Cutoffs.{judged-channel}
-use Rattle.fullsize.specs.Crossing.{Numbers, noRule, channelOf, settingsOf, numbersWith, numbersOf}
+use Rattle.fullsize.specs.Crossing.{Numbers, noRule, channelOf, formulaOf, settingsOf, numbersWith, formulaNumber, numbersOf}
 
 -- the settings of numbers that were handed out
 abbrev pub back : Numbers → Settings
-back n = settingsOf (n .low) (n .high) (n .kind) (n .cells) (n .percentage)
+back n = settingsOf (n .low) (n .high) (n .kind) (n .cells) (n .percentage) (n .formula)
 
-back-with : (low high : Float) (rule : Channel) → back (numbersWith low high rule) ≡ record { low = low; high = high; channel = rule }
+back-with : (low high : Float) (n : ℕ) (rule : Channel) → back (numbersWith low high n rule) ≡ record { low = low; high = high; channel = rule; formula = formulaOf n }
 unfolding numbersWith settingsOf channelOf
-back-with low high NoChannel = refl
-back-with low high (Cells n) = refl
-back-with low high (Percentage x) = refl
+back-with low high n NoChannel = refl
+back-with low high n (Cells cells) = refl
+back-with low high n (Percentage x) = refl
+
+back-formula : (formula : Formula) → formulaOf (formulaNumber formula) ≡ formula
+unfolding formulaOf formulaNumber
+back-formula Older = refl
+back-formula Newer = refl
 
 pub back-numbers : (s : Settings) → back (numbersOf s) ≡ s
 unfolding numbersOf
-back-numbers s = back-with (s .low) (s .high) (s .channel)
+back-numbers s =
+    back-with (s .low) (s .high) (formulaNumber (s .formula)) (s .channel)
+    ∙ ap (λ (f : Formula). record { low = s .low; high = s .high; channel = s .channel; formula = f }) (back-formula (s .formula))
 
 -- 101 percent is not accepted
 no-rule : thresholdAccepted (thresholdOf noRule) ≡ false
@@ -37,7 +46,9 @@ unfolding channelOf
 other-rule kind cells percentage h = rw (ne-eqb kind 0 (λ e. omega arith), ne-eqb kind 1 (λ e. omega arith), ne-eqb kind 2 (λ e. omega arith))
 
 -- beside accepted cutoffs, any other kind is what is wrong: the third setting
-pub other-refused : (low high : Float) (kind cells : ℕ) (percentage : Float) → wholeOf 100 100 low ≤ 100 → wholeOf 100 100 high ≤ 100 → 2 < kind → judgedOf (settingsOf low high kind cells percentage) ≡ Refused 3
+pub other-refused : (low high : Float) (kind cells : ℕ) (percentage : Float) (formula : ℕ) → wholeOf 100 100 low ≤ 100 → wholeOf 100 100 high ≤ 100 →
+    2 < kind → judgedOf (settingsOf low high kind cells percentage formula) ≡ Refused 3
 unfolding settingsOf
-other-refused low high kind cells percentage l h k =
-    sym (judged-channel (settingsOf low high kind cells percentage) refl l refl h (thresholdOf noRule) (sym (ap thresholdOf (other-rule kind cells percentage k))) no-rule)
+other-refused low high kind cells percentage formula l h k =
+    sym (judged-channel (settingsOf low high kind cells percentage formula) refl l refl h (thresholdOf noRule)
+    (sym (ap thresholdOf (other-rule kind cells percentage k))) no-rule)

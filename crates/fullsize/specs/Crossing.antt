@@ -1,24 +1,29 @@
 -- Settings as plain numbers, for a caller that has no enum. RULES 7.3: the channel rule is a percentage of the largest flow count, a
--- number of cells, or none. Assumes nothing.
+-- number of cells, or none; the steepness formula is the older or the newer one. Assumes nothing.
 use Prim.Native.Nat.{ℕ}
 use mathlib.Core.Bool.{cond}
-use lib.Dec.{eqb}
+use lib.Dec.{eqb, leb}
 use lib.Ieee.{Float}
+use Rattle.laws.specs.Tests.{Test, test}
 use Rattle.settings.specs.Settings.{quotient}
 use Rattle.settings.specs.declared.Channel.{Channel}
 use Rattle.settings.specs.declared.Channel.the-variants.{Percentage, Cells, NoChannel}
+use Rattle.settings.specs.declared.Formula.{Formula}
+use Rattle.settings.specs.declared.Formula.the-variants.{Older, Newer}
 use Rattle.settings.specs.declared.Settings.{Settings}
 
--- the two cutoffs; the kind of channel rule, 0 none, 1 a number of cells, 2 a percentage; and these two
+-- the two cutoffs; the kind of channel rule, 0 none, 1 a number of cells, 2 a percentage; these two; and the formula, 0 older, 1 newer
 pub record Numbers : Type 0 where
   pub low : Float
   pub high : Float
   pub kind : ℕ
   pub cells : ℕ
   pub percentage : Float
+  pub formula : ℕ
 
-abbrev pub numbers : Float → Float → ℕ → ℕ → Float → Numbers
-numbers low high kind cells percentage = record { low = low; high = high; kind = kind; cells = cells; percentage = percentage }
+abbrev pub numbers : Float → Float → ℕ → ℕ → Float → ℕ → Numbers
+numbers low high kind cells percentage formula =
+    record { low = low; high = high; kind = kind; cells = cells; percentage = percentage; formula = formula }
 
 -- 101 percent: a rule that is not accepted
 unfoldable pub noRule : Channel
@@ -30,18 +35,31 @@ unfoldable pub channelOf : ℕ → ℕ → Float → Channel
 unfolding noRule
 channelOf kind cells percentage = cond (eqb kind 0) NoChannel (cond (eqb kind 1) (Cells cells) (cond (eqb kind 2) (Percentage percentage) noRule))
 
-unfoldable pub settingsOf : Float → Float → ℕ → ℕ → Float → Settings
-unfolding channelOf
-settingsOf low high kind cells percentage = record { low = low; high = high; channel = channelOf kind cells percentage }
+-- The formula of a number: 0 the older one, 1 the newer. Any other number is no formula, and `formulaTest` refuses it before it means anything.
+unfoldable pub formulaOf : ℕ → Formula
+formulaOf n = cond (eqb n 0) Older Newer
+
+-- 4: a setting not accepted; place 7, the formula, is judged after the channel rule's place 3
+unfoldable pub formulaTest : ℕ → Test
+formulaTest n = test (leb n 1) 4 7
+
+unfoldable pub settingsOf : Float → Float → ℕ → ℕ → Float → ℕ → Settings
+unfolding channelOf formulaOf
+settingsOf low high kind cells percentage formula =
+    record { low = low; high = high; channel = channelOf kind cells percentage; formula = formulaOf formula }
 
 -- settings as numbers; the one that the kind leaves out is 0
-unfoldable pub numbersWith : Float → Float → Channel → Numbers
+unfoldable pub numbersWith : Float → Float → ℕ → Channel → Numbers
 unfolding quotient
-numbersWith low high NoChannel = numbers low high 0 0 (quotient 100 0)
-numbersWith low high (Cells n) = numbers low high 1 n (quotient 100 0)
-numbersWith low high (Percentage x) = numbers low high 2 0 x
+numbersWith low high formula NoChannel = numbers low high 0 0 (quotient 100 0) formula
+numbersWith low high formula (Cells n) = numbers low high 1 n (quotient 100 0) formula
+numbersWith low high formula (Percentage x) = numbers low high 2 0 x formula
+
+unfoldable pub formulaNumber : Formula → ℕ
+formulaNumber Older = 0
+formulaNumber Newer = 1
 
 -- settings come back from their numbers as they were (the law `back-numbers`)
 unfoldable pub numbersOf : Settings → Numbers
-unfolding numbersWith
-numbersOf s = numbersWith (s .low) (s .high) (s .channel)
+unfolding numbersWith formulaNumber
+numbersOf s = numbersWith (s .low) (s .high) (formulaNumber (s .formula)) (s .channel)

@@ -26,5 +26,6 @@ abbrev pub writingAfter : ℕ → Lent ℕ → Lent ℕ → writer.Numbers
 writingAfter number place length = writing number (now (place .exit)) (now (length .exit))
 
 -- settings that are handed out
-abbrev pub numbersAfter : Lent Float → Lent Float → Lent ℕ → Lent ℕ → Lent Float → Numbers
-numbersAfter low high kind cells percentage = numbers (now (low .exit)) (now (high .exit)) (now (kind .exit)) (now (cells .exit)) (now (percentage .exit))
+abbrev pub numbersAfter : Lent Float → Lent Float → Lent ℕ → Lent ℕ → Lent Float → Lent ℕ → Numbers
+numbersAfter low high kind cells percentage formula =
+    numbers (now (low .exit)) (now (high .exit)) (now (kind .exit)) (now (cells .exit)) (now (percentage .exit)) (now (formula .exit))

@@ -1,3 +1,5 @@
 pub mod Outcomes
 pub mod Crossing
+pub mod Mapping
 pub mod Lent
+pub mod InnerMapping

@@ -1,9 +1,10 @@
-// Settings as plain numbers: the two cutoffs, the kind of channel rule (0 none, 1 a number of cells, 2 a percentage), and the
-// number of cells and the percentage, of which the kind says which one counts.
+// Settings as plain numbers: the two cutoffs, the kind of channel rule (0 none, 1 a number of cells, 2 a percentage), the number of cells and
+// the percentage, of which the kind says which one counts, and the steepness formula (0 older, 1 newer).
 ghost use mathlib.Core.Path.{_≡_};
-ghost use Rattle.fullsize.specs.Crossing.{numbersOf, channelOf, settingsOf};
+ghost use Rattle.fullsize.specs.Crossing.{numbersOf, channelOf, formulaOf, formulaNumber, settingsOf};
 ghost use Rattle.fullsize.specs.Lent.{numbersAfter};
 use settings::Channel;
+use settings::Formula;
 use settings::Settings;
 
 // The channel rule of a kind; any other kind gives a percentage that the map call refuses.
@@ -22,14 +23,42 @@ fn channel_of(kind: u32, cells: u32, percentage: f64) -> Channel
     Channel::Percentage(101.0)
 }
 
-pub(crate) fn settings_of(low: f64, high: f64, kind: u32, cells: u32, percentage: f64) -> Settings
-    ensures { λ r. ⌜ r ≡ settingsOf low high kind cells percentage ⌝ }
+// The formula of a number; what is above 1 is judged before it is used.
+fn formula_of(number: u32) -> Formula
+    ensures { λ r. ⌜ r ≡ formulaOf number ⌝ }
+{
+    if number == 0 {
+        return Formula::Older;
+    }
+    Formula::Newer
+}
+
+fn formula_number(formula: Formula) -> u32
+    ensures { λ r. ⌜ r ≡ formulaNumber formula ⌝ }
+{
+    match formula {
+        Formula::Older => 0,
+        Formula::Newer => 1,
+    }
+}
+
+pub(crate) fn settings_of(
+    low: f64,
+    high: f64,
+    kind: u32,
+    cells: u32,
+    percentage: f64,
+    formula: u32,
+) -> Settings
+    ensures { λ r. ⌜ r ≡ settingsOf low high kind cells percentage formula ⌝ }
 {
     let channel = channel_of(kind, cells, percentage);
+    let chosen = formula_of(formula);
     Settings {
         low: low,
         high: high,
         channel: channel,
+        formula: chosen,
     }
 }
 
@@ -41,9 +70,12 @@ pub(crate) fn hand_out(
     kind: &mut u32,
     cells: &mut u32,
     percentage: &mut f64,
+    formula: &mut u32,
 )
-    ensures { λ _. ⌜ numbersAfter low high kind cells percentage ≡ numbersOf settings ⌝ }
+    ensures { λ _. ⌜ numbersAfter low high kind cells percentage formula ≡ numbersOf settings ⌝ }
 {
+    let chosen = settings.formula;
+    *formula = formula_number(chosen);
     *low = settings.low;
     *high = settings.high;
     let channel = settings.channel;

@@ -5,19 +5,21 @@
 // `requires`: a caller owes only what no call can see, that each pointer with its length is memory of its own.
 mod answers;
 mod crossing;
+mod mapping;
 
 ghost use mathlib.Core.Path.{_≡_};
 ghost use Rattle.text.specs.Answers.{headerAnswer, cornersAnswer, gridAnswer};
 ghost use Rattle.floats.specs.Answers.{floatsAnswer};
 ghost use Rattle.settings.specs.Settings.{defaultSettings};
 ghost use Rattle.terrain.specs.Drainage.{Trails, Totals, Surface};
-ghost use Rattle.factor.specs.Answers.{answer, after, told, lentBefore, lentAfter};
+ghost use Rattle.factor.specs.Answers.{told, lentBefore, lentAfter};
 ghost use Rattle.writer.specs.Text.{frame};
 ghost use Rattle.writer.specs.Answers.{heightCells, countCells, factorCells};
 ghost use Rattle.writer.specs.Answers as W;
 ghost use Rattle.writer.specs.Rooms.{roomFor, Holds};
 ghost use Rattle.fullsize.specs.Outcomes.{gridReading};
 ghost use Rattle.fullsize.specs.Crossing.{numbersOf, settingsOf};
+ghost use Rattle.fullsize.specs.Mapping.{answerBy, afterBy};
 ghost use Rattle.fullsize.specs.Lent.{readingAfter, cornersAfter, mappingAfter, numbersAfter, writingAfter};
 use settings::Settings;
 
@@ -90,14 +92,15 @@ pub extern "C" fn lsmap_default_settings(
     kind: &mut u32,
     cells: &mut u32,
     percentage: &mut f64,
+    formula: &mut u32,
 )
-    ensures { λ _. ⌜ numbersAfter low high kind cells percentage ≡ numbersOf defaultSettings ⌝ }
+    ensures { λ _. ⌜ numbersAfter low high kind cells percentage formula ≡ numbersOf defaultSettings ⌝ }
 {
     let settings = Settings::default();
-    crossing::hand_out(settings, low, high, kind, cells, percentage)
+    crossing::hand_out(settings, low, high, kind, cells, percentage, formula)
 }
 
-// Maps a ground into the lent grids: `factor::map`, with the settings of the five numbers.
+// Maps a ground into the lent grids: `factor::map`, with the settings of the six numbers.
 #[no_mangle]
 pub extern "C" fn lsmap_map(
     rows: usize,
@@ -108,6 +111,7 @@ pub extern "C" fn lsmap_map(
     kind: u32,
     cells: u32,
     percentage: f64,
+    formula: u32,
     ground: &[i32],
     filled: &mut [i32],
     direction: &mut [u8],
@@ -120,22 +124,23 @@ pub extern "C" fn lsmap_map(
     longest: &mut u32,
 ) -> u32
     ensures answers { λ r. ⌜ mappingAfter r place valid longest
-        ≡ told (answer rows columns side (settingsOf low high kind cells percentage) (now (ground .entry))
+        ≡ told (answerBy rows columns side (settingsOf low high kind cells percentage formula) formula (now (ground .entry))
         (lentBefore filled direction count lengths factors workspace)) ⌝ }
     ensures leaves { λ _. ⌜ lentAfter filled direction count lengths factors workspace
-        ≡ after rows columns side (settingsOf low high kind cells percentage) (now (ground .entry))
+        ≡ afterBy rows columns side (settingsOf low high kind cells percentage formula) formula (now (ground .entry))
         (lentBefore filled direction count lengths factors workspace) ⌝ }
     ensures trails { λ r. ⌜ (r ≡ 0 → Trails rows columns (now (ground .entry)) (now (filled .exit)) (now (direction .exit))) ⌝ }
     ensures totals { λ r. ⌜ (r ≡ 0 →
         Totals rows columns (now (ground .entry)) (now (direction .exit)) (now (count .exit)) (now (valid .exit))) ⌝ }
     ensures surface { λ r. ⌜ (r ≡ 0 → Surface rows columns (now (ground .entry)) (now (filled .exit))) ⌝ }
 {
-    let settings = crossing::settings_of(low, high, kind, cells, percentage);
-    let answer = factor::map(
+    let settings = crossing::settings_of(low, high, kind, cells, percentage, formula);
+    let answer = mapping::map(
         rows,
         columns,
         side,
         settings,
+        formula,
         ground,
         filled,
         direction,

@@ -3,9 +3,10 @@ ghost use mathlib.Core.Path.{_≡_};
 ghost use Rattle.programs.specs.Settings.{jobSettings};
 use libc::STDIN_FILENO;
 use libc::STDOUT_FILENO;
+use settings::Formula;
 use settings::Settings;
 
-// The job's settings: cutoffs 0.5, and channels by the library's default.
+// The job's settings: cutoffs 0.5, channels by the library's default, and the older steepness formula.
 pub fn job_settings() -> Settings
     ensures { λ r. ⌜ r ≡ jobSettings ⌝ }
 {
@@ -15,6 +16,7 @@ pub fn job_settings() -> Settings
         low: 0.5,
         high: 0.5,
         channel: channel,
+        formula: Formula::Older,
     }
 }
 

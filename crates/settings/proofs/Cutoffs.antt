@@ -16,6 +16,8 @@ use Rattle.laws.proofs.Tests.{two}
 use Rattle.laws.proofs.First.{first-is, first-holds}
 use Rattle.settings.specs.declared.Channel.{Channel}
 use Rattle.settings.specs.declared.Channel.the-variants.{Percentage, Cells, NoChannel}
+use Rattle.settings.specs.declared.Formula.{Formula}
+use Rattle.settings.specs.declared.Formula.the-variants.{Older, Newer}
 use Rattle.settings.specs.declared.Settings.{Settings}
 use Rattle.settings.specs.declared.Threshold.{Threshold}
 use Rattle.settings.specs.declared.Threshold.the-variants.{Share, Over, Never}
@@ -144,7 +146,7 @@ module _ (d top : ℕ) (rising : Rising d top) where
 
 -- ---- the verdict on settings, test by test as the code makes it
 
-judged-is : (s : Settings) → judgedOf s ≡ verdictOf (record { low = wholeOf 100 100 (s .low); high = wholeOf 100 100 (s .high); threshold = thresholdOf (s .channel) })
+judged-is : (s : Settings) → judgedOf s ≡ verdictOf (record { low = wholeOf 100 100 (s .low); high = wholeOf 100 100 (s .high); threshold = thresholdOf (s .channel); formula = s .formula })
 unfolding judgedOf
 judged-is s = refl
 
@@ -192,7 +194,7 @@ module _ (s : Settings) where
       unfolding verdictOf
       judged-channel a = rw (judged-is s, ← el, ← eh, ← et, le-leb low 100 l, le-leb high 100 h, a)
 
-      pub judged-rules : thresholdAccepted t ≡ true → Accepted (record { low = low; high = high; threshold = t }) ≡ judgedOf s
+      pub judged-rules : thresholdAccepted t ≡ true → Accepted (record { low = low; high = high; threshold = t; formula = s .formula }) ≡ judgedOf s
       unfolding verdictOf
       judged-rules a = rw (judged-is s, ← el, ← eh, ← et, le-leb low 100 l, le-leb high 100 h, a)
 
@@ -202,13 +204,18 @@ module _ (s : Settings) where
 pub data Claim : Type 0 where
   cutoffs : ℕ → ℕ → Judged → Claim
   channel : Channel → Judged → Claim
+  choice : Formula → Judged → Claim
+
+abbrev acceptedWith : Formula → ℕ → ℕ → Threshold → Judged
+acceptedWith formula low high threshold = Accepted (record { low = low; high = high; threshold = threshold; formula = formula })
 
 abbrev accepted : ℕ → ℕ → Threshold → Judged
-accepted low high threshold = Accepted (record { low = low; high = high; threshold = threshold })
+accepted = acceptedWith Older
 
 abbrev pub Holds : Claim → Type 0
-Holds (cutoffs low high j) = judgedOf (record { low = ofBits binary64 low; high = ofBits binary64 high; channel = NoChannel }) ≡ j
-Holds (channel rule j) = judgedOf (record { low = quotient 100 50; high = quotient 100 50; channel = rule }) ≡ j
+Holds (cutoffs low high j) = judgedOf (record { low = ofBits binary64 low; high = ofBits binary64 high; channel = NoChannel; formula = Older }) ≡ j
+Holds (channel rule j) = judgedOf (record { low = quotient 100 50; high = quotient 100 50; channel = rule; formula = Older }) ≡ j
+Holds (choice f j) = judgedOf (record { low = quotient 100 50; high = quotient 100 50; channel = NoChannel; formula = f }) ≡ j
 
 abbrev pub All : List Claim → Type 0
 All [] = Unit
@@ -248,13 +255,16 @@ claims =
     channel (Cells 0) (accepted 50 50 (Over 0)) ∷
     channel (Cells 4294967295) (accepted 50 50 (Over 4294967295)) ∷
     channel NoChannel (accepted 50 50 Never) ∷
+    -- either formula
+    choice Older (acceptedWith Older 50 50 Never) ∷
+    choice Newer (acceptedWith Newer 50 50 Never) ∷
     []
 
 pub settings-examples : All claims
 unfolding claims judgedOf ofBits
-settings-examples = (refl, (refl, (refl, (refl, (refl, (refl, (refl, (refl, (refl, (refl, (refl, (refl, (refl, (refl, (refl, (refl, (refl, (refl, (refl, (refl, (refl, (refl, (refl, (refl, (refl, (refl, (refl, tt)))))))))))))))))))))))))))
+settings-examples = (refl, (refl, (refl, (refl, (refl, (refl, (refl, (refl, (refl, (refl, (refl, (refl, (refl, (refl, (refl, (refl, (refl, (refl, (refl, (refl, (refl, (refl, (refl, (refl, (refl, (refl, (refl, (refl, (refl, tt)))))))))))))))))))))))))))))
 
--- the defaults are accepted, and mean 70 percent, 50 percent and 10 tenths of a percent
+-- the defaults are accepted, and mean 70 percent, 50 percent, 10 tenths of a percent and the older formula
 pub default-means : judgedOf defaultSettings ≡ accepted 70 50 (Share 10)
 unfolding judgedOf defaultSettings
 default-means = refl

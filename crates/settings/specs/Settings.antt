@@ -8,6 +8,7 @@ use Rattle.laws.specs.First.{firstOf}
 use Rattle.laws.specs.Tests.{Test, passed, failed}
 use Rattle.settings.specs.declared.Channel.{Channel}
 use Rattle.settings.specs.declared.Channel.the-variants.{Percentage, Cells, NoChannel}
+use Rattle.settings.specs.declared.Formula.the-variants.{Older}
 use Rattle.settings.specs.declared.Settings.{Settings}
 use Rattle.settings.specs.declared.Threshold.{Threshold}
 use Rattle.settings.specs.declared.Threshold.the-variants.{Share, Over, Never}
@@ -42,10 +43,10 @@ thresholdAccepted (Share n) = leb n 1000
 thresholdAccepted (Over n) = true
 thresholdAccepted Never = true
 
--- what accepted settings mean
+-- what accepted settings mean; the steepness formula, the older or the newer one, means itself
 unfoldable pub rulesOf : Settings → Rules
 unfolding cutoffOf thresholdOf
-rulesOf s = record { low = cutoffOf (s .low); high = cutoffOf (s .high); threshold = thresholdOf (s .channel) }
+rulesOf s = record { low = cutoffOf (s .low); high = cutoffOf (s .high); threshold = thresholdOf (s .channel); formula = s .formula }
 
 -- the first bad one of 1 low cutoff, 2 high, 3 channel
 unfoldable pub verdictOf : Rules → Judged
@@ -66,7 +67,7 @@ unfoldable pub settingsTest : Settings → Test
 unfolding judgedOf
 settingsTest s = told (judgedOf s)
 
--- the library's defaults: low cutoff 0.7, high cutoff 0.5, percentage 1.0
+-- the library's defaults: low cutoff 0.7, high cutoff 0.5, percentage 1.0, the older formula
 unfoldable pub defaultSettings : Settings
 unfolding quotient
-defaultSettings = record { low = quotient 100 70; high = quotient 100 50; channel = Percentage (quotient 10 10) }
+defaultSettings = record { low = quotient 100 70; high = quotient 100 50; channel = Percentage (quotient 10 10); formula = Older }

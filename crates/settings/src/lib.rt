@@ -1,4 +1,5 @@
-// The settings of a map: the two cutoffs and the channel rule, judged and turned into whole percentages. RULES 1.
+// The settings of a map: the two cutoffs and the channel rule, judged and turned into whole percentages, and the steepness formula.
+// RULES 7.1.
 ghost use mathlib.Core.Path.{_≡_};
 ghost use Prim.Native.Nat.{_≤_};
 ghost use Rattle.settings.specs.Settings.{wholeOf, judgedOf, defaultSettings};
@@ -10,11 +11,18 @@ pub enum Channel {
     NoChannel,
 }
 
-// The cutoff for slopes under 5 percent, the one for the rest, and the channel rule.
+// The steepness formula: the older one of Handbook 537, or the newer one of Handbook 703 (RUSLE).
+pub enum Formula {
+    Older,
+    Newer,
+}
+
+// The cutoff for slopes under 5 percent, the one for the rest, the channel rule and the steepness formula.
 pub struct Settings {
     pub low: f64,
     pub high: f64,
     pub channel: Channel,
+    pub formula: Formula,
 }
 
 impl Settings {
@@ -26,6 +34,7 @@ impl Settings {
             low: 0.7,
             high: 0.5,
             channel: Channel::Percentage(1.0),
+            formula: Formula::Older,
         }
     }
 }
@@ -37,11 +46,12 @@ pub enum Threshold {
     Never,
 }
 
-// Settings that were accepted: the cutoffs in percent, and the channel rule.
+// Settings that were accepted: the cutoffs in percent, the channel rule and the steepness formula.
 pub struct Rules {
     pub low: u32,
     pub high: u32,
     pub threshold: Threshold,
+    pub formula: Formula,
 }
 
 // What is found of settings: the rules, or the place of the first one that is not accepted.
@@ -65,7 +75,7 @@ fn whole_of(x: f64, parts: u32, top: u32) -> u32
     n
 }
 
-// Judges the low cutoff, the high one and the channel rule, in that order.
+// Judges the low cutoff, the high one and the channel rule, in that order. Either formula is accepted.
 pub fn judge(s: Settings) -> Judged
     ensures { λ r. ⌜ r ≡ judgedOf s ⌝ }
 {
@@ -89,9 +99,11 @@ pub fn judge(s: Settings) -> Judged
         Channel::Cells(n) => Threshold::Over(n),
         Channel::NoChannel => Threshold::Never,
     };
+    let formula = s.formula;
     Judged::Accepted(Rules {
         low: low,
         high: high,
         threshold: threshold,
+        formula: formula,
     })
 }

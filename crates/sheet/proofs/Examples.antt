@@ -11,12 +11,13 @@ use Rattle.text.specs.Ranges.{sizeTest, lengthTest, sideTest, heightTest}
 use Rattle.settings.specs.Settings.{quotient, settingsTest}
 use Rattle.settings.specs.declared.Settings.{Settings}
 use Rattle.settings.specs.declared.Channel.the-variants.{NoChannel}
+use Rattle.settings.specs.declared.Formula.the-variants.{Older}
 use Rattle.sheet.specs.Sheet.{sheetOf}
 
--- cutoffs 0.5 and no channels
+-- cutoffs 0.5, no channels and the older formula
 unfoldable pub half : Settings
 unfolding quotient
-half = record { low = quotient 100 50; high = quotient 100 50; channel = NoChannel }
+half = record { low = quotient 100 50; high = quotient 100 50; channel = NoChannel; formula = Older }
 
 -- a text and its sheet
 pub record Example : Type 0 where

@@ -1,6 +1,7 @@
-// Prints the sheets of many texts, with cutoffs 0.5 and no channels, as the printer does. What must be printed, the file `stdout`,
-// comes from a second program that was written for itself.
+// Prints the sheets of many texts, with cutoffs 0.5, no channels and the older formula, as the printer does. What must be printed, the
+// file `stdout`, comes from a second program that was written for itself.
 use settings::Channel;
+use settings::Formula;
 use settings::Settings;
 
 fn main() {
@@ -8,5 +9,6 @@ fn main() {
         low: 0.5,
         high: 0.5,
         channel: Channel::NoChannel,
+        formula: Formula::Older,
     });
 }

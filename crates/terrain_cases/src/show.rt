@@ -6,6 +6,7 @@ use output::write;
 use output::write_height;
 use output::write_natural;
 use settings::Channel;
+use settings::Formula;
 use settings::Settings;
 
 // A field with one place per height in every lent grid.
@@ -104,6 +105,7 @@ fn map(
         low: 0.5,
         high: 0.5,
         channel: Channel::NoChannel,
+        formula: Formula::Older,
     };
     write_answer(factor::map(
         rows,

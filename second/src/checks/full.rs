@@ -1,10 +1,11 @@
 //! The comparison at full size: each terrain's text to a program that writes the grids, and every cell of them against
 //! the fast map. Serves docs/RULES.md, 4 to 6.
 
+use super::texts::words;
 use crate::fast::{self, Table};
 use crate::rules::grid::Shape;
 use crate::rules::map::Map;
-use crate::rules::settings::{Channel, Settings};
+use crate::rules::settings::{Channel, Formula, Settings, PRINTER};
 use crate::rules::text::{read_grid, read_header};
 use crate::texts::terrains::{terrain_text, TERRAINS};
 use std::fmt::Debug;
@@ -12,20 +13,11 @@ use std::io;
 use std::path::{Path, PathBuf};
 use std::process::{Command, Stdio};
 
-/// Settings as the program's words and as this program's record.
-const SETTINGS: [([&str; 6], Settings); 3] = [
-    (
-        ["--channel", "none", "--low", "0.5", "--high", "0.5"],
-        Settings { low: 0.5, high: 0.5, channel: Channel::None },
-    ),
-    (
-        ["--channel", "percent:1.0", "--low", "0.7", "--high", "0.3"],
-        Settings { low: 0.7, high: 0.3, channel: Channel::Percentage(1.0) },
-    ),
-    (
-        ["--channel", "cells:500", "--low", "1.0", "--high", "0.0"],
-        Settings { low: 1.0, high: 0.0, channel: Channel::Cells(500) },
-    ),
+/// The settings that each terrain is mapped under.
+const SETTINGS: [Settings; 3] = [
+    PRINTER,
+    Settings { low: 0.7, high: 0.3, channel: Channel::Percentage(1.0), formula: Formula::Newer },
+    Settings { low: 1.0, high: 0.0, channel: Channel::Cells(500), formula: Formula::Older },
 ];
 
 /// A fault of the comparison.
@@ -34,7 +26,7 @@ fn fault(words: String) -> io::Error {
 }
 
 /// Runs the program on a text; its first printed line.
-fn first_line(program: &[&str], words: &[&str], grids: &Path, text: &Path) -> io::Result<String> {
+fn first_line(program: &[&str], words: &[String], grids: &Path, text: &Path) -> io::Result<String> {
     let mut command = Command::new(program[0]);
     command.args(&program[1..]).args(words).arg("--grids").arg(grids).arg(text);
     let output = command.stderr(Stdio::inherit()).output().map_err(|why| fault(format!("{}: {why}", program[0])))?;
@@ -89,11 +81,12 @@ fn same_terrain(table: &Table, kind: usize, size: usize, program: &[&str], made:
     let mut ground = vec![0; header.shape.cells()];
     read_grid(&text, &mut ground).map_err(|refusal| fault(format!("{refusal:?}")))?;
     let mut line = String::new();
-    for (words, settings) in &SETTINGS {
-        let map = fast::map(table, header.shape, header.side, &ground, *settings);
+    for settings in SETTINGS {
+        let words = words(settings);
+        let map = fast::map(table, header.shape, header.side, &ground, settings);
         let map = map.map_err(|refusal| fault(format!("{refusal:?}")))?;
         line = format!("{size} {size} {} {} {}", header.side, map.valid, map.longest);
-        let printed = first_line(program, words, &grids, &file)?;
+        let printed = first_line(program, &words, &grids, &file)?;
         if printed != line {
             return Err(fault(format!("{name} {}: printed {printed}, expected {line}", words.join(" "))));
         }

@@ -9,7 +9,7 @@ use crate::rules::float_grid::read_floats;
 use crate::rules::grid::{Shape, NODATA};
 use crate::rules::length::Terrain;
 use crate::rules::map::{map, Map};
-use crate::rules::settings::{percents, Channel, Settings};
+use crate::rules::settings::{percents, Channel, Formula, Settings};
 use crate::rules::text::{read_grid, read_header};
 use crate::rules::trail::onward;
 use crate::rules::write::{room, write, Frame, Numbers};
@@ -136,7 +136,8 @@ fn lengths_by_sweeps(shape: Shape, side: i64, map: &Map, settings: Settings) -> 
 pub fn any_settings(seed: &mut Seed) -> Settings {
     let (tenths, cells) = (seed.below(1_001) as f64 / 10.0, seed.below(20) as u32);
     let channel = *seed.pick(&[Channel::None, Channel::Percentage(tenths), Channel::Cells(cells)]);
-    Settings { low: seed.below(101) as f64 / 100.0, high: seed.below(101) as f64 / 100.0, channel }
+    let [low, high] = [0; 2].map(|_| seed.below(101) as f64 / 100.0);
+    Settings { low, high, channel, formula: *seed.pick(&Formula::ALL) }
 }
 
 /// The readers give a field back, the writer its ground, and the map's grids hold in the second way too.

@@ -21,14 +21,15 @@ fn case(seed: u64, number: usize) -> (Vec<u8>, Settings) {
 }
 
 /// The settings as the program's words.
-pub fn words(settings: Settings) -> [String; 6] {
+pub fn words(settings: Settings) -> [String; 8] {
     let channel = match settings.channel {
         Channel::None => "none".to_string(),
         Channel::Cells(cells) => format!("cells:{cells}"),
         Channel::Percentage(share) => format!("percent:{share}"),
     };
     let [low, high] = [settings.low, settings.high].map(|cutoff| cutoff.to_string());
-    ["--channel".into(), channel, "--low".into(), low, "--high".into(), high]
+    let formula = settings.formula.name().to_string();
+    ["--channel".into(), channel, "--low".into(), low, "--high".into(), high, "--steepness".into(), formula]
 }
 
 /// A file's bytes, or why there are none.
@@ -122,11 +123,23 @@ pub fn compare(seed: u64, fields: usize, program: &[&str]) -> io::Result<()> {
 #[cfg(test)]
 mod tests {
     use super::*;
+    use crate::rules::settings::Formula;
 
     /// The four texts of each of the first fields of a seed.
     fn first_texts() -> Vec<[Vec<u8>; 4]> {
         let texts = |(text, settings): (Vec<u8>, Settings)| grid_texts(&text, settings).expect("a field is accepted");
         (0..150).map(|number| texts(case(1, number))).collect()
+    }
+
+    /// Each formula comes up, on fields whose LS tells it from the other.
+    #[test]
+    fn fields_have_both_formulas() {
+        let tells = |(text, settings): &(Vec<u8>, Settings)| {
+            let [older, newer] = Formula::ALL.map(|formula| grid_texts(text, Settings { formula, ..*settings }));
+            older != newer
+        };
+        let cases: Vec<(Vec<u8>, Settings)> = (0..20).map(|number| case(1, number)).filter(tells).collect();
+        assert!(Formula::ALL.iter().all(|&formula| cases.iter().any(|(_, settings)| settings.formula == formula)));
     }
 
     /// The words of a text's cells.

@@ -12,15 +12,15 @@ use crate::rules::factor::NO_FACTOR;
 use crate::rules::grid::Shape;
 use crate::rules::map::{judge, Map};
 use crate::rules::refusal::Refusal;
-use crate::rules::settings::Settings;
+use crate::rules::settings::{Formula, Settings};
 use downhill::Downhill;
 use land::Land;
 pub use table::Table;
 
-/// LS of every place; NoData places have none.
-fn factors(land: &Land, side: i64, table: &Table, steepness: &[i64], length: &[u64]) -> Vec<u32> {
+/// LS of every place by the chosen formula; NoData places have none.
+fn factors(land: &Land, formula: Formula, side: i64, table: &Table, steepness: &[i64], length: &[u64]) -> Vec<u32> {
     let mut factor = vec![NO_FACTOR; land.places()];
-    land.cells().for_each(|cell| factor[cell] = table.factor(length[cell], steepness[cell], side));
+    land.cells().for_each(|cell| factor[cell] = table.factor(formula, length[cell], steepness[cell], side));
     factor
 }
 
@@ -33,7 +33,7 @@ pub fn map(table: &Table, shape: Shape, side: i64, ground: &[i32], settings: Set
     let downhill = Downhill::of(&land, &flow);
     let count = downhill.counts();
     let length = downhill.lengths(&flow, &count, side, &percents);
-    let factor = factors(&land, side, table, &flow.steepness, &length);
+    let factor = factors(&land, percents.formula, side, table, &flow.steepness, &length);
     Ok(Map {
         filled: land.inner(&filled),
         flow: Flow { direction: land.inner(&flow.direction), steepness: land.inner(&flow.steepness) },

@@ -1,6 +1,7 @@
 //! LS by tables that big whole numbers give once. States docs/RULES.md, 6 LS.
 
 use crate::rules::factor::{exponent, millimetres, reaches, steepness_factor, LONGEST_MM, TOO_LONG};
+use crate::rules::settings::Formula;
 
 /// For each exponent from 2 to 5, L of every whole number of mm that is not too long.
 pub struct Table {
@@ -47,12 +48,12 @@ impl Table {
     }
 
     /// LS = t·S, or too long.
-    pub fn factor(&self, length: u64, q: i64, side: i64) -> u32 {
+    pub fn factor(&self, formula: Formula, length: u64, q: i64, side: i64) -> u32 {
         let mm = millimetres(length, side);
         if mm > LONGEST_MM {
             return TOO_LONG;
         }
         let t = self.slope_length_factor(exponent(q, side), mm);
-        (t * steepness_factor(sine(q, side))) as u32
+        (t * steepness_factor(formula, sine(q, side), q, side)) as u32
     }
 }

@@ -106,6 +106,7 @@ impl Terrain<'_> {
 #[cfg(test)]
 mod tests {
     use super::*;
+    use crate::rules::settings::Formula;
 
     /// A start goes by the cell's own direction: E 1, S 4, W 16 and N 64 are not diagonal, nor is 0.
     #[test]
@@ -116,7 +117,7 @@ mod tests {
 
     /// What an inflow of length 20,000 brings, side 10 m and cutoffs of so many percent.
     fn brought(percent: i64, receiving: (i64, u8), inflow: (i64, u8)) -> u64 {
-        let percents = Percents { low: percent, high: percent, rule: Rule::None };
+        let percents = Percents { low: percent, high: percent, rule: Rule::None, formula: Formula::Older };
         let slope = |(steepness, direction)| Slope { steepness, direction };
         amount(&percents, 1_000, slope(receiving), slope(inflow), 20_000)
     }

@@ -6,7 +6,7 @@ use super::fill;
 use super::grid::{Shape, HIGHEST, LARGEST_SIDE, LOWEST, MOST_ROWS, NODATA};
 use super::length::Terrain;
 use super::refusal::{self, refuse, Refusal};
-use super::settings::{percents, Percents, Settings};
+use super::settings::{percents, Formula, Percents, Settings};
 use super::trail;
 
 /// From heights and settings come five grids: filled height, direction, flow count, slope length, LS.
@@ -37,12 +37,12 @@ pub fn judge(shape: Shape, side: i64, ground: &[i32], settings: Settings) -> Res
     ground.iter().position(bad).map_or(Ok(percents), |cell| refuse(refusal::HEIGHT, cell))
 }
 
-/// LS of every cell; NoData cells have none.
-fn factors(side: i64, flow: &Flow, length: &[u64]) -> Vec<u32> {
+/// LS of every cell by the chosen formula; NoData cells have none.
+fn factors(formula: Formula, side: i64, flow: &Flow, length: &[u64]) -> Vec<u32> {
     let mut factors = Factors::default();
     let factor = |cell: usize| match flow.direction[cell] {
         NO_DIRECTION => NO_FACTOR,
-        _ => factors.factor(length[cell], flow.steepness[cell], side),
+        _ => factors.factor(formula, length[cell], flow.steepness[cell], side),
     };
     (0..length.len()).map(factor).collect()
 }
@@ -54,7 +54,7 @@ pub fn map(shape: Shape, side: i64, ground: &[i32], settings: Settings) -> Resul
     let flow = direction::flow(shape, ground, &filled);
     let trails = trail::trails(shape, &flow.direction);
     let length = Terrain { shape, side, flow: &flow, count: &trails.count, percents: &percents }.lengths();
-    let factor = factors(side, &flow, &length);
+    let factor = factors(percents.formula, side, &flow, &length);
     let valid = ground.iter().filter(|&&height| height != NODATA).count();
     Ok(Map { filled, flow, count: trails.count, length, factor, valid, longest: trails.longest })
 }
@@ -74,7 +74,7 @@ mod tests {
 
     /// Settings without channels.
     fn cutoffs(low: f64, high: f64) -> Settings {
-        Settings { low, high, channel: Channel::None }
+        Settings { low, high, ..PRINTER }
     }
 
     /// docs/RULES.md, 8 Small fields.
@@ -142,6 +142,21 @@ mod tests {
         assert_eq!(map_of("9 8 7 5", 4, cells).length, [5_000, 15_000, 0, 0]);
         let percentage = Settings { channel: Channel::Percentage(75.0), ..cells };
         assert_eq!(map_of("9 8 7 5", 4, percentage).length, [5_000, 15_000, 25_000, 0]);
+    }
+
+    /// The formula moves LS alone. The drops of the second strip are ten, nine and eight percent.
+    #[test]
+    fn formulas_move_the_factor_alone() {
+        let both = |heights, columns| {
+            let settings = Settings { low: 1.0, high: 1.0, ..PRINTER };
+            let [older, newer] = Formula::ALL.map(|formula| map_of(heights, columns, Settings { formula, ..settings }));
+            assert_eq!((&older.length, &older.count), (&newer.length, &newer.count));
+            (older.factor, newer.factor)
+        };
+        assert_eq!(both("9", 1), (vec![74 * 65], vec![74 * 40]));
+        let (older, newer) = both("9 8 7.1 6.3", 4);
+        assert_eq!(older, [47 * 1_157, 82 * 988, 106 * 833, 109 * 65]);
+        assert_eq!(newer, [47 * 1_163, 82 * 995, 106 * 883, 109 * 40]);
     }
 
     /// The map call tests 1, 2, 3, 4, 5 in that order.

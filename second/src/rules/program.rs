@@ -29,7 +29,7 @@ impl Program {
 #[cfg(test)]
 mod tests {
     use super::*;
-    use crate::rules::settings::{percents, Rule};
+    use crate::rules::settings::{percents, Formula, Rule};
 
     #[test]
     fn programs_have_their_names() {
@@ -44,5 +44,6 @@ mod tests {
         let (printer, job) = (percents(Program::Printer), percents(Program::Job));
         assert_eq!([printer.low, printer.high, job.low, job.high], [50; 4]);
         assert!(matches!((printer.rule, job.rule), (Rule::None, Rule::Tenths(10))));
+        assert_eq!([printer.formula, job.formula], [Formula::Older; 2]);
     }
 }

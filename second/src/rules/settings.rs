@@ -3,26 +3,52 @@
 use super::refusal::{self, refuse, Refusal};
 
 /// The channel rule is a percentage of the largest flow count, a number of cells, or none.
-#[derive(Clone, Copy)]
+#[derive(Clone, Copy, Debug, PartialEq)]
 pub enum Channel {
     Percentage(f64),
     Cells(u32),
     None,
 }
 
-/// The settings record holds two cutoffs as 64-bit floats, one for slopes under 5 percent and one for the rest.
-#[derive(Clone, Copy)]
+/// The formula of S: the older one of Handbook 537, or the newer one of Handbook 703 (RUSLE).
+#[derive(Clone, Copy, Debug, PartialEq, Eq)]
+pub enum Formula {
+    Older,
+    Newer,
+}
+
+impl Formula {
+    pub const ALL: [Formula; 2] = [Formula::Older, Formula::Newer];
+
+    /// The formula's name on a command line.
+    pub fn name(self) -> &'static str {
+        match self {
+            Formula::Older => "older",
+            Formula::Newer => "newer",
+        }
+    }
+
+    /// The formula of this name.
+    pub fn of(name: &str) -> Option<Formula> {
+        Formula::ALL.into_iter().find(|formula| formula.name() == name)
+    }
+}
+
+/// The settings record holds two cutoffs as 64-bit floats, one for slopes under 5 percent and one for the rest, the
+/// channel rule and the steepness formula.
+#[derive(Clone, Copy, Debug, PartialEq)]
 pub struct Settings {
     pub low: f64,
     pub high: f64,
     pub channel: Channel,
+    pub formula: Formula,
 }
 
-/// The printer's settings: cutoffs 0.5 and no channels.
-pub const PRINTER: Settings = Settings { low: 0.5, high: 0.5, channel: Channel::None };
+/// The printer's settings: cutoffs 0.5, no channels and the older formula.
+pub const PRINTER: Settings = Settings { low: 0.5, high: 0.5, channel: Channel::None, formula: Formula::Older };
 
-/// The job's settings: cutoffs 0.5 and channels from 1 percent of the largest flow count.
-pub const JOB: Settings = Settings { low: 0.5, high: 0.5, channel: Channel::Percentage(1.0) };
+/// The job's settings: the printer's, with channels from 1 percent of the largest flow count.
+pub const JOB: Settings = Settings { channel: Channel::Percentage(1.0), ..PRINTER };
 
 /// The channel rule with its percentage in tenths.
 #[derive(Clone, Copy)]
@@ -32,12 +58,13 @@ pub enum Rule {
     None,
 }
 
-/// Accepted settings: cutoffs in whole percent and the channel rule.
+/// Accepted settings: cutoffs in whole percent, the channel rule and the steepness formula.
 #[derive(Clone, Copy)]
 pub struct Percents {
     pub low: i64,
     pub high: i64,
     pub rule: Rule,
+    pub formula: Formula,
 }
 
 /// The whole percentage n of a cutoff, accepted exactly if it equals the float quotient n / 100, n from 0 to 100.
@@ -59,12 +86,12 @@ fn rule(channel: Channel) -> Option<Rule> {
     }
 }
 
-/// 4, a setting not accepted: the first bad one of 1 low cutoff, 2 high, 3 channel.
+/// 4, a setting not accepted: the first bad one of 1 low cutoff, 2 high, 3 channel. Each formula is accepted.
 pub fn percents(settings: Settings) -> Result<Percents, Refusal> {
     let Some(low) = cutoff(settings.low) else { return refuse(refusal::SETTING, 1) };
     let Some(high) = cutoff(settings.high) else { return refuse(refusal::SETTING, 2) };
     let Some(rule) = rule(settings.channel) else { return refuse(refusal::SETTING, 3) };
-    Ok(Percents { low, high, rule })
+    Ok(Percents { low, high, rule, formula: settings.formula })
 }
 
 #[cfg(test)]
@@ -93,9 +120,18 @@ mod tests {
 
     #[test]
     fn the_first_bad_one_decides() {
-        let channel = Channel::Percentage(0.05);
-        assert_eq!(place(Settings { low: 2.0, high: 2.0, channel }), Err(1));
-        assert_eq!(place(Settings { low: 0.5, high: 0.005, channel }), Err(2));
-        assert_eq!(place(Settings { low: 0.5, high: 0.5, channel }), Err(3));
+        let bad = Settings { low: 2.0, high: 2.0, channel: Channel::Percentage(0.05), formula: Formula::Newer };
+        assert_eq!(place(bad), Err(1));
+        assert_eq!(place(Settings { low: 0.5, high: 0.005, ..bad }), Err(2));
+        assert_eq!(place(Settings { low: 0.5, high: 0.5, ..bad }), Err(3));
+    }
+
+    /// A formula is accepted and handed on.
+    #[test]
+    fn formulas() {
+        let handed_on = |formula| percents(Settings { formula, ..PRINTER }).map(|percents| percents.formula);
+        assert_eq!(Formula::ALL.map(handed_on), [Ok(Formula::Older), Ok(Formula::Newer)]);
+        assert_eq!(["older", "newer"].map(Formula::of), [Some(Formula::Older), Some(Formula::Newer)]);
+        assert_eq!(["", "Newer", "1"].map(Formula::of), [None; 3]);
     }
 }

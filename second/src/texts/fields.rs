@@ -141,12 +141,16 @@ fn serpentine(seed: &mut Seed, shape: Shape) -> Vec<i64> {
     })
 }
 
+/// How far the ground has fallen at a column, by the drops from each one to the next.
+pub fn fallen(drops: &[i64], column: i64) -> i64 {
+    drops[..column as usize].iter().sum()
+}
+
 /// Falls east by drops on both sides of the bounds between exponents (at side 10 m: 50, 30 and 10 cm).
 fn slope_classes(seed: &mut Seed, shape: Shape) -> Vec<i64> {
     let drops: Vec<i64> = (0..shape.columns).map(|_| *seed.pick(&[50, 49, 31, 30, 29, 10, 9, 0, 51])).collect();
     let south = *seed.pick(&[0, 0, 1, 50]);
-    let fallen = |column: i64| drops[..column as usize].iter().sum::<i64>();
-    relief(shape, |row, column| 90_000 - fallen(column) - south * row)
+    relief(shape, |row, column| 90_000 - fallen(&drops, column) - south * row)
 }
 
 /// Falls east by drops that halve and double, so that cuts are met exactly, just missed and just passed.
@@ -154,8 +158,7 @@ fn cutoffs(seed: &mut Seed, shape: Shape) -> Vec<i64> {
     let near = |seed: &mut Seed| *seed.pick(&[16, 32, 64, 128, 256, 512]) + seed.between(-1, 1) * seed.between(0, 1);
     let drops: Vec<i64> = (0..shape.columns).map(|_| near(seed)).collect();
     let south = *seed.pick(&[0, 8, 64]);
-    let fallen = |column: i64| drops[..column as usize].iter().sum::<i64>();
-    relief(shape, |row, column| 600_000 - fallen(column) - south * row * (row % 3))
+    relief(shape, |row, column| 600_000 - fallen(&drops, column) - south * row * (row % 3))
 }
 
 /// Drops in the ratio of a diagonal to a side, to the cm.

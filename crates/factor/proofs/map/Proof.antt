@@ -1,8 +1,8 @@
 -- `factor::map` meets its contract: a judgement refuses, or the ground is mapped. Assumes nothing.
 use mathlib.Core.Path.{sym, ap, _∙_}
 use borrow.Author.Needs.{needs}
-use Rattle.factor.specs.Answers.{Grids, lentAt}
-use Rattle.factor.specs.Inner.{found, Passing}
+use Rattle.factor.specs.Answers.{Grids, lentAt, found}
+use Rattle.factor.specs.Inner.{Passing}
 use Rattle.factor.proofs.Answers.{first-refuses}
 use Rattle.factor.proofs.map.Statement.{statement}
 use Rattle.factor.proofs.map.Tie as tie

@@ -12,7 +12,7 @@ hand-out-requires : tie.Need-hand-out-requires
 hand-out-requires c κs = search needs
 
 returns : tie.Need-returns
-returns c = c .hand-out .ensures ∙ ap numbersOf (c .before .before .before .before .before .before .default .ensures)
+returns c = c .hand-out .ensures ∙ ap numbersOf (c .before .before .before .before .before .before .before .default .ensures)
 
 pub lsmap-default-settings-spec : {M : Type 1} → statement M
 lsmap-default-settings-spec = tie.close (tie.spec default-requires hand-out-requires returns)

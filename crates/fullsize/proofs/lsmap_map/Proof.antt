@@ -1,4 +1,4 @@
--- `fullsize::lsmap_map` meets its contract: what it hands out is the answer of the map call with the settings of the five numbers, and the grids are those that it left.
+-- `fullsize::lsmap_map` meets its contract: what it hands out is the answer of the map call with the settings of the six numbers, and the grids are those that it left.
 -- Assumes nothing.
 use denote.Ref.{now}
 use borrow.Author.Needs.{needs}
@@ -59,11 +59,11 @@ returns c =
     let s = start (made m) in
     let a = s .args in
     let e = c .hand-out-mapping .ensures in
-    let accepted = accepts-of (a .rows) (a .columns) (a .side) (t .result) (now (a .ground)) (grids s) e (p .0) in (
-      answers-of (a .rows) (a .columns) (a .side) (now (a .ground)) (grids s) (t .ensures) e (p .0),
+    let accepted = accepts-of (a .rows) (a .columns) (a .side) (t .result) (a .formula) (now (a .ground)) (grids s) e (p .0) in (
+      answers-of (a .rows) (a .columns) (a .side) (a .formula) (now (a .ground)) (grids s) (t .ensures) e (p .0),
       (
-        leaves-of (a .rows) (a .columns) (a .side) (now (a .ground)) (grids s) (t .ensures) (p .1 .0),
-        ((λ z. p .1 .1 .0 (accepted z)), ((λ z. totals-of (a .rows) (a .columns) (a .side) (t .result) (now (a .ground)) (grids s) e (p .0) z (p .1 .1 .1 .0 (accepted z))), (λ z. p .1 .1 .1 .1 (accepted z)))),
+        leaves-of (a .rows) (a .columns) (a .side) (a .formula) (now (a .ground)) (grids s) (t .ensures) (p .1 .0),
+        ((λ z. p .1 .1 .0 (accepted z)), ((λ z. totals-of (a .rows) (a .columns) (a .side) (t .result) (a .formula) (now (a .ground)) (grids s) e (p .0) z (p .1 .1 .1 .0 (accepted z))), (λ z. p .1 .1 .1 .1 (accepted z)))),
       ),
     )
 

@@ -27,7 +27,7 @@ mul-mm c =
 returns : tie.Need-returns
 returns c =
     let a = c .before .args in
-    factor-long (a .side) (a .q) (a .length) (c .if1 .taken)
+    factor-long (a .formula) (a .side) (a .q) (a .length) (c .if1 .taken)
 
 exponent-of-requires : tie.Need-exponent-of-requires
 exponent-of-requires c κs = search needs
@@ -46,7 +46,7 @@ steepness-factor-requires : tie.Need-steepness-factor-requires
 steepness-factor-requires c κs = search needs
 
 small : (c : tie.After-steepness-factor) → c .before .before .length-factor .result * c .steepness-factor .result ≤ 70035000
-small c = rw (c .before .before .length-factor .ensures, c .steepness-factor .ensures) (product-within _ _ _ _)
+small c = rw (c .before .before .length-factor .ensures, c .steepness-factor .ensures) (product-within _ _ _ _ _)
 
 mul-result : tie.Need-mul-result
 mul-result c = omega (arith, small c)
@@ -59,7 +59,7 @@ returns-2 c =
     let k = chosen c in
     let a = start k .args in
     let e : k .exponent-of .result - 2 + 2 ≡ k .exponent-of .result = omega (arith, bounds k .0) in
-    factor-short (a .side) (a .q) (a .length) (k .before .if1 .left) (e ∙ k .exponent-of .ensures) (c .before .before .length-factor .ensures)
+    factor-short (a .formula) (a .side) (a .q) (a .length) (k .before .if1 .left) (e ∙ k .exponent-of .ensures) (c .before .before .length-factor .ensures)
     (c .steepness-factor .ensures)
 
 pub factor-of-spec : {M : Type 1} → statement M

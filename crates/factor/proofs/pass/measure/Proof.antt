@@ -92,7 +92,7 @@ turn-requires c κs =
     let b = bound l in
     let s = start b in
     let m = s .pre .2 in
-    let q = measure-charted m (s .args .rules) (lefts b .before .left-by .ensures) (lefts b .left-by2 .ensures) (channels b (s .pre .0) (m .count-long)) in
+    let q = measure-charted m (s .args .rules) (lefts b .before .left-by .ensures) (lefts b .left-by2 .ensures) refl (channels b (s .pre .0) (m .count-long)) in
     let w = l .loop .inv .3 (s .pre .0) (s .pre .1) (s .args .rules) q (walk-start m (s .args .rules) (cleared l .clear .ensures)) in (
       walk-turning q w (i .loop-test .taken) refl,
       cleared l .before .before .all .ensures,
@@ -134,7 +134,7 @@ returns c =
     let a = start b .args in
     let e : l .loop .place ≡ a .places = omega arith in
     λ rows lv m.
-    let q = measure-charted m (a .rules) (lefts b .before .left-by .ensures) (lefts b .left-by2 .ensures) (channels b rows (m .count-long)) in
+    let q = measure-charted m (a .rules) (lefts b .before .left-by .ensures) (lefts b .left-by2 .ensures) refl (channels b rows (m .count-long)) in
     walk-all m (a .rules)
     (subst (Walking rows (a .columns) (a .side) (a .rules) lv (a .direction .now) (a .count .now) (a .order .now) (l .loop .lengths) (l .loop .factors)) e
     (l .loop .inv .3 rows lv (a .rules) q (walk-start m (a .rules) (cleared l .clear .ensures))))

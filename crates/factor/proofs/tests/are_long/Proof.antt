@@ -1,7 +1,7 @@
--- `factor::judge::are_long` meets its contract. Assumes nothing.
+-- `factor::tests::are_long` meets its contract. Assumes nothing.
 use Rattle.text.proofs.Accepted.{joined-long}
-use Rattle.factor.proofs.judge.are_long.Statement.{statement}
-use Rattle.factor.proofs.judge.are_long.Tie as tie
+use Rattle.factor.proofs.tests.are_long.Statement.{statement}
+use Rattle.factor.proofs.tests.are_long.Tie as tie
 
 returns : tie.Need-returns
 returns c = joined-long (c .args .cells) _

@@ -1,16 +1,15 @@
-// The tests of refusals 1 to 4, which are judged before the terrain layer is called; it judges 5. RULES 3.
+// The tests of refusals 1 to 4, which are judged before the terrain layer is called; it judges 5. RULES 3.2.
 ghost use mathlib.Core.Path.{_≡_};
 ghost use Rattle.laws.specs.Tests.{failed};
 ghost use Rattle.text.specs.Ranges.{allLong};
-ghost use Rattle.factor.specs.Answers.{lentBefore, placesOf};
-ghost use Rattle.factor.specs.Inner.{found, Judges};
+ghost use Rattle.factor.specs.Answers.{lentBefore, placesOf, found, Judges};
 use settings::Judged;
 use settings::Rules;
 use settings::Settings;
 use text::Refusal;
 
 // What is found of a call: the rules of its settings, or why it is refused.
-pub(crate) enum Judgement {
+pub enum Judgement {
     Sound(Rules),
     Unsound(Refusal),
 }
@@ -46,8 +45,8 @@ fn are_long(
         & (workspace.len() == cells)
 }
 
-// Makes the tests of refusals 1 to 4, in that order.
-pub(crate) fn judge(
+// Makes the tests of refusals 1 to 4 of the map call, in that order, and maps nothing.
+pub fn judge(
     rows: usize,
     columns: usize,
     side: u32,

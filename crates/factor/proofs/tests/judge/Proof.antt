@@ -1,4 +1,4 @@
--- `factor::judge::judge` meets its contract. Assumes nothing.
+-- `factor::tests::judge` meets its contract. Assumes nothing.
 use mathlib.Core.Path.{_≡_, sym, _∙_}
 use mathlib.Core.Bool.{true, false}
 use Prim.Native.Nat.{_*_}
@@ -9,8 +9,8 @@ use Rattle.text.specs.Ranges.{sizeAccepted, sideAccepted, allLong}
 use Rattle.text.proofs.Accepted.{area-few}
 use Rattle.factor.specs.Answers.{Grids, lentAt, placesOf}
 use Rattle.factor.proofs.Judging.{judges-rows, judges-columns, judges-long, judges-side, judges-settings, judges-sound}
-use Rattle.factor.proofs.judge.judge.Statement.{statement}
-use Rattle.factor.proofs.judge.judge.Tie as tie
+use Rattle.factor.proofs.tests.judge.Statement.{statement}
+use Rattle.factor.proofs.tests.judge.Tie as tie
 
 -- the arguments
 abbrev start : tie.After-is-size → tie.Start
