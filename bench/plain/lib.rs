@@ -1,7 +1,7 @@
 //! A plain, unverified program of the rules of docs/RULES.md, with the algorithms of crates/text, crates/terrain,
-//! crates/factor, crates/writer and crates/report: what their speed is measured against. It makes no comparison that those make only
-//! for want of a proof of the order in which a stage works. Grids of floats are read by the processor's own floats, as
-//! crates/floats does not. Every grid is the caller's. The stages are not inlined, so that a profiler sees each.
+//! crates/factor, crates/writer and crates/report: what their speed is measured against. It makes no comparison that those
+//! make only for want of a proof of the order in which a stage works. Grids of floats are read by the processor's own
+//! floats, as crates/floats does not. Every grid is the caller's. The stages are not inlined, so that a profiler sees each.
 
 mod cells;
 mod direction;

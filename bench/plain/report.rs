@@ -1,5 +1,5 @@
-//! The report over a list of maps: one map's flow counts and LS are added, or another report is joined, as crates/report
-//! does it. A pass over the counts finds the largest one, and one over both grids the rest. docs/RULES.md, 12 The report.
+//! The report over a list of maps: one map's flow counts and LS are added, or another report is joined. A pass over the
+//! counts finds the largest one, a second counts the cells, and one over LS finds the rest. docs/RULES.md, 12 The report.
 
 use crate::cells::Shape;
 use crate::length::channel_bound;
@@ -24,30 +24,41 @@ pub struct Report {
     pub greatest: Option<Greatest>,
 }
 
-/// The report of one map whose grids have the right length; `bound` is the greatest count that is no channel's.
+/// Valid cells and channel cells; `bound` is the greatest count that is no channel's. Cells fit 32 bits here and below, and
+/// none takes a branch, so that the loops can work on several cells at once.
 #[inline(never)]
-fn of_map(bound: Option<u64>, count: &[u32], factors: &[u32]) -> Report {
-    let bound = bound.unwrap_or(u64::MAX);
-    let [mut valid, mut channel, mut zero, mut long, mut sum] = [0; 5];
-    let (mut classes, mut greatest) = ([0; 4], None);
-    for (cell, (&count, &factor)) in count.iter().zip(factors).enumerate() {
-        valid += u64::from(count != 0);
-        channel += u64::from(u64::from(count) > bound);
-        if factor >= TOO_LONG {
-            long += u64::from(factor == TOO_LONG);
-            continue;
-        }
-        zero += u64::from(factor == 0);
-        sum += u64::from(factor);
-        classes[BOUNDS.iter().filter(|&&bound| bound <= factor).count()] += 1;
-        if greatest.is_none_or(|(most, _)| factor > most) {
-            greatest = Some((factor, cell));
-        }
+fn by_counts(bound: Option<u64>, count: &[u32]) -> [u32; 2] {
+    let bound = bound.map_or(u32::MAX, |bound| bound.min(u64::from(u32::MAX)) as u32);
+    let [mut valid, mut channel] = [0; 2];
+    for &count in count {
+        valid += u32::from(count != 0);
+        channel += u32::from(count > bound);
     }
-    let [under_1, from_1, from_5, from_10] = classes;
-    let totals = [1, valid, channel, zero, long, sum, under_1, from_1, from_5, from_10];
-    let found = |(factor, cell)| Greatest { factor: u64::from(factor), map: 0, cell: cell as u64 };
-    Report { totals, greatest: greatest.map(found) }
+    [valid, channel]
+}
+
+/// The report of one map by its valid cells, channel cells and LS.
+#[inline(never)]
+fn of_map([valid, channel]: [u32; 2], factors: &[u32]) -> Report {
+    let [mut zero, mut long, mut known] = [0; 3];
+    let (mut under, mut most, mut sum) = ([0; 3], 0, 0);
+    for &factor in factors {
+        zero += u32::from(factor == 0);
+        long += u32::from(factor == TOO_LONG);
+        known += u32::from(factor < TOO_LONG);
+        for (under, bound) in under.iter_mut().zip(BOUNDS) {
+            *under += u32::from(factor < bound);
+        }
+        let factor = if factor < TOO_LONG { factor } else { 0 };
+        most = most.max(factor);
+        sum += u64::from(factor);
+    }
+    let cell = if known > 0 { factors.iter().position(|&factor| factor == most) } else { None };
+    let greatest = cell.map(|cell| Greatest { factor: most.into(), map: 0, cell: cell as u64 });
+    let [one, five, ten] = under;
+    let [valid, channel, zero, long] = [valid, channel, zero, long].map(u64::from);
+    let [under_1, from_1, from_5, from_10] = [one, five - one, ten - five, known - ten].map(u64::from);
+    Report { totals: [1, valid, channel, zero, long, sum, under_1, from_1, from_5, from_10], greatest }
 }
 
 /// Adds a map to a report; refused with 1, 2, 4 or 16, it is left as it was.
@@ -68,7 +79,7 @@ pub fn add(
         return refuse(2, 0);
     }
     let rules = judge(settings)?;
-    join(report, &of_map(channel_bound(rules.threshold, count), count, factors))
+    join(report, &of_map(by_counts(channel_bound(rules.threshold, count), count), factors))
 }
 
 /// Joins a report of later maps to a first one; refused with 16, that is left as it was.
