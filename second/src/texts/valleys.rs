@@ -16,15 +16,23 @@ pub struct Valley {
 /// A strip without data.
 const EMPTY: &[u8] = b"ncols 2 nrows 1 xllcorner 0 yllcorner 0 cellsize 10\n-9999 -9999\n";
 
+/// Fields whose first cell has, by the newer formula, an LS of exactly 1, 5 and 10.
+const BOUNDS: [&[u8]; 3] = [
+    b"ncols 2 nrows 2 xllcorner 0 yllcorner 0 cellsize 0.37\n0.42 0.42\n0.42 0\n",
+    b"ncols 2 nrows 1 xllcorner 0 yllcorner 0 cellsize 11.07\n8.87 0\n",
+    b"ncols 2 nrows 1 xllcorner 0 yllcorner 0 cellsize 44.26\n35.47 0\n",
+];
+
 /// The kinds of hostile texts but those that are too large for a sheet alone.
 const HOSTILE: usize = 14;
 
-/// One more field: as one before it, so that the greatest LS is met twice; without data; hostile; or any.
+/// One more field: as one before it, so that the greatest LS is met twice; without data; hostile; at a class bound; or any.
 fn field(seed: &mut Seed, before: &[Vec<u8>]) -> Vec<u8> {
     match seed.below(25) {
         0..=4 if !before.is_empty() => seed.pick(before).clone(),
         5 => EMPTY.to_vec(),
         6 => seed.pick(&hostile::KINDS[..HOSTILE])(seed).bytes,
+        7..=8 => seed.pick(&BOUNDS).to_vec(),
         number => cornered::text(seed, number),
     }
 }
@@ -83,7 +91,7 @@ mod tests {
     use super::*;
     use crate::rules::refusal::Refusal;
     use crate::rules::report::{join, mapped, report, Mapped};
-    use crate::rules::settings::LIBRARY;
+    use crate::rules::settings::{Formula, LIBRARY};
     use std::collections::BTreeSet;
 
     fn valleys() -> Vec<Valley> {
@@ -105,6 +113,13 @@ mod tests {
         assert!(reports.iter().any(|report| report.channel > 0 && report.zero > 0 && report.long > 0));
         assert!(reports.iter().any(|report| [report.from_1, report.from_5, report.from_10].iter().all(|&n| n > 0)));
         assert!(reports.iter().any(|report| report.greatest.is_some_and(|greatest| greatest.map > 0)));
+    }
+
+    #[test]
+    fn fields_lie_at_class_bounds() {
+        let settings = Settings { channel: Channel::None, formula: Formula::Newer, ..LIBRARY };
+        let first = |text| mapped(text, settings).map(|map| map.factor[0]);
+        assert_eq!(BOUNDS.map(first), [Ok(100_000), Ok(500_000), Ok(1_000_000)]);
     }
 
     /// The same greatest LS stands in two maps of some list.
