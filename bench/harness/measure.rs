@@ -28,8 +28,9 @@ impl Pair {
 }
 
 /// What is found of one text: the times of mapping, reading and writing, of reading the same heights as floats, and of
-/// adding the map to a report; the map call's under the newer steepness formula, and by the library of another commit; the bytes of the text that is read,
-/// of the one that is written and of the floats; and the KiB by which the first map call raised the peak.
+/// adding the map to a report; the map call's under the newer steepness formula, and by the library of another commit; the
+/// bytes of the text that is read, of the one that is written and of the floats; and the KiB by which the first map call
+/// raised the peak.
 #[derive(Clone, Copy)]
 pub struct Found {
     pub map: Pair,

@@ -3,7 +3,7 @@
 //! names, which the build makes.
 
 #[path = "../../host/src/library.rs"]
-#[allow(dead_code, reason = "the default settings, the texts of counts and LS and joined reports are the other program's")]
+#[allow(dead_code, reason = "default settings, texts of counts and LS and joined reports are the other program's")]
 mod library;
 
 #[cfg(before)]

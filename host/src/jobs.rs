@@ -10,8 +10,8 @@ pub fn processors() -> NonZero<usize> {
     thread::available_parallelism().unwrap_or(NonZero::<usize>::MIN)
 }
 
-/// What comes of the items, in their order. Items are begun in that order too, and none once one has failed: all before the
-/// first that fails are there. This thread works along; where there is no room for the other threads, it does with fewer.
+/// What comes of the items, in their order. Items are begun in that order too, and none once one has failed: all before
+/// the first that fails are there. This thread works along; where the system gives no more threads, it does with fewer.
 pub fn in_order<T: Sync, R: Send, E: Send>(
     items: &[T],
     jobs: NonZero<usize>,

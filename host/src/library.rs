@@ -212,8 +212,8 @@ pub struct Totals {
     pub longest: u32,
 }
 
-/// A report over a list of maps: its totals, which are maps, valid, channel, zero and long cells, the sum of LS, and the
-/// cells under 1, from 1, from 5 and from 10; and where there is an LS the greatest, its map and its cell.
+/// A report over a list of maps: its totals, which are maps, valid, channel, zero and long cells, the sum of LS, and
+/// the cells under 1, from 1, from 5 and from 10; and where there is an LS the greatest, its map and its cell.
 #[derive(Clone, Copy, Debug, PartialEq, Eq)]
 pub struct Report {
     pub totals: [u64; 10],

@@ -100,8 +100,8 @@ mod tests {
     use super::*;
 
     const SOME: Report = Report { totals: [2, 18, 0, 1, 0, 804_632, 18, 0, 0, 0], greatest: Some([54_379, 0, 1]) };
-    const SOME_TEXT: &str = "maps 2\nvalid 18\nchannel 0\nzero 1\nlong 0\nsum 804632\nunder_1 18\nfrom_1 0\nfrom_5 0\nfrom_10 0\n\
-        greatest 54379\ngreatest_map 0\ngreatest_cell 1\n";
+    const SOME_TEXT: &str = "maps 2\nvalid 18\nchannel 0\nzero 1\nlong 0\nsum 804632\n\
+        under_1 18\nfrom_1 0\nfrom_5 0\nfrom_10 0\ngreatest 54379\ngreatest_map 0\ngreatest_cell 1\n";
 
     /// What is wrong with the text after a piece of it is replaced.
     fn wrong(piece: &str, by: &str) -> String {

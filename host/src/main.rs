@@ -1,5 +1,5 @@
-//! lsmap: the LS factor of an Esri ASCII grid, or of a grid of floats with such a header; and a report over many grids. It
-//! reads the files, lends the memory to the proved library (crates/fullsize), and writes what the library answers. It
+//! lsmap: the LS factor of an Esri ASCII grid, or of a grid of floats with such a header; and a report over many grids.
+//! It reads the files, lends the memory to the proved library (crates/fullsize), and writes what the library answers. It
 //! judges nothing itself.
 
 mod flags;
@@ -44,8 +44,8 @@ pub struct Map<'a> {
     pub grids: Grids,
 }
 
-/// Why there is no whole sheet or no report: a refusal with its message, of a report the message alone, something that kept
-/// the program from running, or a reader that had enough.
+/// Why there is no whole sheet or no report: a refusal with its message, of a report the message alone, something that
+/// kept the program from running, or a reader that had enough.
 enum Stop {
     Refused(Refusal, String),
     NoReport(String),

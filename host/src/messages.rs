@@ -132,7 +132,7 @@ pub fn of_write(refusal: Refusal) -> String {
     format!("refused {number} at {place}: {what}; that should not happen and is a fault of lsmap")
 }
 
-/// The message for a refusal of a call for reports. A map that was accepted is added, so all but 16 is a fault of lsmap.
+/// The message for a refusal of a call for reports. Only a map that was accepted is added: all but 16 is lsmap's fault.
 pub fn of_report(refusal: Refusal) -> String {
     let Refusal { number, place } = refusal;
     let what = match number {

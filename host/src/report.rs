@@ -1,5 +1,5 @@
-//! The report over many fields. Each is mapped and gets a report of its own, some of them at a time; the library joins these
-//! in the order of the command line, and its law of joining says that this is the report of the whole list.
+//! The report over many fields. Each is mapped and gets a report of its own, some of them at a time; the library joins
+//! these in the order of the command line, and its law of joining says that this is the report of the whole list.
 
 use crate::flags::Field;
 use crate::library::{self, Refusal, Report};

@@ -254,8 +254,8 @@ mod tests {
         assert_eq!(Command::of(&["report", "a.asc", "b.asc"]), report(LIBRARY, &["a.asc", "b.asc"]));
         assert_eq!(Command::of(&["report"]), report(LIBRARY, &[]));
         let settings = Settings { low: 0.2, high: 0.3, channel: Channel::Cells(4), formula: Formula::Newer };
-        let words = ["report", "--steepness", "newer", "--high", "0.3", "--low", "0.2", "--channel", "cells:4", "a.asc"];
-        assert_eq!(Command::of(&words), report(settings, &["a.asc"]));
+        let line = "report --steepness newer --high 0.3 --low 0.2 --channel cells:4 a.asc";
+        assert_eq!(Command::of(&line.split(' ').collect::<Vec<_>>()), report(settings, &["a.asc"]));
         let reports = Command::Reports { seed: 1, number: 50, program: &["lsmap"] };
         assert_eq!(Command::of(&["reports", "1", "50", "lsmap"]), Some(reports));
     }

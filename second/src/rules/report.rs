@@ -86,7 +86,8 @@ fn cells(number: usize, map: &Mapped) -> Result<Vec<Cell>, Refusal> {
 
 /// The report of a list of maps, counted over all of its cells, or the refusal of the first map that is no good.
 pub fn report(maps: &[Mapped]) -> Result<Report, Refusal> {
-    let all: Result<Vec<Vec<Cell>>, Refusal> = maps.iter().enumerate().map(|(number, map)| cells(number, map)).collect();
+    let all: Result<Vec<Vec<Cell>>, Refusal> =
+        maps.iter().enumerate().map(|(number, map)| cells(number, map)).collect();
     let all: Vec<Cell> = all?.concat();
     let number = |holds: &dyn Fn(&Cell) -> bool| all.iter().filter(|cell| holds(cell)).count() as u128;
     let most = all.iter().filter_map(|cell| cell.known()).max();
@@ -296,7 +297,8 @@ mod tests {
     /// A record that no list could give is taken as it is: each total fits up to the last number of 64 bits.
     #[test]
     fn totals_at_the_edge() {
-        let one = good(&[counted(&[1], &[0], Channel::Percentage(0.0)), strip(&[TOO_LONG, 1, 100_000, 500_000, 1_000_000])]);
+        let channel = counted(&[1], &[0], Channel::Percentage(0.0));
+        let one = good(&[channel, strip(&[TOO_LONG, 1, 100_000, 500_000, 1_000_000])]);
         assert_eq!(one.totals().map(|(_, total)| total), [2, 6, 1, 1, 1, 1_600_001, 2, 1, 1, 1]);
         let sets: [fn(&mut Report, u128); 10] = [
             |report, number| report.maps = number,

@@ -137,7 +137,8 @@ mod tests {
 
     #[test]
     fn some_valleys_and_some_records_are_refused() {
-        let numbers: BTreeSet<u32> = valleys().iter().filter_map(|valley| maps(valley).err()).map(|r| r.number).collect();
+        let refusals: Vec<Refusal> = valleys().iter().filter_map(|valley| maps(valley).err()).collect();
+        let numbers: BTreeSet<u32> = refusals.iter().map(|refusal| refusal.number).collect();
         assert!([4, 5, 7].iter().all(|number| numbers.contains(number)));
         let joined = valleys().iter().filter(|valley| join(valley.records[0], valley.records[1]).is_ok()).count();
         assert!((30..270).contains(&joined));
