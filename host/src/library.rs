@@ -1,5 +1,5 @@
-//! The calls of crates/fullsize, with each `&[T]` as a pointer and a length. The declarations here have to
-//! agree with crates/fullsize/src/lib.rt.
+//! The calls of crates/fullsize, with each `&[T]` as a pointer and a length, and each array as itself. The declarations
+//! here have to agree with crates/fullsize/src/lib.rt.
 
 unsafe extern "C" {
     fn lsmap_read_header(
