@@ -1,0 +1,1 @@
+-- What the loops over the cells of one map count: only inner functions cite this file. Assumes nothing.
