@@ -5,3 +5,5 @@ pub mod Joins
 pub mod Answers
 -- What only inner functions cite
 pub mod InnerCells
+pub mod InnerJudging
+pub mod InnerJoins

@@ -2,11 +2,23 @@
 //
 // Every map and every two reports get an answer: no call has a `requires`. A call works out the next report and judges it before it
 // gives it back.
+mod classes;
+mod counting;
+mod flow;
+mod joins;
+mod judge;
+mod lead;
+mod single;
+mod tally;
+
 ghost use mathlib.Core.Path.{_≡_};
 ghost use mathlib.Core.List.{[]};
 ghost use Rattle.report.specs.Maps.{mapOf};
 ghost use Rattle.report.specs.Reports.{reportOf};
 ghost use Rattle.report.specs.Answers.{afterAdd, afterJoin};
+ghost use Rattle.report.specs.InnerJoins.{refusedWith};
+use joins::Kept;
+use judge::Judgement;
 use settings::Settings;
 use text::Refusal;
 
@@ -62,5 +74,68 @@ impl Report {
             from10: 0,
             greatest: Greatest::Nothing,
         }
+    }
+}
+
+// A report that is left as it was, with the refusal.
+fn refused(refusal: Refusal, report: Report) -> Reported
+    ensures { λ r. ⌜ r ≡ refusedWith refusal report ⌝ }
+{
+    Reported {
+        answer: Answer::Refused(refusal),
+        report,
+    }
+}
+
+// The report of two lists of maps, from the report of each: that of the one after the other.
+pub fn join(report: Report, other: Report) -> Reported
+    ensures { λ r. ⌜ r ≡ afterJoin report other ⌝ }
+{
+    let full = Refusal {
+        number: 16,
+        place: 0,
+    };
+    let first = report.greatest;
+    let second = other.greatest;
+    let kept = joins::keep(report.maps, first, second);
+    let Kept::Fitting(greatest) = kept else {
+        return refused(full, report);
+    };
+    if !joins::totals_fit(report, other) {
+        return refused(full, report);
+    }
+    Reported {
+        answer: Answer::Accepted,
+        report: Report {
+            maps: report.maps + other.maps,
+            valid: report.valid + other.valid,
+            channel: report.channel + other.channel,
+            zero: report.zero + other.zero,
+            long: report.long + other.long,
+            sum: report.sum + other.sum,
+            under1: report.under1 + other.under1,
+            from1: report.from1 + other.from1,
+            from5: report.from5 + other.from5,
+            from10: report.from10 + other.from10,
+            greatest,
+        },
+    }
+}
+
+// Adds a map of rows times columns cells, mapped with these settings, to a report.
+pub fn add(
+    report: Report,
+    rows: usize,
+    columns: usize,
+    settings: Settings,
+    count: &[u32],
+    factors: &[u32],
+) -> Reported
+    ensures { λ r. ⌜ r ≡ afterAdd report (mapOf rows columns settings (now (count .entry)) (now (factors .entry))) ⌝ }
+{
+    let judgement = judge::judge(rows, columns, settings, count, factors);
+    match judgement {
+        Judgement::Unsound(refusal) => refused(refusal, report),
+        Judgement::Sound(rules) => join(report, single::report_of(rules, count, factors)),
     }
 }
