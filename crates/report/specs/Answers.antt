@@ -15,6 +15,7 @@ use Rattle.report.specs.declared.Reported.{Reported}
 
 -- 1, 2 and 4 as the map call has them
 unfoldable pub mapTests : Map → List Test
+unfolding sizeTest lengthTest settingsTest
 mapTests m =
     sizeTest (m .rows) (m .columns)
     ∷ lengthTest (cellsOf m) (length (m .count) ∷ length (m .factors) ∷ [])
