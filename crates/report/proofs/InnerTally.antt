@@ -1,13 +1,14 @@
 -- Laws of the tally: from one block to the next, and what it gives of a whole map. Assumes nothing.
 use mathlib.Core.Path.{_≡_, refl, sym, ap, subst, _∙_}
 use mathlib.Core.List.{List}
+use mathlib.Core.Bool.{Bool}
 use Prim.Native.Nat.{ℕ, _+_, _*_, _≤_, _<_}
 use native.Mathlib.Omega.{arith}
 use lib.ListN.{getD}
 use Rattle.factor.specs.Cell.{tooLong}
 use Rattle.factor.specs.Grid.{noDataFactor}
 use Rattle.report.specs.Maps.{isLong}
-use Rattle.report.specs.InnerCells.{countTo, factorsTo, allTo, below, isNoData, Numbers32, Tallied, Counted, Leading}
+use Rattle.report.specs.InnerCells.{countTo, factorsTo, allTo, below, isNoData, CountIn, Tallied}
 use Rattle.report.specs.declared.classes.Counts.{Counts}
 use Rattle.report.specs.declared.lead.Lead.{Lead}
 use Rattle.report.specs.declared.tally.Tally.{Tally}
@@ -31,3 +32,11 @@ tallied-none l =
 -- the same at an equal number of cells
 pub tallied-at : {l : List ℕ} {m n : ℕ} {t : Tally} → m ≡ n → Tallied l m t → Tallied l n t
 tallied-at {l} {m} {n} {t} q h = subst (λ (k : ℕ). Tallied l k t) q h
+
+-- a count so far, and one in the next block
+module _ (test : ℕ → Bool) (l : List ℕ) (a e c d : ℕ) (so-far : c ≡ countTo test l a) (next : CountIn test l a e d) where
+  pub block-more : c + d ≡ countTo test l e
+  block-more = omega (arith, so-far, next)
+
+  pub block-fits : c + d ≤ e
+  block-fits = omega (arith, block-more, count-few test l e)

@@ -1,6 +1,11 @@
+-- Laws of the report of a list
+pub mod Leaders
+pub mod Lists
 -- Laws that serve the code
 pub mod InnerSpans
 pub mod InnerCells
 pub mod InnerFlow
 pub mod InnerLead
 pub mod InnerTally
+pub mod InnerJoins
+pub mod InnerJudging

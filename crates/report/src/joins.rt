@@ -1,5 +1,6 @@
 // Two reports joined, if every number fits 64 bits. RULES 12.3.
 ghost use mathlib.Core.Path.{_≡_};
+ghost use mathlib.Core.Bool.{true};
 ghost use Prim.Native.Nat.{_+_};
 ghost use Rattle.report.specs.Joins.{keptOf, joined, fits64, totalsOf, allFit};
 ghost use Rattle.report.specs.InnerJoins.{fitted};
@@ -79,5 +80,25 @@ pub(crate) fn keep(maps: u64, first: Greatest, second: Greatest) -> Kept
             Greatest::Found { factor, map, cell } => count_on(maps, factor, map, cell),
         },
         Greatest::Found { factor, map, cell } => keep_found(maps, factor, map, cell, second),
+    }
+}
+
+// The numbers of two reports added, with this greatest.
+pub(crate) fn add_numbers(a: Report, b: Report, greatest: Greatest) -> Report
+    requires { ⌜ allFit (totalsOf (joined a b)) ≡ true ⌝ }
+    ensures { λ r. ⌜ (greatest ≡ keptOf (a .maps) (a .greatest) (b .greatest) → r ≡ joined a b) ⌝ }
+{
+    Report {
+        maps: a.maps + b.maps,
+        valid: a.valid + b.valid,
+        channel: a.channel + b.channel,
+        zero: a.zero + b.zero,
+        long: a.long + b.long,
+        sum: a.sum + b.sum,
+        under1: a.under1 + b.under1,
+        from1: a.from1 + b.from1,
+        from5: a.from5 + b.from5,
+        from10: a.from10 + b.from10,
+        greatest,
     }
 }

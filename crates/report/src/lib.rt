@@ -106,19 +106,7 @@ pub fn join(report: Report, other: Report) -> Reported
     }
     Reported {
         answer: Answer::Accepted,
-        report: Report {
-            maps: report.maps + other.maps,
-            valid: report.valid + other.valid,
-            channel: report.channel + other.channel,
-            zero: report.zero + other.zero,
-            long: report.long + other.long,
-            sum: report.sum + other.sum,
-            under1: report.under1 + other.under1,
-            from1: report.from1 + other.from1,
-            from5: report.from5 + other.from5,
-            from10: report.from10 + other.from10,
-            greatest,
-        },
+        report: joins::add_numbers(report, other, greatest),
     }
 }
 

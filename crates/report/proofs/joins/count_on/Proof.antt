@@ -1,25 +1,37 @@
+-- `report::joins::count_on` meets its contract. Assumes nothing.
+use mathlib.Core.Path.{sym, _∙_}
+use native.Mathlib.Omega.{arith}
+use Prim.Native.Nat.{_+_, _^_}
+use borrow.Author.Tests.{not-true, not-false, ltb-true}
+use Rattle.report.specs.Joins.{mapFits}
+use Rattle.report.proofs.InnerJoins.{fitted-no, found-fits}
+use Rattle.report.specs.declared.Greatest.the-variants.{Found}
 use borrow.Author.Needs.{needs}
 use Rattle.report.proofs.joins.count_on.Statement.{statement}
 use Rattle.report.proofs.joins.count_on.Tie as tie
-use Rattle.report.proofs.joins.count_on.Reads as reads
-use Rattle.report.proofs.joins.count_on.Lts as lts
-use Rattle.report.proofs.joins.sum_fits.Reads as sum-fits-reads
 
--- src/joins.rt:42:9
 sum-fits-requires : tie.Need-sum-fits-requires
 sum-fits-requires c κs = search needs
 
--- src/joins.rt:43:9
 returns : tie.Need-returns
-returns c = ?
+unfolding mapFits
+returns c =
+    let s = c .before in
+    let a = s .before .args in
+    sym (fitted-no (Found (a .factor) (a .maps + a .map) (a .cell)) (sym (s .sum-fits .ensures) ∙ not-true (s .sum-fits .result) (c .if1 .taken)))
 
--- src/joins.rt:47:14
 add-t7 : tie.Need-add-t7
-add-t7 c = ?
+add-t7 c =
+    let s = c .before in
+    let a = s .before .args in
+    omega (arith, ltb-true (a .maps + a .map) (2 ^ 64) (sym (s .sum-fits .ensures) ∙ not-false (s .sum-fits .result) (c .if1 .left)))
 
--- src/joins.rt:39:1
 returns-2 : tie.Need-returns-2
-returns-2 c = ?
+returns-2 c =
+    let s = c .before in
+    let a = s .before .args in
+    sym (found-fits (a .factor) (a .maps + a .map) (a .cell)
+    (ltb-true (a .maps + a .map) (2 ^ 64) (sym (s .sum-fits .ensures) ∙ not-false (s .sum-fits .result) (c .if1 .left))))
 
 pub count-on-spec : {M : Type 1} → statement M
 count-on-spec = tie.close (tie.spec sum-fits-requires returns add-t7 returns-2)
