@@ -7,19 +7,15 @@ use native.Mathlib.Omega.{arith}
 use native.Mathlib.Decide.{decLt}
 use lib.Dec.{ltb, leb}
 use borrow.Author.Tests.{lt-ltb, le-ltb, le-leb, lt-leb, ltb-true}
-use Rattle.laws.specs.Tests.{passed, failed}
 use Rattle.laws.proofs.Tests.{and-both, and-false-left, and-false-right}
-use Rattle.laws.proofs.Verdicts.{test-yes, test-no, verdict-none, verdict-next, verdict-stops}
 use Rattle.report.specs.Joins.{keptOf, joined, fits64, totalsOf, allFit, mapFits, fits}
-use Rattle.report.specs.Answers.{fitTest, outcomeOf, afterJoin}
-use Rattle.report.specs.InnerJoins.{fitted, refusedWith}
-use Rattle.report.specs.declared.Answer.the-variants.{Accepted}
+use Rattle.report.specs.Answers.{afterJoin}
+use Rattle.report.specs.InnerJoins.{fitted}
 use Rattle.report.specs.declared.Greatest.{Greatest}
 use Rattle.report.specs.declared.Greatest.the-variants.{Nothing, Found}
 use Rattle.report.specs.declared.Report.{Report}
-use Rattle.report.specs.declared.Reported.{Reported}
-use Rattle.report.specs.declared.joins.Kept.{Kept}
 use Rattle.report.specs.declared.joins.Kept.the-variants.{Fitting, TooMany}
+use Rattle.report.proofs.Additions.{accepted, refused, join-fits, join-full}
 
 -- ---- sums
 
@@ -113,28 +109,20 @@ module _ (a b : Report) where
   abbrev kept : Greatest
   kept = keptOf (a .maps) (a .greatest) (b .greatest)
 
-  full : fits (joined a b) ≡ false → refusedWith (record { number = 16; place = 0 }) a ≡ afterJoin a b
-  unfolding afterJoin fitTest outcomeOf
-  full e = sym (ap (outcomeOf a (joined a b)) (verdict-stops [] (test-no 16 0 e)))
-
   -- the greatest's map does not fit
-  pub join-map : TooMany ≡ fitted kept → refusedWith (record { number = 16; place = 0 }) a ≡ afterJoin a b
+  pub join-map : TooMany ≡ fitted kept → refused 16 0 a ≡ afterJoin a b
   unfolding fits joined
-  join-map e = full (sym (and-false-right (allFit (totalsOf (joined a b))) (mapFits kept) (fitted-not kept e)))
+  join-map e = sym (join-full a b (sym (and-false-right (allFit (totalsOf (joined a b))) (mapFits kept) (fitted-not kept e))))
 
   -- a total does not
-  pub join-total : allFit (totalsOf (joined a b)) ≡ false → refusedWith (record { number = 16; place = 0 }) a ≡ afterJoin a b
+  pub join-total : allFit (totalsOf (joined a b)) ≡ false → refused 16 0 a ≡ afterJoin a b
   unfolding fits joined
-  join-total e = full (sym (and-false-left (allFit (totalsOf (joined a b))) (mapFits kept) e))
+  join-total e = sym (join-full a b (sym (and-false-left (allFit (totalsOf (joined a b))) (mapFits kept) e)))
 
   -- all do
-  pub join-fits : {g : Greatest} → Fitting g ≡ fitted kept → allFit (totalsOf (joined a b)) ≡ true → fits (joined a b) ≡ true
+  pub join-accepts : {g : Greatest} → Fitting g ≡ fitted kept → allFit (totalsOf (joined a b)) ≡ true → accepted (joined a b) ≡ afterJoin a b
   unfolding fits joined
-  join-fits {g} e t = ap₂ _&&_ t (fitted-is kept g e .0)
+  join-accepts {g} e t = sym (join-fits a b (ap₂ _&&_ t (fitted-is kept g e .0)))
 
   pub join-kept : {g : Greatest} → Fitting g ≡ fitted kept → g ≡ kept
   join-kept {g} e = fitted-is kept g e .1
-
-  pub join-accepts : fits (joined a b) ≡ true → record { answer = Accepted; report = joined a b } ≡ afterJoin a b
-  unfolding afterJoin fitTest outcomeOf
-  join-accepts e = sym (ap (outcomeOf a (joined a b)) (verdict-next [] (test-yes 16 0 e) ∙ verdict-none))

@@ -95,6 +95,12 @@ rank-has v m x e =
     (λ f. absurd (omega (arith, when-yes (rankOf (factorAt m x)) t, when-no (factorAt m x + 1) f))) (two (isFactor (factorAt m x))))
     (λ t. absurd (omega (arith, when-no (rankOf (factorAt m x)) t))) (two (ltb x (cellsOf m)))
 
+-- the LS of a rank
+pub rank-value : (w v : ℕ) → rankOf w ≡ v + 1 → w ≡ v
+unfolding rankOf
+rank-value w v e =
+    ⊎-elim (λ f. omega (arith, when-yes (w + 1) f)) (λ f. absurd (omega (arith, when-no (w + 1) f))) (two (isFactor w))
+
 -- ---- no rank is above the highest, and some cell has the highest
 
 rank-under : (m : Map) (x : ℕ) → rankIn x m ≤ highestIn m

@@ -4,7 +4,7 @@ use mathlib.Core.Path.{_≡_, sym, _∙_}
 use mathlib.Core.Bool.{true}
 use borrow.Author.Tests.{not-true, not-false}
 use Rattle.report.specs.Joins.{joined, totalsOf, allFit}
-use Rattle.report.proofs.InnerJoins.{join-map, join-total, join-fits, join-kept, join-accepts}
+use Rattle.report.proofs.InnerJoins.{join-map, join-total, join-kept, join-accepts}
 use Rattle.report.proofs.join.Statement.{statement}
 use Rattle.report.proofs.join.Tie as tie
 
@@ -46,7 +46,7 @@ returns-3 c =
     let t = c .before .before .totals-fit in
     let e = sym (c .before .before .before .before .kept .given .1) ∙ c .before .before .before .before .before .before .keep .ensures in
     rw (c .add-numbers .ensures (join-kept (a .report) (a .other) e))
-    (join-accepts (a .report) (a .other) (join-fits (a .report) (a .other) e (sym (t .ensures) ∙ not-false (t .result) (c .before .if1 .left))))
+    (join-accepts (a .report) (a .other) e (sym (t .ensures) ∙ not-false (t .result) (c .before .if1 .left)))
 
 pub join-spec : {M : Type 1} → statement M
 join-spec =

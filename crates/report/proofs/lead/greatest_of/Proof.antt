@@ -1,29 +1,31 @@
+-- `report::lead::greatest_of` meets its contract. Assumes nothing.
 use borrow.Author.Needs.{needs}
+use native.Mathlib.Omega.{arith}
+use lib.ListN.{length}
+use Rattle.report.proofs.InnerSingle.{lead-nothing, lead-found}
 use Rattle.report.proofs.lead.greatest_of.Statement.{statement}
 use Rattle.report.proofs.lead.greatest_of.Tie as tie
-use Rattle.report.proofs.lead.greatest_of.Reads as reads
-use Rattle.report.proofs.lead.greatest_of.Lts as lts
-use Rattle.report.proofs.lead.first_with.Reads as first-with-reads
 
--- src/lead.rt:64:9
 returns : tie.Need-returns
-returns c = ?
+returns c =
+    let s = c .before .before .before in
+    let l = s .args .factors .now in
+    λ m e n. lead-nothing m l (length l) e n (s .args .lead) (s .pre) (c .if1 .taken)
 
--- src/lead.rt:66:13
 sub-v : tie.Need-sub-v
 sub-v c = search needs
 
--- src/lead.rt:69:9
 first-with-requires : tie.Need-first-with-requires
 first-with-requires c κs = search needs
 
--- src/lead.rt:71:17
 cast-t8 : tie.Need-cast-t8
 cast-t8 c = search needs
 
--- src/lead.rt:59:1
 returns-2 : tie.Need-returns-2
-returns-2 c = ?
+returns-2 c =
+    let s = c .before .before .before .before .before in
+    let l = s .args .factors .now in
+    λ m e n. lead-found m l (length l) e n (s .args .lead) (s .pre) _ (c .first-with .result) (omega arith) (c .first-with .ensures)
 
 pub greatest-of-spec : {M : Type 1} → statement M
 greatest-of-spec = tie.close (tie.spec returns sub-v first-with-requires cast-t8 returns-2)
