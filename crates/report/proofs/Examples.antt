@@ -60,12 +60,18 @@ reports =
     ([], sheet 0 0 0 0 0 0 0 0 0 0 Nothing) ∷
     (mapOf 1 2 noChannel (0 ∷ 0 ∷ []) (noData ∷ noData ∷ []) ∷ [], sheet 1 0 0 0 0 0 0 0 0 0 Nothing) ∷
     -- each class at its bounds, LS 0, too long and NoData; the default percentage of 1.0 makes channels of counts above 2 where the largest is 200
-    (mapOf 3 3 defaultSettings (0 ∷ 1 ∷ 2 ∷ 3 ∷ 200 ∷ 0 ∷ 1 ∷ 2 ∷ 0 ∷ [])
-    (99999 ∷ 100000 ∷ 499999 ∷ 500000 ∷ 999999 ∷ 1000000 ∷ 0 ∷ tooLong ∷ noData ∷ [])
-    ∷ [], sheet 1 6 2 1 1 3199997 2 2 2 1 (Found 1000000 0 5)) ∷
+    (
+      mapOf 3 3 defaultSettings (0 ∷ 1 ∷ 2 ∷ 3 ∷ 200 ∷ 0 ∷ 1 ∷ 2 ∷ 0 ∷ [])
+          (99999 ∷ 100000 ∷ 499999 ∷ 500000 ∷ 999999 ∷ 1000000 ∷ 0 ∷ tooLong ∷ noData ∷ [])
+          ∷ [],
+      sheet 1 6 2 1 1 3199997 2 2 2 1 (Found 1000000 0 5),
+    ) ∷
     -- channels by a number of cells; any 32-bit number is a count; the greatest LS that there can be
-    (mapOf 1 3 (settingsOf (quotient 100 50) (quotient 100 50) (Cells 7)) (7 ∷ 8 ∷ 4294967295 ∷ []) (4294967293 ∷ 1 ∷ 1 ∷ [])
-    ∷ [], sheet 1 3 2 0 0 4294967295 2 0 0 1 (Found 4294967293 0 0)) ∷
+    (
+      mapOf 1 3 (settingsOf (quotient 100 50) (quotient 100 50) (Cells 7)) (7 ∷ 8 ∷ 4294967295 ∷ []) (4294967293 ∷ 1 ∷ 1 ∷ [])
+          ∷ [],
+      sheet 1 3 2 0 0 4294967295 2 0 0 1 (Found 4294967293 0 0),
+    ) ∷
     -- cells too long alone give no greatest, and LS 0 alone does
     (row (tooLong ∷ tooLong ∷ []) ∷ [], sheet 1 2 0 0 2 0 0 0 0 0 Nothing) ∷
     (row (noData ∷ 0 ∷ 0 ∷ []) ∷ [], sheet 1 3 0 2 0 0 2 0 0 0 (Found 0 0 1)) ∷

@@ -124,9 +124,9 @@ between-split low high v h t =
     elim (decLt v low) [
       | yes l ↦ omega (arith, one-yes (lt-ltb v low l), one-no (between-low low high v l), one-yes (lt-ltb v high (omega arith)))
       | no d ↦ elim (decLt v high) [
-          | yes k ↦ omega (arith, one-no (le-ltb v low (omega arith)), one-yes (between-yes low high v (omega arith) k t), one-yes (lt-ltb v high k))
-          | no e ↦ omega (arith, one-no (le-ltb v low (omega arith)), one-no (between-high low high v (omega arith)), one-no (le-ltb v high (omega arith)))
-        ]
+        | yes k ↦ omega (arith, one-no (le-ltb v low (omega arith)), one-yes (between-yes low high v (omega arith) k t), one-yes (lt-ltb v high k))
+        | no e ↦ omega (arith, one-no (le-ltb v low (omega arith)), one-no (between-high low high v (omega arith)), one-no (le-ltb v high (omega arith)))
+      ]
     ]
 
 -- under a bound
@@ -144,9 +144,9 @@ from-split low v h k =
     elim (decLt v low) [
       | yes l ↦ omega (arith, one-yes (lt-ltb v low l), one-no (sym (and-false-right (isFactor v) (leb low v) (lt-leb low v l))), one-yes (lt-ltb v tooLong (omega arith)))
       | no d ↦ elim (decLt v tooLong) [
-          | yes l ↦ omega (arith, one-no (le-ltb v low (omega arith)), one-yes (ap₂ _&&_ (factor-yes v l) (le-leb low v (omega arith))), one-yes (lt-ltb v tooLong l))
-          | no e ↦ omega (arith, one-no (le-ltb v low (omega arith)), one-no (sym (and-false-left (isFactor v) (leb low v) (factor-no v (omega arith) k))), one-no (le-ltb v tooLong (omega arith)))
-        ]
+        | yes l ↦ omega (arith, one-no (le-ltb v low (omega arith)), one-yes (ap₂ _&&_ (factor-yes v l) (le-leb low v (omega arith))), one-yes (lt-ltb v tooLong l))
+        | no e ↦ omega (arith, one-no (le-ltb v low (omega arith)), one-no (sym (and-false-left (isFactor v) (leb low v) (factor-no v (omega arith) k))), one-no (le-ltb v tooLong (omega arith)))
+      ]
     ]
 
 pub zero-is : (v : ℕ) → ltb v 1 ≡ isZero v

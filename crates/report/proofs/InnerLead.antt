@@ -55,9 +55,9 @@ module _ (l : List ℕ) (small : Numbers32 l) where
       let v = getD l x 0 in
       elim (decLt v tooLong) [
         | yes k ↦ elim (decLt v rank) [
-            | yes r ↦ omega (arith, rank-known v k)
-            | no d ↦ absurd (omega (arith, one-yes (lt-ltb v tooLong k), one-no (le-ltb v rank (omega arith))))
-          ]
+          | yes r ↦ omega (arith, rank-known v k)
+          | no d ↦ absurd (omega (arith, one-yes (lt-ltb v tooLong k), one-no (le-ltb v rank (omega arith))))
+        ]
         | no d ↦ omega (arith, rank-none v (omega arith) (small x))
       ]
 
@@ -92,8 +92,12 @@ module _ (l : List ℕ) (small : Numbers32 l) where
     counts-quiet : ((x : ℕ) → a ≤ x → x < e → rankOf (getD l x 0) ≤ t .rank) → r .known ≤ r .lower
     unfolding countTo
     counts-quiet q =
-        omega (arith, counted .known, counted .lower,
-        span-le (λ y. when (ltb (getD l y 0) tooLong) 1) (λ y. when (ltb (getD l y 0) (t .rank)) 1) a e (block .order) (λ y p j. low-ranks (t .rank) y (q y p j)))
+        omega (
+          arith,
+          counted .known,
+          counted .lower,
+          span-le (λ y. when (ltb (getD l y 0) tooLong) 1) (λ y. when (ltb (getD l y 0) (t .rank)) 1) a e (block .order) (λ y p j. low-ranks (t .rank) y (q y p j)),
+        )
 
     -- the lead stays
     pub lead-stays : r .known ≤ r .lower → Leading l e t

@@ -39,18 +39,20 @@ module _ (m : Map) (l : List ℕ) (n : ℕ) (same : m .factors ≡ l) (cells : c
   rank-in : (i x : ℕ) → 0 < rankAt (m ∷ []) i x → (i ≡ 0) × (x < n)
   unfolding rankAt rankIn
   rank-in i x h =
-      let z : i ≡ 0 = omega (arith, rank-inside (m ∷ []) i x h) in
-      (z, elim (decLt x n) [
-        | yes k ↦ k
-        | no d ↦ absurd (omega (arith, ap (λ (k : ℕ). rankAt (m ∷ []) k x) z, when-no (rankOf (factorAt m x)) (le-ltb x (cellsOf m) (omega arith))))
-      ])
+      let z : i ≡ 0 = omega (arith, rank-inside (m ∷ []) i x h) in (
+        z,
+        elim (decLt x n) [
+          | yes k ↦ k
+          | no d ↦ absurd (omega (arith, ap (λ (k : ℕ). rankAt (m ∷ []) k x) z, when-no (rankOf (factorAt m x)) (le-ltb x (cellsOf m) (omega arith))))
+        ],
+      )
 
   module _ (t : Lead) (led : Leading l n t) where
     rank-low : (i x : ℕ) → rankAt (m ∷ []) i x ≤ t .rank
     rank-low i x =
         elim (decLt 0 (rankAt (m ∷ []) i x)) [
           | yes h ↦ (let w = rank-in i x h in
-            omega (arith, ap (λ (k : ℕ). rankAt (m ∷ []) k x) (w .0), rank-is x (w .1), highest-ge l n x (w .1), led .highest))
+              omega (arith, ap (λ (k : ℕ). rankAt (m ∷ []) k x) (w .0), rank-is x (w .1), highest-ge l n x (w .1), led .highest))
           | no d ↦ omega arith
         ]
 
@@ -76,9 +78,9 @@ module _ (m : Map) (l : List ℕ) (n : ℕ) (same : m .factors ≡ l) (cells : c
       none-before y e =
           elim (decLt y c) [
             | yes k ↦ elim (decLt y (t .from)) [
-                | yes b ↦ absurd (omega (arith, led .before y b))
-                | no d ↦ absurd (found .before y (omega arith) k (rank-value (getD l y 0) v e))
-              ]
+              | yes b ↦ absurd (omega (arith, led .before y b))
+              | no d ↦ absurd (found .before y (omega arith) k (rank-value (getD l y 0) v e))
+            ]
             | no d ↦ omega arith
           ]
 
@@ -88,7 +90,7 @@ module _ (m : Map) (l : List ℕ) (n : ℕ) (same : m .factors ≡ l) (cells : c
             has = rank-is c (omega (arith, early, led .inside)) ∙ cell-rank;
             most = (λ i x. omega (arith, rank-low i x));
             first = (λ i x e. let w = rank-in i x (omega arith) in
-              inr (sym (w .0), none-before x (sym (rank-is x (w .1)) ∙ ap (λ (k : ℕ). rankAt (m ∷ []) k x) (sym (w .0)) ∙ e)));
+                inr (sym (w .0), none-before x (sym (rank-is x (w .1)) ∙ ap (λ (k : ℕ). rankAt (m ∷ []) k x) (sym (w .0)) ∙ e)));
           })
 
 -- ---- the classes as differences
@@ -96,18 +98,30 @@ module _ (m : Map) (l : List ℕ) (n : ℕ) (same : m .factors ≡ l) (cells : c
 module _ (l : List ℕ) (n : ℕ) (t : Tally) (tallied : Tallied l n t) where
   pub class-1 : t .under1 + countTo (isBetween 100000 500000) l n ≡ t .under5
   class-1 =
-      omega (arith, tallied .under1, tallied .under5,
-      count-split (below 100000) (isBetween 100000 500000) (below 500000) l n (λ x. between-split 100000 500000 (getD l x 0) (omega arith) (omega arith)))
+      omega (
+        arith,
+        tallied .under1,
+        tallied .under5,
+        count-split (below 100000) (isBetween 100000 500000) (below 500000) l n (λ x. between-split 100000 500000 (getD l x 0) (omega arith) (omega arith)),
+      )
 
   pub class-5 : t .under5 + countTo (isBetween 500000 1000000) l n ≡ t .under10
   class-5 =
-      omega (arith, tallied .under5, tallied .under10,
-      count-split (below 500000) (isBetween 500000 1000000) (below 1000000) l n (λ x. between-split 500000 1000000 (getD l x 0) (omega arith) (omega arith)))
+      omega (
+        arith,
+        tallied .under5,
+        tallied .under10,
+        count-split (below 500000) (isBetween 500000 1000000) (below 1000000) l n (λ x. between-split 500000 1000000 (getD l x 0) (omega arith) (omega arith)),
+      )
 
   pub class-10 : Numbers32 l → t .under10 + countTo (isFrom 1000000) l n ≡ t .known
   class-10 small =
-      omega (arith, tallied .under10, tallied .known,
-      count-split (below 1000000) (isFrom 1000000) (below tooLong) l n (λ x. from-split 1000000 (getD l x 0) (omega arith) (small x)))
+      omega (
+        arith,
+        tallied .under10,
+        tallied .known,
+        count-split (below 1000000) (isFrom 1000000) (below tooLong) l n (λ x. from-split 1000000 (getD l x 0) (omega arith) (small x)),
+      )
 
 -- ---- the report
 

@@ -126,7 +126,7 @@ module _ (maps : List Map) where
   ranks-under i x =
       elim (decLt i (length maps)) [
         | yes h ↦ (let w = map-at maps i h in
-          omega (arith, w .numbers (rankIn x), w .numbers highestIn, rank-under (w .at) x, greatest-ge (length maps) highestAt i h))
+            omega (arith, w .numbers (rankIn x), w .numbers highestIn, rank-under (w .at) x, greatest-ge (length maps) highestAt i h))
         | no d ↦ omega (arith, rank-past maps i x (omega arith))
       ]
 
@@ -184,8 +184,8 @@ module _ (maps : List Map) where
         elim (decLt (firstMap v maps) j) [
           | yes h ↦ inl h
           | no d ↦ (let s : firstMap v maps ≡ j = omega arith in
-            let c = rank-has v (found .at) y (sym (found .numbers (rankIn y)) ∙ ap (λ (i : ℕ). rankAt maps i y) s ∙ q) in
-            inr (s, first-le (hasFactor v (found .at)) (cellsOf (found .at)) y (c .0) (c .1)))
+              let c = rank-has v (found .at) y (sym (found .numbers (rankIn y)) ∙ ap (λ (i : ℕ). rankAt maps i y) s ∙ q) in
+              inr (s, first-le (hasFactor v (found .at)) (cellsOf (found .at)) y (c .0) (c .1)))
         ]
 
     leader-is : Leader maps v (firstMap v maps) (firstCell v (found .at))

@@ -78,8 +78,8 @@ module _ (l k : List Map) where
         has = rank-right i x ∙ b .has;
         most = (λ j y. ⊎-elim (λ p. omega (arith, p .1, low j y)) (λ p. omega (arith, p .1, b .most (j - length l) y)) (rank-either j y));
         first = (λ j y e. ⊎-elim (λ p. absurd (omega (arith, p .1, low j y)))
-          (λ p. ⊎-elim (λ q. inl (omega (arith, p .0, q))) (λ q. inr (omega (arith, p .0, q .0), q .1)) (b .first (j - length l) y (sym (p .1) ∙ e)))
-          (rank-either j y));
+            (λ p. ⊎-elim (λ q. inl (omega (arith, p .0, q))) (λ q. inr (omega (arith, p .0, q .0), q .1)) (b .first (j - length l) y (sym (p .1) ∙ e)))
+            (rank-either j y));
       }
 
   kept-leads : (a b : Greatest) → Leads l a → Leads k b → Leads (l ++ k) (keptOf (length l) a b)

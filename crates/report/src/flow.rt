@@ -61,7 +61,7 @@ pub(crate) fn flow_of(threshold: Threshold, count: &[u32]) -> Flow
     requires { ⌜ length (now count) ≤ 1048576 ⌝ }
     ensures { λ r. ⌜ (r .valid ≡ countTo isWet (now (count .entry)) (length (now (count .entry))))
         × (r .channel ≡ countTo (isChannel threshold (largestOf (length (now (count .entry))) (now (count .entry)))) (now (count .entry))
-            (length (now (count .entry)))) ⌝ }
+        (length (now (count .entry)))) ⌝ }
 {
     let largest = largest_for(threshold, count);
     count_above(count, capped(factor::channel_bound(threshold, largest)))

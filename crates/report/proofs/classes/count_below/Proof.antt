@@ -57,16 +57,18 @@ loop-again : tie.Need-loop-again Inv-loop μ-loop
 loop-again c =
     let p = c .before .before .before .before .before .before .before .before .before in
     let l = p .before .before .args .factors .now in
-    let from = p .before .before .args .from in
-    (record {
-      zero = count-step (below 1) l from (p .loop .x) _ _ (p .loop .inv .0 .zero) (c .before .before .before .before .before .before .plus-if .ensures);
-      under1 = count-step (below 100000) l from (p .loop .x) _ _ (p .loop .inv .0 .under1) (c .before .before .before .before .before .plus-if2 .ensures);
-      under5 = count-step (below 500000) l from (p .loop .x) _ _ (p .loop .inv .0 .under5) (c .before .before .before .before .plus-if3 .ensures);
-      under10 = count-step (below 1000000) l from (p .loop .x) _ _ (p .loop .inv .0 .under10) (c .before .before .before .plus-if4 .ensures);
-      known = count-step (below tooLong) l from (p .loop .x) _ _ (p .loop .inv .0 .known) (c .before .before .plus-if5 .ensures);
-      no-data = count-step isNoData l from (p .loop .x) _ _ (p .loop .inv .0 .no-data) (c .before .plus-if6 .ensures);
-      lower = count-step (below (p .before .before .args .given)) l from (p .loop .x) _ _ (p .loop .inv .0 .lower) (c .plus-if7 .ensures);
-    }, omega arith)
+    let from = p .before .before .args .from in (
+      record {
+        zero = count-step (below 1) l from (p .loop .x) _ _ (p .loop .inv .0 .zero) (c .before .before .before .before .before .before .plus-if .ensures);
+        under1 = count-step (below 100000) l from (p .loop .x) _ _ (p .loop .inv .0 .under1) (c .before .before .before .before .before .plus-if2 .ensures);
+        under5 = count-step (below 500000) l from (p .loop .x) _ _ (p .loop .inv .0 .under5) (c .before .before .before .before .plus-if3 .ensures);
+        under10 = count-step (below 1000000) l from (p .loop .x) _ _ (p .loop .inv .0 .under10) (c .before .before .before .plus-if4 .ensures);
+        known = count-step (below tooLong) l from (p .loop .x) _ _ (p .loop .inv .0 .known) (c .before .before .plus-if5 .ensures);
+        no-data = count-step isNoData l from (p .loop .x) _ _ (p .loop .inv .0 .no-data) (c .before .plus-if6 .ensures);
+        lower = count-step (below (p .before .before .args .given)) l from (p .loop .x) _ _ (p .loop .inv .0 .lower) (c .plus-if7 .ensures);
+      },
+      omega arith,
+    )
 
 returns : tie.Need-returns Inv-loop μ-loop
 returns c = let p = c .before in counted-at (omega arith) (p .loop .inv .0)

@@ -42,9 +42,11 @@ loop-less c = search needs
 loop-again : tie.Need-loop-again Inv-loop μ-loop
 loop-again c =
     let p = c .before .before .before .before in
-    let a = p .before .before .args in
-    (omega (arith, count-more isZero (a .count .now) (p .loop .x), c .before .plus-if .ensures),
-    omega (arith, count-more (above (a .bound)) (a .count .now) (p .loop .x), c .plus-if2 .ensures), omega arith)
+    let a = p .before .before .args in (
+      omega (arith, count-more isZero (a .count .now) (p .loop .x), c .before .plus-if .ensures),
+      omega (arith, count-more (above (a .bound)) (a .count .now) (p .loop .x), c .plus-if2 .ensures),
+      omega arith,
+    )
 
 cast-t12 : tie.Need-cast-t12 Inv-loop μ-loop
 cast-t12 c = omega (arith, c .before .before .before .pre)

@@ -25,11 +25,12 @@ returns c =
     let b = c .before .before in
     let k = b .before .before in
     let a = k .before .args in
-    let l = a .count .now in
-    (c .count-above .ensures .0,
-    c .count-above .ensures .1 ∙ ap (λ n. countTo (above n) l (length l)) (c .before .capped .ensures)
-    ∙ channels-counted (a .threshold) l (b .before .largest-for .result) (b .channel-bound .result) (λ x. omega (arith, k .shared-slice-known .given x))
-    (b .before .largest-for .ensures) (b .channel-bound .ensures))
+    let l = a .count .now in (
+      c .count-above .ensures .0,
+      c .count-above .ensures .1 ∙ ap (λ n. countTo (above n) l (length l)) (c .before .capped .ensures)
+          ∙ channels-counted (a .threshold) l (b .before .largest-for .result) (b .channel-bound .result) (λ x. omega (arith, k .shared-slice-known .given x))
+          (b .before .largest-for .ensures) (b .channel-bound .ensures),
+    )
 
 pub flow-of-spec : {M : Type 1} → statement M
 flow-of-spec =

@@ -36,11 +36,13 @@ loop-less c = search needs
 
 loop-again : tie.Need-loop-again Inv-loop μ-loop
 loop-again c =
-    let p = c .before .before .before in
-    (omega (arith, p .loop .inv .0), λ y h k. elim (ℕ-discrete y (p .loop .x)) [
-      | yes e ↦ rw e (c .if1 .left)
-      | no d ↦ p .loop .inv .1 y h (omega arith)
-    ])
+    let p = c .before .before .before in (
+      omega (arith, p .loop .inv .0),
+      λ y h k. elim (ℕ-discrete y (p .loop .x)) [
+        | yes e ↦ rw e (c .if1 .left)
+        | no d ↦ p .loop .inv .1 y h (omega arith)
+      ],
+    )
 
 returns-2 : tie.Need-returns-2 Inv-loop μ-loop
 returns-2 c =
