@@ -9,6 +9,7 @@ use output::write_natural;
 use report::Answer;
 use report::Greatest;
 use report::Report;
+use report::Reported;
 
 fn join(name: &[u8], a: Report, b: Report) {
     show::reported(name, report::join(a, b));
@@ -62,22 +63,31 @@ fn map_edges() {
     );
 }
 
-// Of each number: one less than the greatest of 64 bits and 1, and the greatest and 1. The number of the refusal.
+// Of each number: one less than the greatest of 64 bits and 1, and the greatest and 1.
 pub(crate) fn edges() {
-    let mut k: u32 = 0;
-    while k < 10 {
-        write(b"number");
-        write_natural(k as u64);
-        write(b":");
-        edge(k, TOP - 1);
-        edge(k, TOP);
-        write(b"\n");
-        k += 1;
-    }
+    edge(0);
+    edge(1);
+    edge(2);
+    edge(3);
+    edge(4);
+    edge(5);
+    edge(6);
+    edge(7);
+    edge(8);
+    edge(9);
 }
 
-fn edge(k: u32, n: u64) {
-    let reported = report::join(one(k, n), one(k, 1));
+fn edge(k: u32) {
+    write(b"number");
+    write_natural(k as u64);
+    write(b":");
+    write_number_of(report::join(one(k, TOP - 1), one(k, 1)));
+    write_number_of(report::join(one(k, TOP), one(k, 1)));
+    write(b"\n");
+}
+
+// The number of the refusal.
+fn write_number_of(reported: Reported) {
     let answer = reported.answer;
     match answer {
         Answer::Accepted => write_natural(0),

@@ -90,14 +90,22 @@ pub(crate) fn blocks() {
 }
 
 fn high_at(name: &[u8], first: usize, second: usize) {
-    let count = [1u32; 5120];
     let mut factors = [1u32; 5120];
-    if (first < 5120) & (second < 5120) {
-        factors[first] = 200000;
-        factors[second] = 200000;
+    set(&mut factors, first, 200000);
+    set(&mut factors, second, 200000);
+    add_block_map(name, &factors);
+}
+
+fn set(factors: &mut [u32; 5120], x: usize, v: u32) {
+    if x < 5120 {
+        factors[x] = v;
     }
+}
+
+fn add_block_map(name: &[u8], factors: &[u32; 5120]) {
+    let count = [1u32; 5120];
     show::reported(
         name,
-        report::add(Report::empty(), 64, 80, no_channel(), &count, &factors),
+        report::add(Report::empty(), 64, 80, no_channel(), &count, factors),
     );
 }
