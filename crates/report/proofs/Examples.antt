@@ -140,6 +140,17 @@ edges-hold = (refl, refl)
 
 -- ---- additions
 
+-- one cell with count 1 and LS 1
+abbrev cellWith : Settings → Map
+cellWith settings = mapOf 1 1 settings (1 ∷ []) (1 ∷ [])
+
+-- 0.50 and 1.01
+abbrev half : Float
+half = quotient 100 50
+
+abbrev above1 : Float
+above1 = quotient 100 101
+
 -- an addition: the report and the map, and what comes of it
 unfoldable pub additions : List ((Report × Map) × Reported)
 additions =
@@ -154,19 +165,19 @@ additions =
     ((leading 3 Nothing, mapOf 1 2 noChannel (1 ∷ []) (1 ∷ 2 ∷ [])), refused 2 0 (leading 3 Nothing)) ∷
     ((leading 3 Nothing, mapOf 1 2 noChannel (1 ∷ 2 ∷ []) (1 ∷ 2 ∷ 3 ∷ [])), refused 2 0 (leading 3 Nothing)) ∷
     -- 4: 1.01 as the low cutoff, as both, as the high one, and 100.1 percent
-    ((leading 3 Nothing, mapOf 1 1 (settingsOf (quotient 100 101) (quotient 100 50) NoChannel) (1 ∷ []) (1 ∷ [])), refused 4 1 (leading 3 Nothing)) ∷
-    ((leading 3 Nothing, mapOf 1 1 (settingsOf (quotient 100 101) (quotient 100 101) NoChannel) (1 ∷ []) (1 ∷ [])), refused 4 1 (leading 3 Nothing)) ∷
-    ((leading 3 Nothing, mapOf 1 1 (settingsOf (quotient 100 50) (quotient 100 101) NoChannel) (1 ∷ []) (1 ∷ [])), refused 4 2 (leading 3 Nothing)) ∷
-    ((leading 3 Nothing, mapOf 1 1 (settingsOf (quotient 100 50) (quotient 100 50) (Percentage (quotient 10 1001))) (1 ∷ []) (1 ∷ [])), refused 4 3 (leading 3 Nothing)) ∷
+    ((leading 3 Nothing, cellWith (settingsOf above1 half NoChannel)), refused 4 1 (leading 3 Nothing)) ∷
+    ((leading 3 Nothing, cellWith (settingsOf above1 above1 NoChannel)), refused 4 1 (leading 3 Nothing)) ∷
+    ((leading 3 Nothing, cellWith (settingsOf half above1 NoChannel)), refused 4 2 (leading 3 Nothing)) ∷
+    ((leading 3 Nothing, cellWith (settingsOf half half (Percentage (quotient 10 1001)))), refused 4 3 (leading 3 Nothing)) ∷
     -- 16: the number of maps, the sum; 4 before 16
     ((leading (top - 1) Nothing, row (5 ∷ [])), accepted (sheet top 1 0 0 0 5 1 0 0 0 (Found 5 (top - 1) 0))) ∷
     ((leading top Nothing, row (noData ∷ [])), refused 16 0 (leading top Nothing)) ∷
     ((one 5 (top - 5), row (5 ∷ [])), accepted (sheet 1 1 0 0 0 top 1 0 0 0 (Found 5 0 0))) ∷
     ((one 5 (top - 4), row (5 ∷ [])), refused 16 0 (one 5 (top - 4))) ∷
-    ((leading top Nothing, mapOf 1 1 (settingsOf (quotient 100 50) (quotient 100 101) NoChannel) (1 ∷ []) (1 ∷ [])), refused 4 2 (leading top Nothing)) ∷
+    ((leading top Nothing, cellWith (settingsOf half above1 NoChannel)), refused 4 2 (leading top Nothing)) ∷
     -- 1 before 2, 2 before 4
     ((leading 3 Nothing, mapOf 0 1 noChannel (1 ∷ []) []), refused 1 0 (leading 3 Nothing)) ∷
-    ((leading 3 Nothing, mapOf 1 1 (settingsOf (quotient 100 101) (quotient 100 50) NoChannel) [] []), refused 2 0 (leading 3 Nothing)) ∷
+    ((leading 3 Nothing, mapOf 1 1 (settingsOf above1 half NoChannel) [] []), refused 2 0 (leading 3 Nothing)) ∷
     []
 
 pub additions-hold : map (λ (x : (Report × Map) × Reported). afterAdd (x .0 .0) (x .0 .1)) additions ≡ map (λ (x : (Report × Map) × Reported). x .1) additions

@@ -39,9 +39,35 @@ module _ (test : ℕ → Bool) (l : List ℕ) where
   count-step a x c r h e = omega (arith, count-more x)
 
 -- an empty block
-pub counted-none : (l : List ℕ) (a given : ℕ) → Counted l a a given (record { zero = 0; under1 = 0; under5 = 0; under10 = 0; known = 0; no_data = 0; lower = 0 })
+abbrev pub noCounts : Counts
+noCounts = record { zero = 0; under1 = 0; under5 = 0; under10 = 0; known = 0; no_data = 0; lower = 0 }
+
+pub counted-none : (l : List ℕ) (a given : ℕ) → Counted l a a given noCounts
 counted-none l a given =
-    record { zero = omega arith; under1 = omega arith; under5 = omega arith; under10 = omega arith; known = omega arith; no-data = omega arith; lower = omega arith }
+    record {
+      zero = omega arith;
+      under1 = omega arith;
+      under5 = omega arith;
+      under10 = omega arith;
+      known = omega arith;
+      no-data = omega arith;
+      lower = omega arith;
+    }
+
+-- no count is above the number of cells so far
+abbrev pub Few : Counts → ℕ → Type 0
+Few r n = (r .zero ≤ n) × (r .under1 ≤ n) × (r .under5 ≤ n) × (r .under10 ≤ n) × (r .known ≤ n) × (r .no_data ≤ n) × (r .lower ≤ n)
+
+pub counted-few : {l : List ℕ} {a x given : ℕ} {r : Counts} → Counted l a x given r → Few r x
+counted-few {l} {a} {x} {given} c = (
+  omega (arith, count-few (below 1) l x, c .zero),
+  omega (arith, count-few (below 100000) l x, c .under1),
+  omega (arith, count-few (below 500000) l x, c .under5),
+  omega (arith, count-few (below 1000000) l x, c .under10),
+  omega (arith, count-few (below tooLong) l x, c .known),
+  omega (arith, count-few isNoData l x, c .no-data),
+  omega (arith, count-few (below given) l x, c .lower),
+)
 
 pub counted-at : {l : List ℕ} {a x e given : ℕ} {r : Counts} → x ≡ e → Counted l a x given r → Counted l a e given r
 counted-at {l} {a} {x} {e} {given} {r} q h = subst (λ (n : ℕ). Counted l a n given r) q h
@@ -82,7 +108,11 @@ factor-no v h k =
     elim (ℕ-discrete v noDataFactor) [ yes e ↦ rw e | no d ↦ let e : v ≡ tooLong = omega arith in rw e ]
 
 pub factor-is : (v : ℕ) → v < 4294967296 → isFactor v ≡ ltb v tooLong
-factor-is v h = elim (decLt v tooLong) [ yes k ↦ factor-yes v k ∙ sym (lt-ltb v tooLong k) | no d ↦ factor-no v (omega arith) h ∙ sym (le-ltb v tooLong (omega arith)) ]
+factor-is v h =
+    elim (decLt v tooLong) [
+      | yes k ↦ factor-yes v k ∙ sym (lt-ltb v tooLong k)
+      | no d ↦ factor-no v (omega arith) h ∙ sym (le-ltb v tooLong (omega arith))
+    ]
 
 pub rank-known : (v : ℕ) → v < tooLong → rankOf v ≡ v + 1
 unfolding rankOf when
@@ -137,15 +167,26 @@ under-is high v t =
       | no d ↦ between-high 0 high v (omega arith) ∙ sym (le-ltb v high (omega arith))
     ]
 
+pub from-yes : (low v : ℕ) → low ≤ v → v < tooLong → isFrom low v ≡ true
+unfolding isFrom
+from-yes low v h k = ap₂ _&&_ (factor-yes v k) (le-leb low v h)
+
+pub from-low : (low v : ℕ) → v < low → isFrom low v ≡ false
+unfolding isFrom
+from-low low v h = sym (and-false-right (isFactor v) (leb low v) (lt-leb low v h))
+
+pub from-none : (low v : ℕ) → tooLong ≤ v → v < 4294967296 → isFrom low v ≡ false
+unfolding isFrom
+from-none low v h k = sym (and-false-left (isFactor v) (leb low v) (factor-no v h k))
+
 -- from a bound on: what is an LS and not under it
 pub from-split : (low v : ℕ) → low ≤ tooLong → v < 4294967296 → when (ltb v low) 1 + when (isFrom low v) 1 ≡ when (ltb v tooLong) 1
-unfolding isFrom
 from-split low v h k =
     elim (decLt v low) [
-      | yes l ↦ omega (arith, one-yes (lt-ltb v low l), one-no (sym (and-false-right (isFactor v) (leb low v) (lt-leb low v l))), one-yes (lt-ltb v tooLong (omega arith)))
+      | yes l ↦ omega (arith, one-yes (lt-ltb v low l), one-no (from-low low v l), one-yes (lt-ltb v tooLong (omega arith)))
       | no d ↦ elim (decLt v tooLong) [
-        | yes l ↦ omega (arith, one-no (le-ltb v low (omega arith)), one-yes (ap₂ _&&_ (factor-yes v l) (le-leb low v (omega arith))), one-yes (lt-ltb v tooLong l))
-        | no e ↦ omega (arith, one-no (le-ltb v low (omega arith)), one-no (sym (and-false-left (isFactor v) (leb low v) (factor-no v (omega arith) k))), one-no (le-ltb v tooLong (omega arith)))
+        | yes l ↦ omega (arith, one-no (le-ltb v low (omega arith)), one-yes (from-yes low v (omega arith) l), one-yes (lt-ltb v tooLong l))
+        | no e ↦ omega (arith, one-no (le-ltb v low (omega arith)), one-no (from-none low v (omega arith) k), one-no (le-ltb v tooLong (omega arith)))
       ]
     ]
 

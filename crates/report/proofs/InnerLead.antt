@@ -92,12 +92,9 @@ module _ (l : List ℕ) (small : Numbers32 l) where
     counts-quiet : ((x : ℕ) → a ≤ x → x < e → rankOf (getD l x 0) ≤ t .rank) → r .known ≤ r .lower
     unfolding countTo
     counts-quiet q =
-        omega (
-          arith,
-          counted .known,
-          counted .lower,
-          span-le (λ y. when (ltb (getD l y 0) tooLong) 1) (λ y. when (ltb (getD l y 0) (t .rank)) 1) a e (block .order) (λ y p j. low-ranks (t .rank) y (q y p j)),
-        )
+        let le = span-le (λ y. when (ltb (getD l y 0) tooLong) 1) (λ y. when (ltb (getD l y 0) (t .rank)) 1) a e (block .order)
+        (λ y p j. low-ranks (t .rank) y (q y p j)) in
+        omega (arith, counted .known, counted .lower, le)
 
     -- the lead stays
     pub lead-stays : r .known ≤ r .lower → Leading l e t

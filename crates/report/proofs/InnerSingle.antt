@@ -155,7 +155,8 @@ module _ (m : Map) (n : ℕ) (cells : cellsOf m ≡ n) where
       let l = m .factors in
       report-same refl (va ∙ valid-is) (ch ∙ channel-is rules e)
       (tallied .zero ∙ count-ext (below 1) isZero l n (λ x h. zero-is (getD l x 0)) ∙ counted isZero) (lo ∙ counted isLong) (su ∙ sum-is)
-      (tallied .under1 ∙ count-ext (below 100000) (isBetween 0 100000) l n (λ x h. sym (under-is 100000 (getD l x 0) (omega arith))) ∙ counted (isBetween 0 100000))
+      (tallied .under1 ∙ count-ext (below 100000) (isBetween 0 100000) l n (λ x h. sym (under-is 100000 (getD l x 0) (omega arith)))
+      ∙ counted (isBetween 0 100000))
       (omega (arith, class-1 l n t tallied, counted (isBetween 100000 500000)))
       (omega (arith, class-5 l n t tallied, counted (isBetween 500000 1000000)))
       (omega (arith, class-10 l n t tallied small, counted (isFrom 1000000))) gr

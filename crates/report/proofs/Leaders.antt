@@ -91,9 +91,11 @@ has-rank v m x h e =
 rank-has : (v : ℕ) (m : Map) (x : ℕ) → rankIn x m ≡ v + 1 → (x < cellsOf m) × (hasFactor v m x ≡ true)
 unfolding hasFactor rankIn rankOf
 rank-has v m x e =
-    ⊎-elim (λ t. ⊎-elim (λ f. (ltb-true x (cellsOf m) t, ap₂ _&&_ f (eq-eqb (factorAt m x) v (omega (arith, when-yes (rankOf (factorAt m x)) t, when-yes (factorAt m x + 1) f)))))
-    (λ f. absurd (omega (arith, when-yes (rankOf (factorAt m x)) t, when-no (factorAt m x + 1) f))) (two (isFactor (factorAt m x))))
-    (λ t. absurd (omega (arith, when-no (rankOf (factorAt m x)) t))) (two (ltb x (cellsOf m)))
+    let w = factorAt m x in
+    ⊎-elim (λ t. let r = when-yes (rankOf w) t in
+    ⊎-elim (λ f. (ltb-true x (cellsOf m) t, ap₂ _&&_ f (eq-eqb w v (omega (arith, r, when-yes (w + 1) f)))))
+    (λ f. absurd (omega (arith, r, when-no (w + 1) f))) (two (isFactor w)))
+    (λ t. absurd (omega (arith, when-no (rankOf w) t))) (two (ltb x (cellsOf m)))
 
 -- the LS of a rank
 pub rank-value : (w v : ℕ) → rankOf w ≡ v + 1 → w ≡ v

@@ -96,7 +96,10 @@ module _ (l k : List Map) where
       (two (ltb w v))
 
   pub greatest-append : greatestOf (l ++ k) ≡ keptOf (length l) (greatestOf l) (greatestOf k)
-  greatest-append = sym (greatest-is-led (l ++ k) (keptOf (length l) (greatestOf l) (greatestOf k)) (kept-leads (greatestOf l) (greatestOf k) (greatest-leads l) (greatest-leads k)))
+  greatest-append =
+      let a = greatestOf l in
+      let b = greatestOf k in
+      sym (greatest-is-led (l ++ k) (keptOf (length l) a b) (kept-leads a b (greatest-leads l) (greatest-leads k)))
 
 -- ---- the report
 

@@ -38,8 +38,8 @@ join-requires c κs = search needs
 returns : tie.Need-returns
 returns c =
     let s = c .before .before .before .before .before .before .before in
-    c .refused .ensures
-    ∙ sym (add-refused (s .args .report) (given s) (judged-unsound (given s) (sym (c .before .before .judgement .given .1) ∙ c .before .before .before .before .judge .ensures)))
+    let e = sym (c .before .before .judgement .given .1) ∙ c .before .before .before .before .judge .ensures in
+    c .refused .ensures ∙ sym (add-refused (s .args .report) (given s) (judged-unsound (given s) e))
 
 returns-2 : tie.Need-returns-2
 returns-2 c =

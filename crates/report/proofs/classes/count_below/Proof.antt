@@ -4,7 +4,7 @@ use Prim.Native.Nat.{_-_, _≤_}
 use native.Mathlib.Omega.{arith}
 use Rattle.factor.specs.Cell.{tooLong}
 use Rattle.report.specs.InnerCells.{below, isNoData, Counted}
-use Rattle.report.proofs.InnerCells.{count-few, count-step, counted-none, counted-at}
+use Rattle.report.proofs.InnerCells.{counted-few, count-step, counted-none, counted-at}
 use Rattle.report.proofs.classes.count_below.Statement.{statement}
 use Rattle.report.proofs.classes.count_below.Tie as tie
 
@@ -27,25 +27,29 @@ shared-slice-read-v : tie.Need-shared-slice-read-v Inv-loop μ-loop
 shared-slice-read-v c = omega (arith, c .before .before .before .before .pre .inside)
 
 plus-if-requires : tie.Need-plus-if-requires Inv-loop μ-loop
-plus-if-requires c κs = let p = c .before .before in omega (arith, count-few (below 1) (p .before .before .args .factors .now) (p .loop .x), p .loop .inv .0 .zero, p .before .before .pre .few)
+plus-if-requires c κs = let p = c .before .before in omega (arith, counted-few (p .loop .inv .0), p .before .before .pre .few)
 
 plus-if-requires-2 : tie.Need-plus-if-requires-2 Inv-loop μ-loop
-plus-if-requires-2 c κs = let p = c .before .before .before in omega (arith, count-few (below 100000) (p .before .before .args .factors .now) (p .loop .x), p .loop .inv .0 .under1, p .before .before .pre .few)
+plus-if-requires-2 c κs = let p = c .before .before .before in omega (arith, counted-few (p .loop .inv .0), p .before .before .pre .few)
 
 plus-if-requires-3 : tie.Need-plus-if-requires-3 Inv-loop μ-loop
-plus-if-requires-3 c κs = let p = c .before .before .before .before in omega (arith, count-few (below 500000) (p .before .before .args .factors .now) (p .loop .x), p .loop .inv .0 .under5, p .before .before .pre .few)
+plus-if-requires-3 c κs = let p = c .before .before .before .before in omega (arith, counted-few (p .loop .inv .0), p .before .before .pre .few)
 
 plus-if-requires-4 : tie.Need-plus-if-requires-4 Inv-loop μ-loop
-plus-if-requires-4 c κs = let p = c .before .before .before .before .before in omega (arith, count-few (below 1000000) (p .before .before .args .factors .now) (p .loop .x), p .loop .inv .0 .under10, p .before .before .pre .few)
+plus-if-requires-4 c κs = let p = c .before .before .before .before .before in omega (arith, counted-few (p .loop .inv .0), p .before .before .pre .few)
 
 plus-if-requires-5 : tie.Need-plus-if-requires-5 Inv-loop μ-loop
-plus-if-requires-5 c κs = let p = c .before .before .before .before .before .before in omega (arith, count-few (below tooLong) (p .before .before .args .factors .now) (p .loop .x), p .loop .inv .0 .known, p .before .before .pre .few)
+plus-if-requires-5 c κs = let p = c .before .before .before .before .before .before in omega (arith, counted-few (p .loop .inv .0), p .before .before .pre .few)
 
 plus-if-requires-6 : tie.Need-plus-if-requires-6 Inv-loop μ-loop
-plus-if-requires-6 c κs = let p = c .before .before .before .before .before .before .before in omega (arith, count-few isNoData (p .before .before .args .factors .now) (p .loop .x), p .loop .inv .0 .no-data, p .before .before .pre .few)
+plus-if-requires-6 c κs =
+    let p = c .before .before .before .before .before .before .before in
+    omega (arith, counted-few (p .loop .inv .0), p .before .before .pre .few)
 
 plus-if-requires-7 : tie.Need-plus-if-requires-7 Inv-loop μ-loop
-plus-if-requires-7 c κs = let p = c .before .before .before .before .before .before .before .before in omega (arith, count-few (below (p .before .before .args .given)) (p .before .before .args .factors .now) (p .loop .x), p .loop .inv .0 .lower, p .before .before .pre .few)
+plus-if-requires-7 c κs =
+    let p = c .before .before .before .before .before .before .before .before in
+    omega (arith, counted-few (p .loop .inv .0), p .before .before .pre .few)
 
 add-x : tie.Need-add-x Inv-loop μ-loop
 add-x c = search needs

@@ -31,7 +31,10 @@ plus-if-requires : tie.Need-plus-if-requires Inv-loop μ-loop
 plus-if-requires c κs = let p = c .before .before in omega (arith, count-few isZero (p .before .before .args .count .now) (p .loop .x), p .before .before .pre)
 
 plus-if-requires-2 : tie.Need-plus-if-requires-2 Inv-loop μ-loop
-plus-if-requires-2 c κs = let p = c .before .before .before in omega (arith, count-few (above (p .before .before .args .bound)) (p .before .before .args .count .now) (p .loop .x), p .before .before .pre)
+plus-if-requires-2 c κs =
+    let p = c .before .before .before in
+    let a = p .before .before .args in
+    omega (arith, count-few (above (a .bound)) (a .count .now) (p .loop .x), p .before .before .pre)
 
 add-x : tie.Need-add-x Inv-loop μ-loop
 add-x c = search needs

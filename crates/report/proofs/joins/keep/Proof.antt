@@ -29,7 +29,9 @@ returns : tie.Need-returns
 returns c = keeps-none (c .before .before .before .before .args .maps) (c .before .before .enum-told .given .1) (c .enum-told2 .given .1)
 
 returns-2 : tie.Need-returns-2
-returns-2 c = c .count-on .ensures ∙ ap fitted (keeps-new (c .before .before .before .before .before .before .args .maps) (c .before .before .before .before .enum-told .given .1) (c .before .before .second .given .1))
+returns-2 c =
+    let n = c .before .before .before .before in
+    c .count-on .ensures ∙ ap fitted (keeps-new (n .before .before .args .maps) (n .enum-told .given .1) (c .before .before .second .given .1))
 
 returns-3 : tie.Need-returns-3
 returns-3 c =

@@ -38,7 +38,27 @@ sum-fits-requires-10 c κs = search needs
 returns : tie.Need-returns
 unfolding joined
 returns c =
-    rw (c .before .before .before .before .before .before .before .before .before .sum-fits .ensures, c .before .before .before .before .before .before .before .before .sum-fits2 .ensures, c .before .before .before .before .before .before .before .sum-fits3 .ensures, c .before .before .before .before .before .before .sum-fits4 .ensures, c .before .before .before .before .before .sum-fits5 .ensures, c .before .before .before .before .sum-fits6 .ensures, c .before .before .before .sum-fits7 .ensures, c .before .before .sum-fits8 .ensures, c .before .sum-fits9 .ensures, c .sum-fits10 .ensures)
+    let from5 = c .before in
+    let from1 = from5 .before in
+    let under1 = from1 .before in
+    let sum = under1 .before in
+    let long = sum .before in
+    let zeros = long .before in
+    let channel = zeros .before in
+    let valid = channel .before in
+    let maps = valid .before in
+    rw (
+      maps .sum-fits .ensures,
+      valid .sum-fits2 .ensures,
+      channel .sum-fits3 .ensures,
+      zeros .sum-fits4 .ensures,
+      long .sum-fits5 .ensures,
+      sum .sum-fits6 .ensures,
+      under1 .sum-fits7 .ensures,
+      from1 .sum-fits8 .ensures,
+      from5 .sum-fits9 .ensures,
+      c .sum-fits10 .ensures,
+    )
     (fit-all _)
 
 pub totals-fit-spec : {M : Type 1} → statement M

@@ -26,10 +26,14 @@ cast-t10 : tie.Need-cast-t10
 cast-t10 c = search needs
 
 long-of-requires : tie.Need-long-of-requires
-long-of-requires c κs = ((λ x. omega (arith, c .before .before .before .before .before .before .shared-slice-known2 .given x)), c .before .before .before .before .tally-of .ensures)
+long-of-requires c κs =
+    let q = c .before .before .before .before in
+    ((λ x. omega (arith, q .before .before .shared-slice-known2 .given x)), q .tally-of .ensures)
 
 sum-of-requires : tie.Need-sum-of-requires
-sum-of-requires c κs = ((λ x. omega (arith, c .before .before .before .before .before .before .before .shared-slice-known2 .given x)), c .before .before .before .before .before .tally-of .ensures)
+sum-of-requires c κs =
+    let q = c .before .before .before .before .before in
+    ((λ x. omega (arith, q .before .before .shared-slice-known2 .given x)), q .tally-of .ensures)
 
 cast-t13 : tie.Need-cast-t13
 cast-t13 c = search needs
@@ -66,7 +70,8 @@ greatest-of-requires c κs = search needs
 
 returns : tie.Need-returns
 returns c =
-    let q = c .before .before .before .before .before .before .before .before .before .before .before in
+    let b = c .before .before .before .before .before in
+    let q = b .before .before .before .before .before .before in
     let k = q .before .before in
     let s = k .before .before in
     let l = s .args .factors .now in
@@ -75,7 +80,7 @@ returns c =
     let m = mapOf rows columns settings (s .args .count .now) l in
     single-is m n cells (s .args .rules) (q .tally-of .result) e (λ x. omega (arith, k .shared-slice-known2 .given x))
     (tallied-at (s .pre .1) (q .tally-of .ensures)) (q .before .flow-of .ensures .0) (q .before .flow-of .ensures .1)
-    (c .before .before .before .before .before .before .long-of .ensures ∙ ap (countTo isLong l) (s .pre .1)) (c .before .before .before .before .before .sum-of .ensures ∙ ap (factorsTo l) (s .pre .1))
+    (b .before .long-of .ensures ∙ ap (countTo isLong l) (s .pre .1)) (b .sum-of .ensures ∙ ap (factorsTo l) (s .pre .1))
     (c .greatest-of .ensures m refl (cells ∙ sym (s .pre .1)))
 
 pub report-of-spec : {M : Type 1} → statement M

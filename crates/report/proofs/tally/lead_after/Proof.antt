@@ -21,7 +21,8 @@ returns-2 c =
     let s = c .before .before in
     let a = s .before .args in
     let p = s .before .pre in
-    lead-stays (a .factors .now) (λ x. omega (arith, s .shared-slice-known .given x)) (a .from) (a .to) (a .before) (a .counts) (p .0) (p .1) (p .2) (c .if1 .left)
+    lead-stays (a .factors .now) (λ x. omega (arith, s .shared-slice-known .given x)) (a .from) (a .to) (a .before) (a .counts) (p .0) (p .1) (p .2)
+    (c .if1 .left)
 
 pub lead-after-spec : {M : Type 1} → statement M
 lead-after-spec = tie.close (tie.spec highest-in-requires returns returns-2)

@@ -26,8 +26,8 @@ end-after-requires c κs = omega arith
 add-block-requires : tie.Need-add-block-requires Inv-loop μ-loop
 add-block-requires c κs =
     let p = c .before .before in
-    let s = p .before .before .before in
-    (record { order = omega (arith, c .end-after .ensures); inside = omega (arith, c .end-after .ensures); few = omega (arith, c .end-after .ensures, s .pre) }, p .loop .inv .0)
+    let e = c .end-after .ensures in
+    (record { order = omega (arith, e); inside = omega (arith, e); few = omega (arith, e, p .before .before .before .pre) }, p .loop .inv .0)
 
 loop-less : tie.Need-loop-less Inv-loop μ-loop
 loop-less c = omega (arith, c .before .end-after .ensures)
