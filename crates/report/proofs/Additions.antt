@@ -2,7 +2,7 @@
 -- if it fits, and else the same report with 16. Assumes nothing.
 use mathlib.Core.Path.{_≡_, refl, sym, ap, _∙_}
 use mathlib.Core.List.{List, [], _∷_, _++_}
-use mathlib.Core.Bool.{Bool, true, false}
+use mathlib.Core.Bool.{true, false}
 use Prim.Native.Nat.{ℕ}
 use native.Mathlib.Omega.{arith}
 use Rattle.laws.specs.Tests.{Test, passed, failed, verdict}
@@ -11,7 +11,6 @@ use Rattle.report.specs.Maps.{Map}
 use Rattle.report.specs.Reports.{reportOf}
 use Rattle.report.specs.Joins.{joined, fits}
 use Rattle.report.specs.Answers.{mapTests, fitTest, outcomeOf, afterJoin, afterAdd}
-use Rattle.report.specs.declared.Answer.{Answer}
 use Rattle.report.specs.declared.Answer.the-variants.{Accepted, Refused}
 use Rattle.report.specs.declared.Report.{Report}
 use Rattle.report.specs.declared.Reported.{Reported}

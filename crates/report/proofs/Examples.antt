@@ -13,7 +13,6 @@ use Rattle.settings.specs.Settings.{quotient, defaultSettings}
 use Rattle.report.specs.Maps.{Map, mapOf}
 use Rattle.report.specs.Reports.{reportOf}
 use Rattle.report.specs.Answers.{afterAdd, afterJoin}
-use Rattle.report.specs.declared.Answer.{Answer}
 use Rattle.report.specs.declared.Answer.the-variants.{Accepted, Refused}
 use Rattle.report.specs.declared.Greatest.{Greatest}
 use Rattle.report.specs.declared.Greatest.the-variants.{Nothing, Found}

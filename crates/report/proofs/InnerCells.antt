@@ -1,13 +1,13 @@
 -- Laws of what the loops over the cells of a map count. Assumes nothing.
 use mathlib.Core.Path.{_≡_, refl, sym, ap, ap₂, subst, _∙_}
 use mathlib.Core.List.{List}
-use mathlib.Core.Bool.{Bool, true, false, not, _&&_, _||_}
+use mathlib.Core.Bool.{Bool, true, false, not, _&&_}
 use mathlib.Core.Logic.{_⊎_, inl, inr, ⊎-elim}
 use Prim.Native.Nat.{ℕ, zero, suc, _+_, _*_, _≤_, _<_}
 use native.Mathlib.Omega.{arith}
 use native.Mathlib.Decide.{decLt, ℕ-discrete}
 use lib.ListN.{getD}
-use lib.Dec.{ltb, leb, eqb}
+use lib.Dec.{ltb, leb}
 use borrow.Author.Tests.{lt-ltb, le-ltb, le-leb, lt-leb, eq-eqb, ne-eqb}
 use Rattle.laws.specs.Sums.{sumTo, when}
 use Rattle.laws.proofs.Sums.{sum-none, sum-more, sum-ones, sum-ext, sum-add, when-under, when-yes, when-no}
@@ -106,13 +106,6 @@ pub factor-no : (v : ℕ) → tooLong ≤ v → v < 4294967296 → isFactor v �
 unfolding isFactor
 factor-no v h k =
     elim (ℕ-discrete v noDataFactor) [ yes e ↦ rw e | no d ↦ let e : v ≡ tooLong = omega arith in rw e ]
-
-pub factor-is : (v : ℕ) → v < 4294967296 → isFactor v ≡ ltb v tooLong
-factor-is v h =
-    elim (decLt v tooLong) [
-      | yes k ↦ factor-yes v k ∙ sym (lt-ltb v tooLong k)
-      | no d ↦ factor-no v (omega arith) h ∙ sym (le-ltb v tooLong (omega arith))
-    ]
 
 pub rank-known : (v : ℕ) → v < tooLong → rankOf v ≡ v + 1
 unfolding rankOf when

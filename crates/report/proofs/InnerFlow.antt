@@ -1,5 +1,5 @@
 -- Laws of the channel rule, as the code bounds it. Assumes nothing.
-use mathlib.Core.Path.{_≡_, refl, sym, ap, _∙_}
+use mathlib.Core.Path.{_≡_, sym, ap, _∙_}
 use mathlib.Core.List.{List}
 use Prim.Native.Nat.{ℕ, _≤_, _<_, min}
 use native.Mathlib.Omega.{arith}
@@ -9,7 +9,7 @@ use lib.Dec.{ltb}
 use borrow.Author.Tests.{lt-ltb, le-ltb}
 use Rattle.laws.proofs.Sums.{greatest-ge}
 use Rattle.settings.specs.declared.Threshold.{Threshold}
-use Rattle.settings.specs.declared.Threshold.the-variants.{Share, Over, Never}
+use Rattle.settings.specs.declared.Threshold.the-variants.{Over, Never}
 use Rattle.factor.specs.Channel.{isChannel, largestOf}
 use Rattle.report.specs.InnerCells.{countTo, above, Numbers32, Bounding}
 use Rattle.report.proofs.InnerCells.{count-ext}

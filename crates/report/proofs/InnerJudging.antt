@@ -8,7 +8,7 @@ use lib.ListN.{length}
 use borrow.Author.Tests.{eq-eqb, ne-eqb}
 use Rattle.laws.specs.Tests.{Test, passed, failed, verdict}
 use Rattle.laws.proofs.Tests.{and-false-left, and-false-right}
-use Rattle.laws.proofs.Verdicts.{verdict-none, verdict-next, verdict-stops, verdict-passed}
+use Rattle.laws.proofs.Verdicts.{verdict-none, verdict-next, verdict-stops}
 use Rattle.text.specs.Ranges.{sizeAccepted, allLong, lengthTest}
 use Rattle.text.proofs.Accepted.{size-passes, rows-fail, columns-fail, lengths-pass, lengths-fail}
 use Rattle.settings.specs.declared.Rules.{Rules}

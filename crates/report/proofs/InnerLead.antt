@@ -1,7 +1,7 @@
 -- Laws of the lead: the highest rank so far, and a block in which the first cell that has it stands. Assumes nothing.
-use mathlib.Core.Path.{_≡_, refl, sym, ap, _∙_}
+use mathlib.Core.Path.{_≡_, sym, _∙_}
 use mathlib.Core.List.{List}
-use Prim.Native.Nat.{ℕ, zero, suc, _+_, _≤_, _<_, max}
+use Prim.Native.Nat.{ℕ, _+_, _≤_, _<_, max}
 use native.Mathlib.Omega.{arith}
 use native.Mathlib.Decide.{decLt}
 use lib.ListN.{getD}
@@ -20,9 +20,6 @@ use Rattle.report.proofs.InnerSpans.{span-le, span-same}
 -- ---- the highest rank
 
 module _ (l : List ℕ) where
-  abbrev pub rankAt : ℕ → ℕ
-  rankAt x = rankOf (getD l x 0)
-
   pub highest-none : highestTo l 0 ≡ 0
   unfolding highestTo
   highest-none = greatest-none (λ x. rankOf (getD l x 0))

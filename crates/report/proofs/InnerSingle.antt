@@ -1,30 +1,29 @@
 -- Laws of the report of one map, as the code works it out. Assumes nothing.
-use mathlib.Core.Path.{_≡_, refl, sym, ap, ap₂, subst, _∙_}
+use mathlib.Core.Path.{_≡_, refl, sym, ap, _∙_}
 use mathlib.Core.List.{List, [], _∷_}
 use mathlib.Core.Bool.{Bool}
-use mathlib.Core.Logic.{_⊎_, inl, inr}
+use mathlib.Core.Logic.{inr}
 use Prim.Native.Nat.{ℕ, _+_, _-_, _≤_, _<_}
 use native.Mathlib.Omega.{arith}
-use native.Mathlib.Decide.{decLt, ℕ-discrete}
+use native.Mathlib.Decide.{decLt}
 use lib.ListN.{getD}
-use lib.Dec.{ltb}
 use borrow.Author.Tests.{lt-ltb, le-ltb}
 use Rattle.laws.specs.Sums.{sumTo, when}
-use Rattle.laws.proofs.Sums.{when-yes, when-no, when-under}
+use Rattle.laws.proofs.Sums.{when-yes, when-no}
 use Rattle.settings.specs.declared.Rules.{Rules}
 use Rattle.settings.specs.Settings.{rulesOf}
 use Rattle.factor.specs.Cell.{tooLong}
 use Rattle.factor.specs.Channel.{isChannel, largestOf, channelAt}
 use Rattle.report.specs.Maps.{Map, cellsOf, validAt, channelIn, isFactor, isZero, isLong, isBetween, isFrom, factorAt, factorIs}
 use Rattle.report.specs.Reports.{over, cellsWith, sumOf, rankOf, greatestOf, reportOf}
-use Rattle.report.specs.InnerCells.{countTo, factorsTo, below, isWet, Numbers32, highestTo, Leading, FirstIn, Tallied}
+use Rattle.report.specs.InnerCells.{countTo, factorsTo, below, isWet, Numbers32, Leading, FirstIn, Tallied}
 use Rattle.report.specs.declared.Greatest.{Greatest}
 use Rattle.report.specs.declared.Greatest.the-variants.{Nothing, Found}
 use Rattle.report.specs.declared.lead.Lead.{Lead}
 use Rattle.report.specs.declared.tally.Tally.{Tally}
 use Rattle.report.proofs.InnerCells.{count-ext, count-split, under-is, between-split, from-split, zero-is}
 use Rattle.report.proofs.InnerLead.{highest-ge}
-use Rattle.report.proofs.Leaders.{rankIn, rankAt, Leader, rank-inside, rank-value, greatest-is-led}
+use Rattle.report.proofs.Leaders.{rankIn, rankAt, rank-inside, rank-value, greatest-is-led}
 use Rattle.report.proofs.Lists.{over-one, sheet, report-same}
 
 -- ---- the greatest

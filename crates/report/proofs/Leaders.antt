@@ -1,24 +1,23 @@
 -- RULES 12.2: the greatest LS of a list of maps is some cell's, no cell has more, and no earlier one has as much; and no other greatest is so.
 -- Assumes nothing.
 use mathlib.Core.Path.{_≡_, refl, sym, ap, ap₂, subst, _∙_}
-use mathlib.Core.List.{List, [], _∷_, _++_, map}
-use mathlib.Core.Bool.{Bool, true, false, _&&_, cond, true≢false}
+use mathlib.Core.List.{List, [], _∷_, map}
+use mathlib.Core.Bool.{Bool, true, false, _&&_}
 use mathlib.Core.Logic.{_⊎_, inl, inr, ⊎-elim}
 use Prim.Native.Nat.{ℕ, zero, suc, _+_, _-_, _≤_, _<_}
 use native.Mathlib.Nat.{le-of-suc-le-suc, not-suc-le-zero}
 use native.Mathlib.Omega.{arith}
-use native.Mathlib.Decide.{decLt, ℕ-discrete}
+use native.Mathlib.Decide.{decLt}
 use lib.ListN.{length, getD, length-map, List·getD-eq-default}
 use lib.Dec.{ltb, eqb}
-use borrow.Author.Tests.{ltb-true, ltb-false, lt-ltb, le-ltb, eqb-true, eq-eqb}
+use borrow.Author.Tests.{ltb-true, lt-ltb, le-ltb, eqb-true, eq-eqb}
 use Rattle.laws.specs.First.{firstOf, someOf}
 use Rattle.laws.specs.Sums.{when}
-use Rattle.laws.proofs.First.{first-holds, first-le, first-top, some-is, some-yes}
+use Rattle.laws.proofs.First.{first-holds, first-le, some-yes}
 use Rattle.laws.proofs.Sums.{greatest-ge, greatest-is, when-yes, when-no}
 use Rattle.laws.proofs.Tests.{two, and-both}
 use Rattle.report.specs.Maps.{Map, cellsOf, isFactor, factorAt}
 use Rattle.report.specs.Reports.{rankOf, highestIn, highestOf, hasFactor, firstMap, firstCell, foundWith, greatestOf}
-use Rattle.report.specs.Joins.{keptOf}
 use Rattle.report.specs.declared.Greatest.{Greatest}
 use Rattle.report.specs.declared.Greatest.the-variants.{Nothing, Found}
 

@@ -1,9 +1,9 @@
 -- RULES 12.3: the report of one list of maps after another is the two reports joined. Assumes nothing.
 use mathlib.Core.Path.{_≡_, refl, sym, ap, ap₂, subst, _∙_}
 use mathlib.Core.List.{List, [], _∷_, _++_, map}
-use mathlib.Core.Bool.{Bool, true, false, cond}
+use mathlib.Core.Bool.{Bool, cond}
 use mathlib.Core.Logic.{_⊎_, inl, inr, ⊎-elim}
-use Prim.Native.Nat.{ℕ, zero, suc, _+_, _-_, _≤_, _<_}
+use Prim.Native.Nat.{ℕ, zero, _+_, _-_, _≤_, _<_}
 use native.Mathlib.Omega.{arith}
 use native.Mathlib.Decide.{decLt}
 use lib.ListN.{length, getD, length-map, length-append, List·getD-append}
@@ -30,10 +30,6 @@ pub over-append : (l k : List Map) (f : Map → ℕ) → over (l ++ k) f ≡ ove
 unfolding over total
 over-append [] k f = omega arith
 over-append (m ∷ l) k f = omega (arith, over-append l k f)
-
-pub over-none : (f : Map → ℕ) → over [] f ≡ 0
-unfolding over total
-over-none f = refl
 
 pub over-one : (m : Map) (f : Map → ℕ) → over (m ∷ []) f ≡ f m
 unfolding over total

@@ -1,6 +1,5 @@
 -- RULES 12.4: what the calls of a report answer, and the report that they give back. Assumes nothing.
 use mathlib.Core.List.{List, [], _∷_, _++_}
-use Prim.Native.Nat.{_*_}
 use lib.ListN.{length}
 use Rattle.laws.specs.Tests.{Test, passed, failed, test, verdict}
 use Rattle.text.specs.Ranges.{sizeTest, lengthTest}
@@ -8,7 +7,6 @@ use Rattle.settings.specs.Settings.{settingsTest}
 use Rattle.report.specs.Maps.{Map, cellsOf}
 use Rattle.report.specs.Reports.{reportOf}
 use Rattle.report.specs.Joins.{joined, fits}
-use Rattle.report.specs.declared.Answer.{Answer}
 use Rattle.report.specs.declared.Answer.the-variants.{Accepted, Refused}
 use Rattle.report.specs.declared.Report.{Report}
 use Rattle.report.specs.declared.Reported.{Reported}

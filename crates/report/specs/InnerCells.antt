@@ -2,10 +2,9 @@
 use mathlib.Core.Path.{_≡_}
 use mathlib.Core.List.{List}
 use mathlib.Core.Bool.{Bool, not}
-use Prim.Native.Nat.{ℕ, _+_, _*_, _≤_, _<_, max}
+use Prim.Native.Nat.{ℕ, _+_, _≤_, _<_}
 use lib.ListN.{length, getD}
 use lib.Dec.{ltb, eqb}
-use Rattle.laws.specs.First.{firstOf}
 use Rattle.laws.specs.Sums.{sumTo, greatestTo, when}
 use Rattle.settings.specs.declared.Threshold.{Threshold}
 use Rattle.factor.specs.Channel.{isChannel, largestOf}

@@ -1,9 +1,7 @@
 -- `report::join` meets its contract. Assumes nothing.
 use borrow.Author.Needs.{needs}
-use mathlib.Core.Path.{_≡_, sym, _∙_}
-use mathlib.Core.Bool.{true}
+use mathlib.Core.Path.{sym, _∙_}
 use borrow.Author.Tests.{not-true, not-false}
-use Rattle.report.specs.Joins.{joined, totalsOf, allFit}
 use Rattle.report.proofs.InnerJoins.{join-map, join-total, join-kept, join-accepts}
 use Rattle.report.proofs.join.Statement.{statement}
 use Rattle.report.proofs.join.Tie as tie

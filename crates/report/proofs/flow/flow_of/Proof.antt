@@ -1,6 +1,6 @@
 -- `report::flow::flow_of` meets its contract. Assumes nothing.
 use borrow.Author.Needs.{needs}
-use mathlib.Core.Path.{sym, ap, _∙_}
+use mathlib.Core.Path.{ap, _∙_}
 use native.Mathlib.Omega.{arith}
 use Rattle.report.specs.InnerCells.{above, countTo}
 use lib.ListN.{length}

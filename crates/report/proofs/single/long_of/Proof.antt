@@ -1,7 +1,6 @@
 -- `report::single::long_of` meets its contract. Assumes nothing.
 use borrow.Author.Needs.{needs}
 use native.Mathlib.Omega.{arith}
-use Rattle.factor.specs.Cell.{tooLong}
 use lib.ListN.{length}
 use Rattle.report.proofs.InnerCells.{kinds-all}
 use Rattle.report.proofs.single.long_of.Statement.{statement}
