@@ -8,6 +8,7 @@ use lib.ListN.{length}
 use Rattle.laws.specs.Sums.{when}
 use Rattle.settings.specs.declared.Channel.{Channel}
 use Rattle.settings.specs.declared.Channel.the-variants.{Percentage, Cells, NoChannel}
+use Rattle.settings.specs.declared.Formula.the-variants.{Older}
 use Rattle.settings.specs.declared.Settings.{Settings}
 use Rattle.settings.specs.Settings.{quotient, defaultSettings}
 use Rattle.report.specs.Maps.{Map, mapOf}
@@ -20,7 +21,7 @@ use Rattle.report.specs.declared.Report.{Report}
 use Rattle.report.specs.declared.Reported.{Reported}
 
 abbrev settingsOf : Float → Float → Channel → Settings
-settingsOf low high channel = record { low = low; high = high; channel = channel }
+settingsOf low high channel = record { low = low; high = high; channel = channel; formula = Older }
 
 abbrev noChannel : Settings
 noChannel = settingsOf (quotient 100 50) (quotient 100 50) NoChannel

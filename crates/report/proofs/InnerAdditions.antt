@@ -12,9 +12,8 @@ use Rattle.text.proofs.Accepted.{area-few, size-passed, lengths-passed}
 use Rattle.settings.specs.declared.Rules.{Rules}
 use Rattle.settings.specs.Settings.{rulesOf, settingsTest}
 use Rattle.report.specs.Maps.{Map, cellsOf}
-use Rattle.report.specs.Answers.{mapTests}
-use Rattle.report.specs.InnerJudging.{judgementFor, judgementOf}
-use Rattle.report.specs.declared.judge.Judgement.the-variants.{Sound, Unsound}
+use Rattle.report.specs.Answers.{mapTests, judgementFor, judgementOf}
+use Rattle.report.specs.declared.tests.Judgement.the-variants.{Sound, Unsound}
 
 module _ (m : Map) where
   pub judged-unsound : {f : Refusal} → Unsound f ≡ judgementOf m → verdict (mapTests m) ≡ failed (f .number) (f .place)

@@ -16,9 +16,8 @@ use Rattle.settings.specs.declared.Judged.the-variants.{Accepted, Refused}
 use Rattle.settings.specs.Settings.{judgedOf, settingsTest}
 use Rattle.settings.proofs.Verdicts.{judged-passed, judged-failed}
 use Rattle.report.specs.Maps.{Map, cellsOf}
-use Rattle.report.specs.Answers.{mapTests}
-use Rattle.report.specs.InnerJudging.{unsoundWith, judgementFor, judgementOf}
-use Rattle.report.specs.declared.judge.Judgement.the-variants.{Sound}
+use Rattle.report.specs.Answers.{mapTests, unsoundWith, judgementFor, judgementOf}
+use Rattle.report.specs.declared.tests.Judgement.the-variants.{Sound}
 
 module _ (m : Map) where
   abbrev long : Test

@@ -1,15 +1,19 @@
--- RULES 12.4: what the calls of a report answer, and the report that they give back. Assumes nothing.
+-- RULES 12.4 and 12.5: what the calls of a report answer, and the report that they give back; the laws of Additions say what it is of a list. Assumes nothing.
 use mathlib.Core.List.{List, [], _∷_, _++_}
+use Prim.Native.Nat.{ℕ}
 use lib.ListN.{length}
 use Rattle.laws.specs.Tests.{Test, passed, failed, test, verdict}
 use Rattle.text.specs.Ranges.{sizeTest, lengthTest}
-use Rattle.settings.specs.Settings.{settingsTest}
+use Rattle.settings.specs.declared.Rules.{Rules}
+use Rattle.settings.specs.Settings.{rulesOf, settingsTest}
 use Rattle.report.specs.Maps.{Map, cellsOf}
 use Rattle.report.specs.Reports.{reportOf}
 use Rattle.report.specs.Joins.{joined, fits}
 use Rattle.report.specs.declared.Answer.the-variants.{Accepted, Refused}
 use Rattle.report.specs.declared.Report.{Report}
 use Rattle.report.specs.declared.Reported.{Reported}
+use Rattle.report.specs.declared.tests.Judgement.{Judgement}
+use Rattle.report.specs.declared.tests.Judgement.the-variants.{Sound, Unsound}
 
 -- 1, 2 and 4 as the map call has them
 unfoldable pub mapTests : Map → List Test
@@ -39,3 +43,17 @@ afterJoin report other = let next = joined report other in outcomeOf report next
 unfoldable pub afterAdd : Report → Map → Reported
 unfolding joined reportOf mapTests fitTest verdict outcomeOf
 afterAdd report m = let next = joined report (reportOf (m ∷ [])) in outcomeOf report next (verdict (mapTests m ++ (fitTest next ∷ [])))
+
+-- ---- the tests of a map by themselves
+
+abbrev pub unsoundWith : ℕ → ℕ → Judgement
+unsoundWith number place = Unsound (record { number = number; place = place })
+
+-- the rules that the settings mean, or the refusal that the verdict tells
+abbrev pub judgementFor : Rules → Test → Judgement
+judgementFor rules passed = Sound rules
+judgementFor rules (failed number place) = unsoundWith number place
+
+unfoldable pub judgementOf : Map → Judgement
+unfolding rulesOf mapTests verdict
+judgementOf m = judgementFor (rulesOf (m .settings)) (verdict (mapTests m))

@@ -5,5 +5,4 @@ pub mod Joins
 pub mod Answers
 -- What only inner functions cite
 pub mod InnerCells
-pub mod InnerJudging
 pub mod InnerJoins

@@ -6,11 +6,13 @@ mod classes;
 mod counting;
 mod flow;
 mod joins;
-mod judge;
 mod lead;
 mod single;
 mod tally;
+mod tests;
 
+pub use tests::Judgement;
+pub use tests::judge;
 ghost use mathlib.Core.Path.{_≡_};
 ghost use mathlib.Core.List.{[]};
 ghost use Rattle.report.specs.Maps.{mapOf};
@@ -18,7 +20,6 @@ ghost use Rattle.report.specs.Reports.{reportOf};
 ghost use Rattle.report.specs.Answers.{afterAdd, afterJoin};
 ghost use Rattle.report.specs.InnerJoins.{refusedWith};
 use joins::Kept;
-use judge::Judgement;
 use settings::Settings;
 use text::Refusal;
 
@@ -121,7 +122,7 @@ pub fn add(
 ) -> Reported
     ensures { λ r. ⌜ r ≡ afterAdd report (mapOf rows columns settings (now (count .entry)) (now (factors .entry))) ⌝ }
 {
-    let judgement = judge::judge(rows, columns, settings, count, factors);
+    let judgement = judge(rows, columns, settings, count, factors);
     match judgement {
         Judgement::Unsound(refusal) => refused(refusal, report),
         Judgement::Sound(rules) => join(report, single::report_of(rules, count, factors)),

@@ -2,6 +2,7 @@
 use report::Greatest;
 use report::Report;
 use settings::Channel;
+use settings::Formula;
 use settings::Settings;
 
 // The greatest number of 64 bits.
@@ -10,7 +11,12 @@ pub(crate) const TOP: u64 = 18446744073709551615;
 pub(crate) const NO_DATA: u32 = 4294967295;
 
 pub(crate) fn settings(low: f64, high: f64, channel: Channel) -> Settings {
-    Settings { low, high, channel }
+    Settings {
+        low,
+        high,
+        channel,
+        formula: Formula::Older,
+    }
 }
 
 pub(crate) fn no_channel() -> Settings {

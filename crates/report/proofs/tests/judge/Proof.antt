@@ -1,4 +1,4 @@
--- `report::judge::judge` meets its contract. Assumes nothing.
+-- `report::tests::judge` meets its contract. Assumes nothing.
 use borrow.Author.Needs.{needs}
 use mathlib.Core.Path.{_≡_, sym, _∙_}
 use mathlib.Core.Bool.{true}
@@ -8,8 +8,8 @@ use Rattle.text.specs.Ranges.{sizeAccepted}
 use Rattle.text.proofs.Accepted.{area-few}
 use Rattle.report.specs.Maps.{Map, mapOf}
 use Rattle.report.proofs.InnerJudging.{rows-refused, columns-refused, count-refused, factors-refused, settings-refused, map-sound}
-use Rattle.report.proofs.judge.judge.Statement.{statement}
-use Rattle.report.proofs.judge.judge.Tie as tie
+use Rattle.report.proofs.tests.judge.Statement.{statement}
+use Rattle.report.proofs.tests.judge.Tie as tie
 
 -- the arguments, from where the first test was made
 abbrev start : tie.After-is-size → tie.Start

@@ -1,14 +1,14 @@
 // The tests of a map: refusals 1, 2 and 4. RULES 12.4.
 ghost use mathlib.Core.Path.{_≡_};
 ghost use Rattle.report.specs.Maps.{mapOf};
-ghost use Rattle.report.specs.InnerJudging.{unsoundWith, judgementOf};
+ghost use Rattle.report.specs.Answers.{unsoundWith, judgementOf};
 use settings::Judged;
 use settings::Rules;
 use settings::Settings;
 use text::Refusal;
 
 // What is found of a map: the rules of its settings, or why it is refused.
-pub(crate) enum Judgement {
+pub enum Judgement {
     Sound(Rules),
     Unsound(Refusal),
 }
@@ -19,8 +19,8 @@ fn unsound(number: u32, place: usize) -> Judgement
     Judgement::Unsound(Refusal { number, place })
 }
 
-// Makes these tests, in that order.
-pub(crate) fn judge(
+// Makes these tests, in that order, and adds nothing.
+pub fn judge(
     rows: usize,
     columns: usize,
     settings: Settings,
