@@ -29,6 +29,12 @@ unfolding greatestFrom greatestNumbers
 back-greatest Nothing = refl
 back-greatest (Found factor map cell) = refl
 
+-- the four numbers one by one
+pub four-are : (g : Greatest) → let l = greatestNumbers g in getD l 0 0 ∷ getD l 1 0 ∷ getD l 2 0 ∷ getD l 3 0 ∷ [] ≡ l
+unfolding greatestNumbers
+four-are Nothing = refl
+four-are (Found factor map cell) = refl
+
 -- no number of a report is lost
 pub back-report : (r : Report) → reportFrom (numbersFrom r) ≡ r
 unfolding reportFrom numbersFrom

@@ -2,7 +2,7 @@
 // addition with the formula as a number. RULES 12.4.
 ghost use mathlib.Core.Path.{_≡_};
 ghost use Rattle.report.specs.Maps.{mapOf};
-ghost use Rattle.fullsize.specs.Reporting.{greatestFrom, reportFrom, numbersFrom, reportingFor, reportingAfter, addedBy};
+ghost use Rattle.fullsize.specs.Reporting.{greatestFrom, greatestNumbers, reportFrom, numbersFrom, reportingFor, reportingAfter, addedBy};
 ghost use Rattle.fullsize.specs.InnerMapping.{withoutFormulaFor};
 use report::Answer;
 use report::Greatest;
@@ -42,49 +42,38 @@ pub(crate) fn report_of(numbers: &[u64; 14]) -> Report
     }
 }
 
+// The four numbers of a greatest.
+fn greatest_numbers(greatest: Greatest) -> [u64; 4]
+    ensures { λ r. ⌜ r ≡ greatestNumbers greatest ⌝ }
+{
+    match greatest {
+        Greatest::Nothing => [0, 0, 0, 0],
+        Greatest::Found { factor, map, cell } => [1, factor, map, cell],
+    }
+}
+
 // Puts a report's numbers into their places.
 pub(crate) fn hand_out(report: Report, numbers: &mut [u64; 14])
     ensures { λ _. ⌜ now (numbers .exit) ≡ numbersFrom report ⌝ }
 {
     let greatest = report.greatest;
-    match greatest {
-        Greatest::Nothing => {
-            *numbers = [
-                report.maps,
-                report.valid,
-                report.channel,
-                report.zero,
-                report.long,
-                report.sum,
-                report.under1,
-                report.from1,
-                report.from5,
-                report.from10,
-                0,
-                0,
-                0,
-                0,
-            ];
-        }
-        Greatest::Found { factor, map, cell } => {
-            *numbers = [
-                report.maps,
-                report.valid,
-                report.channel,
-                report.zero,
-                report.long,
-                report.sum,
-                report.under1,
-                report.from1,
-                report.from5,
-                report.from10,
-                1,
-                factor,
-                map,
-                cell,
-            ];
-        }
-    }
+    let last = greatest_numbers(greatest);
+    *numbers = [
+        report.maps,
+        report.valid,
+        report.channel,
+        report.zero,
+        report.long,
+        report.sum,
+        report.under1,
+        report.from1,
+        report.from5,
+        report.from10,
+        last[0],
+        last[1],
+        last[2],
+        last[3],
+    ];
 }
 
 // Hands out the answer of a call with its report; a refusal leaves the numbers as they were.

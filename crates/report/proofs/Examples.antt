@@ -11,42 +11,23 @@ use Rattle.settings.specs.declared.Channel.the-variants.{Percentage, Cells, NoC
 use Rattle.settings.specs.declared.Formula.the-variants.{Older}
 use Rattle.settings.specs.declared.Settings.{Settings}
 use Rattle.settings.specs.Settings.{quotient, defaultSettings}
+use Rattle.factor.specs.Cell.{tooLong}
+use Rattle.factor.specs.Grid.{noDataFactor}
 use Rattle.report.specs.Maps.{Map, mapOf}
 use Rattle.report.specs.Reports.{reportOf}
 use Rattle.report.specs.Answers.{afterAdd, afterJoin}
-use Rattle.report.specs.declared.Answer.the-variants.{Accepted, Refused}
 use Rattle.report.specs.declared.Greatest.{Greatest}
 use Rattle.report.specs.declared.Greatest.the-variants.{Nothing, Found}
 use Rattle.report.specs.declared.Report.{Report}
 use Rattle.report.specs.declared.Reported.{Reported}
+use Rattle.report.proofs.Lists.{sheet}
+use Rattle.report.proofs.Additions.{accepted, refused}
 
 abbrev settingsOf : Float → Float → Channel → Settings
 settingsOf low high channel = record { low = low; high = high; channel = channel; formula = Older }
 
 abbrev noChannel : Settings
 noChannel = settingsOf (quotient 100 50) (quotient 100 50) NoChannel
-
-abbrev sheet : ℕ → ℕ → ℕ → ℕ → ℕ → ℕ → ℕ → ℕ → ℕ → ℕ → Greatest → Report
-sheet maps valid channel zeros long sum under1 from1 from5 from10 greatest =
-    record {
-      maps = maps;
-      valid = valid;
-      channel = channel;
-      zero = zeros;
-      long = long;
-      sum = sum;
-      under1 = under1;
-      from1 = from1;
-      from5 = from5;
-      from10 = from10;
-      greatest = greatest;
-    }
-
-abbrev noData : ℕ
-noData = 4294967295
-
-abbrev tooLong : ℕ
-tooLong = 4294967294
 
 -- ---- reports of lists
 
@@ -58,11 +39,11 @@ unfoldable pub reports : List (List Map × Report)
 reports =
     -- no maps, and one without data
     ([], sheet 0 0 0 0 0 0 0 0 0 0 Nothing) ∷
-    (mapOf 1 2 noChannel (0 ∷ 0 ∷ []) (noData ∷ noData ∷ []) ∷ [], sheet 1 0 0 0 0 0 0 0 0 0 Nothing) ∷
+    (mapOf 1 2 noChannel (0 ∷ 0 ∷ []) (noDataFactor ∷ noDataFactor ∷ []) ∷ [], sheet 1 0 0 0 0 0 0 0 0 0 Nothing) ∷
     -- each class at its bounds, LS 0, too long and NoData; the default percentage of 1.0 makes channels of counts above 2 where the largest is 200
     (
       mapOf 3 3 defaultSettings (0 ∷ 1 ∷ 2 ∷ 3 ∷ 200 ∷ 0 ∷ 1 ∷ 2 ∷ 0 ∷ [])
-          (99999 ∷ 100000 ∷ 499999 ∷ 500000 ∷ 999999 ∷ 1000000 ∷ 0 ∷ tooLong ∷ noData ∷ [])
+          (99999 ∷ 100000 ∷ 499999 ∷ 500000 ∷ 999999 ∷ 1000000 ∷ 0 ∷ tooLong ∷ noDataFactor ∷ [])
           ∷ [],
       sheet 1 6 2 1 1 3199997 2 2 2 1 (Found 1000000 0 5),
     ) ∷
@@ -74,11 +55,11 @@ reports =
     ) ∷
     -- cells too long alone give no greatest, and LS 0 alone does
     (row (tooLong ∷ tooLong ∷ []) ∷ [], sheet 1 2 0 0 2 0 0 0 0 0 Nothing) ∷
-    (row (noData ∷ 0 ∷ 0 ∷ []) ∷ [], sheet 1 3 0 2 0 0 2 0 0 0 (Found 0 0 1)) ∷
+    (row (noDataFactor ∷ 0 ∷ 0 ∷ []) ∷ [], sheet 1 3 0 2 0 0 2 0 0 0 (Found 0 0 1)) ∷
     -- ties in a map, and between maps
     (row (7 ∷ 9 ∷ 3 ∷ 9 ∷ []) ∷ [], sheet 1 4 0 0 0 28 4 0 0 0 (Found 9 0 1)) ∷
     (row (5 ∷ 8 ∷ []) ∷ row (8 ∷ 1 ∷ []) ∷ [], sheet 2 4 0 0 0 22 4 0 0 0 (Found 8 0 1)) ∷
-    (row (noData ∷ []) ∷ row (4 ∷ []) ∷ row (2 ∷ 6 ∷ 6 ∷ []) ∷ row (6 ∷ []) ∷ [], sheet 4 6 0 0 0 24 5 0 0 0 (Found 6 2 1)) ∷
+    (row (noDataFactor ∷ []) ∷ row (4 ∷ []) ∷ row (2 ∷ 6 ∷ 6 ∷ []) ∷ row (6 ∷ []) ∷ [], sheet 4 6 0 0 0 24 5 0 0 0 (Found 6 2 1)) ∷
     []
 
 pub reports-hold : map (λ (x : List Map × Report). reportOf (x .0)) reports ≡ map (λ (x : List Map × Report). x .1) reports
@@ -90,12 +71,6 @@ reports-hold = refl
 -- the greatest number of 64 bits
 abbrev top : ℕ
 top = 18446744073709551615
-
-abbrev accepted : Report → Reported
-accepted report = record { answer = Accepted; report = report }
-
-abbrev refused : ℕ → ℕ → Report → Reported
-refused number place report = record { answer = Refused (record { number = number; place = place }); report = report }
 
 -- so many maps, and nothing else but the greatest
 abbrev leading : ℕ → Greatest → Report
@@ -171,7 +146,7 @@ additions =
     ((leading 3 Nothing, cellWith (settingsOf half half (Percentage (quotient 10 1001)))), refused 4 3 (leading 3 Nothing)) ∷
     -- 16: the number of maps, the sum; 4 before 16
     ((leading (top - 1) Nothing, row (5 ∷ [])), accepted (sheet top 1 0 0 0 5 1 0 0 0 (Found 5 (top - 1) 0))) ∷
-    ((leading top Nothing, row (noData ∷ [])), refused 16 0 (leading top Nothing)) ∷
+    ((leading top Nothing, row (noDataFactor ∷ [])), refused 16 0 (leading top Nothing)) ∷
     ((one 5 (top - 5), row (5 ∷ [])), accepted (sheet 1 1 0 0 0 top 1 0 0 0 (Found 5 0 0))) ∷
     ((one 5 (top - 4), row (5 ∷ [])), refused 16 0 (one 5 (top - 4))) ∷
     ((leading top Nothing, cellWith (settingsOf half above1 NoChannel)), refused 4 2 (leading top Nothing)) ∷

@@ -1,6 +1,6 @@
 -- RULES 12.3: the report of one list of maps after another is the two reports joined. Assumes nothing.
 use mathlib.Core.Path.{_≡_, refl, sym, ap, ap₂, subst, _∙_}
-use mathlib.Core.List.{List, [], _∷_, _++_, map}
+use mathlib.Core.List.{List, [], _∷_, _++_, map, map-append}
 use mathlib.Core.Bool.{Bool, cond}
 use mathlib.Core.Logic.{_⊎_, inl, inr, ⊎-elim}
 use Prim.Native.Nat.{ℕ, zero, _+_, _-_, _≤_, _<_}
@@ -21,10 +21,6 @@ use Rattle.report.specs.declared.Report.{Report}
 use Rattle.report.proofs.Leaders.{rankIn, rankAt, Leader, Leads, rank-inside, greatest-leads, greatest-is-led}
 
 -- ---- totals
-
-map-append : {A : Type 0} (f : Map → A) (l k : List Map) → map f (l ++ k) ≡ map f l ++ map f k
-map-append f [] k = refl
-map-append f (m ∷ l) k = ap (λ r. f m ∷ r) (map-append f l k)
 
 pub over-append : (l k : List Map) (f : Map → ℕ) → over (l ++ k) f ≡ over l f + over k f
 unfolding over total
