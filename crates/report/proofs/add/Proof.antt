@@ -43,9 +43,11 @@ returns c =
 
 returns-2 : tie.Need-returns-2
 returns-2 c =
-    let s = c .before .before .before .before .before .before .before .before in
+    let m = c .before .before .before in
+    let j = m .before .before in
+    let s = j .before .before .before in
     let a = s .args in
-    let p = judged-sound (given s) (sym (c .before .before .before .judgement2 .given .1) ∙ c .before .before .before .before .before .judge .ensures) in
+    let p = judged-sound (given s) (sym (m .judgement2 .given .1) ∙ j .judge .ensures) in
     c .join .ensures
     ∙ ap (afterJoin (a .report)) (c .before .report-of .ensures (a .rows) (a .columns) (a .settings) (p .1) (sym (passed-long (given s) (p .0) .0)))
     ∙ sym (add-joins (a .report) (given s) (p .0))

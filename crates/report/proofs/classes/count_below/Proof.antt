@@ -17,6 +17,10 @@ Inv-loop factors from to given zero₀ under1₀ under5₀ under10₀ known₀ n
 abbrev μ-loop : tie.MeasureT-loop
 μ-loop factors from to given zero₀ under1₀ under5₀ under10₀ known₀ no-data₀ lower₀ x₀ zero under1 under5 under10 known no-data lower x = to - x
 
+-- the turn's begin, from the third count on
+abbrev begun : tie.After-plus-if3 Inv-loop μ-loop → tie.At-loop Inv-loop μ-loop
+begun c = c .before .before .before .before .before
+
 loop-holds : tie.Need-loop-holds Inv-loop μ-loop
 loop-holds c = (counted-none (c .before .args .factors .now) (c .before .args .from) (c .before .args .given), c .before .pre .order)
 
@@ -48,7 +52,7 @@ plus-if-requires-6 c κs =
 
 plus-if-requires-7 : tie.Need-plus-if-requires-7 Inv-loop μ-loop
 plus-if-requires-7 c κs =
-    let p = c .before .before .before .before .before .before .before .before in
+    let p = begun (c .before .before .before) in
     omega (arith, counted-few (p .loop .inv .0), p .before .before .pre .few)
 
 add-x : tie.Need-add-x Inv-loop μ-loop
@@ -59,7 +63,7 @@ loop-less c = search needs
 
 loop-again : tie.Need-loop-again Inv-loop μ-loop
 loop-again c =
-    let p = c .before .before .before .before .before .before .before .before .before in
+    let p = begun (c .before .before .before .before) in
     let l = p .before .before .args .factors .now in
     let from = p .before .before .args .from in (
       record {

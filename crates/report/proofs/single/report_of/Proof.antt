@@ -10,6 +10,10 @@ use Rattle.report.proofs.InnerSingle.{class-1, class-5, class-10, singl
 use Rattle.report.proofs.single.report_of.Statement.{statement}
 use Rattle.report.proofs.single.report_of.Tie as tie
 
+-- the tally, from the second class on
+abbrev tallied : tie.After-struct-known5 → tie.After-tally-of
+tallied c = let counted = c .before .before .before .before in counted .before .before .before .before
+
 flow-of-requires : tie.Need-flow-of-requires
 flow-of-requires c κs = search needs
 
@@ -40,7 +44,7 @@ cast-t13 c = search needs
 
 sub-t14 : tie.Need-sub-t14
 sub-t14 c =
-    let q = c .before .before .before .before .before .before .before .before in
+    let q = tallied c in
     let l = q .before .before .before .before .args .factors .now in
     omega (arith, class-1 l (length l) (q .tally-of .result) (q .tally-of .ensures))
 
@@ -49,7 +53,7 @@ cast-t15 c = search needs
 
 sub-t16 : tie.Need-sub-t16
 sub-t16 c =
-    let q = c .before .before .before .before .before .before .before .before .before in
+    let q = tallied (c .before) in
     let l = q .before .before .before .before .args .factors .now in
     omega (arith, class-5 l (length l) (q .tally-of .result) (q .tally-of .ensures))
 
@@ -58,7 +62,7 @@ cast-t17 c = search needs
 
 sub-t18 : tie.Need-sub-t18
 sub-t18 c =
-    let q = c .before .before .before .before .before .before .before .before .before .before in
+    let q = tallied (c .before .before) in
     let l = q .before .before .before .before .args .factors .now in
     omega (arith, class-10 l (length l) (q .tally-of .result) (q .tally-of .ensures) (λ x. omega (arith, q .before .before .shared-slice-known2 .given x)))
 
