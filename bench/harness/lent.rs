@@ -70,6 +70,12 @@ impl Lent {
     }
 }
 
+/// The report of one map: its totals, in the order of the report's lines; the greatest LS, its map and its cell.
+pub type Reported = ([u64; 10], Option<[u64; 3]>);
+
+/// The percentage of the channel rule where a map is reported, the library's default: the largest count has to be found.
+pub const PERCENTAGE: f64 = 1.0;
+
 /// A side: reading a text into heights, header first; reading a header and floats into heights; mapping them; and
 /// writing them into the room.
 #[derive(Clone, Copy)]

@@ -1,7 +1,7 @@
 //! Measurements as lines, so that those of several layouts can be put together: layout, terrain, size, the milliseconds
-//! of both sides for the map, for reading the text, for writing one and for reading floats, those of the measured side for
-//! the map under the newer formula, those of another commit's library for the map or `-`, the bytes that are read, those
-//! that are written and those of the floats, the peak.
+//! of both sides for the map, for reading the text, for writing one, for reading floats and for a report, those of the
+//! measured side for the map under the newer formula, those of another commit's library for the map or `-`, the bytes that
+//! are read, those that are written and those of the floats, the peak.
 
 use crate::files::field;
 use crate::layout::BYTES;
@@ -36,8 +36,9 @@ pub fn print(rounds: usize, folder: &Path) -> Result<(), String> {
         for (size, rounds) in [(SMALL, MORE_ROUNDS * rounds), (LARGE, rounds)] {
             let (text, lent) = field(&folder.join(format!("{terrain}-{size}.asc")))?;
             let found = measure(rounds, &text, lent);
-            let Found { map, text, write, floats, newer, before, bytes, written, float_bytes, peak } = found;
-            let times = [map, text, write, floats].map(|pair| format!("{} {}", word(pair.measured), word(pair.plain)));
+            let Found { map, text, write, floats, report, newer, before, bytes, written, float_bytes, peak } = found;
+            let pairs = [map, text, write, floats, report];
+            let times = pairs.map(|pair| format!("{} {}", word(pair.measured), word(pair.plain)));
             let (times, newer, before) = (times.join(" "), word(newer), before.map_or(NONE.into(), word));
             println!("{BYTES} {terrain} {size} {times} {newer} {before} {bytes} {written} {float_bytes} {peak}");
         }
@@ -54,12 +55,13 @@ pub fn parse(line: &str) -> Option<Line> {
     let times: Option<Vec<f64>> = times.iter().map(|word| word.parse().ok()).collect();
     let times = times?;
     let pairs: Vec<Pair> = times.chunks_exact(2).map(|pair| Pair { measured: pair[0], plain: pair[1] }).collect();
-    let (&[map, text, write, floats], true) = (&pairs[..], times.len() == 8) else { return None };
+    let (&[map, text, write, floats, report], true) = (&pairs[..], times.len() == 10) else { return None };
     let found = Found {
         map,
         text,
         write,
         floats,
+        report,
         newer: newer.parse().ok()?,
         before: if before == NONE { None } else { Some(before.parse().ok()?) },
         bytes: bytes.parse().ok()?,

@@ -3,7 +3,11 @@
 use crate::clock::time;
 use crate::lent::{Lent, Side};
 use crate::memory::peak;
-use crate::sides::{all, MEASURED, NEWER, OTHERS, PLAIN, PLAIN_NEWER};
+use crate::sides::{all, MEASURED, NEWER, OTHERS, PLAIN, PLAIN_NEWER, REPORTS};
+use std::hint::black_box;
+
+/// Rounds of adding a map to a report for each of the others: it is short.
+const MORE_REPORTS: usize = 4;
 
 /// Best milliseconds of the measured side and of the plain one.
 #[derive(Clone, Copy)]
@@ -23,15 +27,17 @@ impl Pair {
     }
 }
 
-/// What is found of one text: the times of mapping, reading and writing, and of reading the same heights as floats; the
-/// map call's under the newer steepness formula, and by the library of another commit; the bytes of the text that is read,
-/// of the one that is written and of the floats; and the KiB by which the first map call raised the peak.
+/// What is found of one text: the times of mapping, reading and writing, of reading the same heights as floats, and of
+/// adding the map to a report; the map call's under the newer steepness formula, and by the library of another commit; the
+/// bytes of the text that is read, of the one that is written and of the floats; and the KiB by which the first map call
+/// raised the peak.
 #[derive(Clone, Copy)]
 pub struct Found {
     pub map: Pair,
     pub text: Pair,
     pub write: Pair,
     pub floats: Pair,
+    pub report: Pair,
     pub newer: f64,
     pub before: Option<f64>,
     pub bytes: usize,
@@ -46,6 +52,11 @@ impl Found {
         self.newer / self.map.measured
     }
 
+    /// The measured side's time for adding the map to a report by that for the map call.
+    pub fn share_report(&self) -> f64 {
+        self.report.measured / self.map.measured
+    }
+
     /// The measured side's map call by that of the library of another commit.
     pub fn ratio_before(&self) -> Option<f64> {
         self.before.map(|before| self.map.measured / before)
@@ -58,6 +69,7 @@ impl Found {
             text: self.text.or(&other.text),
             write: self.write.or(&other.write),
             floats: self.floats.or(&other.floats),
+            report: self.report.or(&other.report),
             newer: self.newer.min(other.newer),
             before: self.before.zip(other.before).map(|(one, other)| one.min(other)),
             bytes: self.bytes,
@@ -69,7 +81,7 @@ impl Found {
 }
 
 /// The best of several rounds of each side, the sides in turn.
-fn in_turn(rounds: usize, sides: &[Side], mut call: impl FnMut(Side)) -> Vec<f64> {
+fn in_turn<S: Copy>(rounds: usize, sides: &[S], mut call: impl FnMut(S)) -> Vec<f64> {
     let mut best = vec![f64::MAX; sides.len()];
     for _ in 0..rounds {
         for (best, &side) in best.iter_mut().zip(sides) {
@@ -86,6 +98,12 @@ fn compare_floats(lent: &Lent) {
         (side.read_floats)(&lent.header, &lent.floats, &mut heights);
         assert!(heights == lent.ground, "{} must read the same heights in the floats as in the text", side.name);
     }
+}
+
+/// The measured side reports on the map what the plain one does.
+fn compare_reports(lent: &Lent) {
+    let [measured, plain] = REPORTS.map(|report| report(lent));
+    assert_eq!(measured, plain, "{} and {} must report the same", MEASURED.name, PLAIN.name);
 }
 
 /// Under the newer formula the measured side gives the grids of the plain one.
@@ -109,17 +127,22 @@ pub fn measure(rounds: usize, text: &[u8], mut lent: Lent) -> Found {
         assert!(lent == other, "{} and {} must give the same grids and bytes", MEASURED.name, side.name);
     }
     compare_floats(&lent);
+    compare_reports(&lent);
     compare_newer(&mut lent);
     let reading = in_turn(rounds, &[MEASURED, PLAIN], |side| (side.read)(text, &mut lent.ground));
     let floats = |side: Side| (side.read_floats)(&lent.header, &lent.floats, &mut lent.ground);
     let reading_floats = in_turn(rounds, &[MEASURED, PLAIN], floats);
     let writing = in_turn(rounds, &[MEASURED, PLAIN], |side| (side.write)(&mut lent));
     let mapping = in_turn(rounds, &[&[MEASURED, NEWER], OTHERS].concat(), |side| (side.map)(&mut lent));
+    let reporting = in_turn(MORE_REPORTS * rounds, &REPORTS, |report| {
+        black_box(report(&lent));
+    });
     Found {
         map: Pair { measured: mapping[0], plain: mapping[2] },
         text: Pair { measured: reading[0], plain: reading[1] },
         write: Pair { measured: writing[0], plain: writing[1] },
         floats: Pair { measured: reading_floats[0], plain: reading_floats[1] },
+        report: Pair { measured: reporting[0], plain: reporting[1] },
         newer: mapping[1],
         before: mapping.get(3).copied(),
         bytes: text.len(),

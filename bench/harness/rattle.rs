@@ -3,16 +3,16 @@
 //! names, which the build makes.
 
 #[path = "../../host/src/library.rs"]
-#[allow(dead_code, reason = "the default settings and the texts of counts and LS are the other program's")]
+#[allow(dead_code, reason = "default settings, texts of counts and LS and joined reports are the other program's")]
 mod library;
 
 #[cfg(before)]
-#[allow(dead_code, reason = "the default settings and the texts of counts and LS are the other program's")]
+#[allow(dead_code, reason = "the map call alone is timed; what came later may not be there")]
 mod before {
     include!(env!("BEFORE"));
 }
 
-use crate::lent::{Lent, Side, CUTOFF};
+use crate::lent::{Lent, Reported, Side, CUTOFF, PERCENTAGE};
 use std::mem::take;
 
 /// The side of a library that a module declares. Cutoffs as in every measurement, no channels and the older formula, but
@@ -70,6 +70,17 @@ macro_rules! side {
 
 pub const RATTLE: Side = side!("rattle", library);
 pub const NEWER: Side = side!("rattle newer", library, formula: 1);
+
+/// Adds the map to an empty report.
+pub fn report(lent: &Lent) -> Reported {
+    use library::{Header, Settings};
+    let header = Header { rows: lent.rows, columns: lent.columns, side: lent.side, no_data: 0 };
+    let settings = Settings { low: CUTOFF, high: CUTOFF, kind: 2, percentage: PERCENTAGE, ..Settings::default() };
+    let mut report = library::empty_report();
+    let added = library::add(&mut report, header, settings, &lent.count, &lent.factors);
+    added.ok().expect("a terrain's map is accepted");
+    (report.totals, report.greatest)
+}
 
 #[cfg(before)]
 pub const BEFORE: Side = side!("before", before);

@@ -1,7 +1,7 @@
 //! The sides: the plain program and, where they are built, the proved library and that of another commit.
 
-use crate::lent::{Lent, Side, CUTOFF};
-use plain::{Channel, Formula, Frame, Grids, Settings};
+use crate::lent::{Lent, Reported, Side, CUTOFF, PERCENTAGE};
+use plain::{Channel, Formula, Frame, Grids, Report, Settings};
 
 fn plain_read(text: &[u8], heights: &mut [i32]) {
     let header = plain::read_header(text).expect("a terrain's text is accepted");
@@ -40,6 +40,16 @@ fn plain_write(lent: &mut Lent) {
     lent.written = plain::write_heights(frame, &lent.ground, &mut lent.room).expect("a terrain's heights are accepted");
 }
 
+/// Adds the map to an empty report.
+fn plain_report(lent: &Lent) -> Reported {
+    let channel = Channel::Percentage(PERCENTAGE);
+    let settings = Settings { low: CUTOFF, high: CUTOFF, channel, formula: Formula::Older };
+    let mut report = Report::default();
+    let added = plain::add(&mut report, lent.rows, lent.columns, settings, &lent.count, &lent.factors);
+    added.expect("a terrain's map is accepted");
+    (report.totals, report.greatest.map(|greatest| [greatest.factor, greatest.map, greatest.cell]))
+}
+
 pub const PLAIN: Side =
     Side { name: "plain", read: plain_read, read_floats: plain_read_floats, map: plain_map, write: plain_write };
 
@@ -57,6 +67,12 @@ pub const MEASURED: Side = PLAIN;
 pub const NEWER: Side = crate::rattle::NEWER;
 #[cfg(not(rattle))]
 pub const NEWER: Side = PLAIN_NEWER;
+
+/// A report by the measured side, and by the plain one.
+#[cfg(rattle)]
+pub const REPORTS: [fn(&Lent) -> Reported; 2] = [crate::rattle::report, plain_report];
+#[cfg(not(rattle))]
+pub const REPORTS: [fn(&Lent) -> Reported; 2] = [plain_report; 2];
 
 /// The sides that the measured one is held to: the plain program, then the library of another commit.
 #[cfg(before)]

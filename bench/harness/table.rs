@@ -48,6 +48,8 @@ fn print_lines(lines: &[Line], terrain: &str, small: &Found, large: &Found) {
     println!("ratio text {terrain} {:.3}", large.text.ratio());
     println!("ratio write {terrain} {:.3}", large.write.ratio());
     println!("ratio floats {terrain} {:.3}", large.floats.ratio());
+    println!("ratio report {terrain} {:.3}", large.report.ratio());
+    println!("share report {terrain} {:.4}", large.share_report());
     println!("ratio newer {terrain} {:.3}", large.ratio_newer());
     if let Some(ratio) = large.ratio_before() {
         println!("ratio before {terrain} {ratio:.3}");

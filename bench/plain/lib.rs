@@ -1,7 +1,7 @@
 //! A plain, unverified program of the rules of docs/RULES.md, with the algorithms of crates/text, crates/terrain,
-//! crates/factor and crates/writer: what their speed is measured against. It makes no comparison that those make only
-//! for want of a proof of the order in which a stage works. Grids of floats are read by the processor's own floats, as
-//! crates/floats does not. Every grid is the caller's. The stages are not inlined, so that a profiler sees each.
+//! crates/factor, crates/writer and crates/report: what their speed is measured against. It makes no comparison that those
+//! make only for want of a proof of the order in which a stage works. Grids of floats are read by the processor's own
+//! floats, as crates/floats does not. Every grid is the caller's. The stages are not inlined, so that a profiler sees each.
 
 mod cells;
 mod direction;
@@ -13,6 +13,7 @@ mod floats;
 mod length;
 mod map;
 mod queue;
+mod report;
 mod settings;
 mod slope;
 mod text;
@@ -22,6 +23,7 @@ mod write;
 
 pub use floats::read_floats;
 pub use map::{map, Grids};
+pub use report::{add, join, Greatest, Report};
 pub use settings::{Channel, Formula, Settings};
 pub use text::{read_grid, read_header, Header, Span};
 pub use write::{room, write_counts, write_factors, write_heights, Frame};

@@ -1,6 +1,8 @@
-//! The command line: flags become numbers and are handed on; the library judges them.
+//! The command line: what its words ask for. A report's flags are in report_flags.rs, the settings in settings.rs.
 
 use crate::library::Settings;
+use crate::report_flags::{self, ReportFlags};
+use crate::settings;
 use std::ffi::OsString;
 use std::iter::Peekable;
 use std::path::PathBuf;
@@ -13,7 +15,7 @@ pub enum Field {
 
 impl Field {
     /// The field that a word names.
-    fn of(word: OsString) -> Field {
+    pub fn of(word: OsString) -> Field {
         if word == "-" { Field::StandardInput } else { Field::File(word.into()) }
     }
 
@@ -43,79 +45,51 @@ pub enum Asked {
     Help,
     Version,
     Map(Field, Flags),
+    Report(Vec<Field>, ReportFlags),
 }
 
-/// A flag's text as a number.
-fn number<T: std::str::FromStr>(flag: &str, text: &str) -> Result<T, String> {
-    text.parse().map_err(|_| format!("{flag}: {text:?} is not a number that can be handed on"))
-}
+/// The words of a command line.
+pub type Words = Peekable<std::vec::IntoIter<OsString>>;
 
-/// Sets the channel rule that `none`, `cells:N` or `percent:P` names.
-fn set_channel(settings: &mut Settings, text: &str) -> Result<(), String> {
-    if text == "none" {
-        settings.kind = 0;
-    } else if let Some(n) = text.strip_prefix("cells:") {
-        settings.kind = 1;
-        settings.cells = number("--channel cells:N", n)?;
-    } else if let Some(p) = text.strip_prefix("percent:") {
-        settings.kind = 2;
-        settings.percentage = number("--channel percent:P", p)?;
-    } else {
-        return Err(format!("--channel: {text:?} is none of none, cells:N, percent:P"));
-    }
-    Ok(())
-}
-
-/// The number of the steepness formula that `older` or `newer` names.
-fn formula(text: &str) -> Result<u32, String> {
-    match text {
-        "older" => Ok(0),
-        "newer" => Ok(1),
-        _ => Err(format!("--steepness: {text:?} is neither older nor newer")),
-    }
-}
-
-/// The channel rule as the flag names it.
-pub fn channel_text(settings: &Settings) -> String {
-    match settings.kind {
-        0 => "none".to_string(),
-        1 => format!("cells:{}", settings.cells),
-        _ => format!("percent:{}", settings.percentage),
-    }
-}
-
-/// The steepness formula as the flag names it.
-pub fn steepness_text(settings: &Settings) -> &'static str {
-    if settings.formula == 0 { "older" } else { "newer" }
+pub fn words(words: impl Iterator<Item = OsString>) -> Words {
+    words.collect::<Vec<_>>().into_iter().peekable()
 }
 
 /// The word after a flag, unless it is a long flag itself. A minus alone may begin a number.
-fn value(flag: &str, words: &mut Peekable<impl Iterator<Item = OsString>>) -> Result<OsString, String> {
+pub fn value(flag: &str, words: &mut Words) -> Result<OsString, String> {
     words.next_if(|word| !word.as_encoded_bytes().starts_with(b"--")).ok_or_else(|| format!("{flag} wants a value"))
 }
 
-fn text(flag: &str, words: &mut Peekable<impl Iterator<Item = OsString>>) -> Result<String, String> {
+pub fn text(flag: &str, words: &mut Words) -> Result<String, String> {
     let v = value(flag, words)?;
     v.into_string().map_err(|v| format!("{flag}: {v:?} is not text"))
 }
 
-impl Flags {
+/// Flags that take their words and in the end the fields.
+pub trait Take: Sized {
     /// Takes a flag, and its value from the words after it.
-    fn take(&mut self, flag: &str, words: &mut Peekable<impl Iterator<Item = OsString>>) -> Result<(), String> {
+    fn take(&mut self, flag: &str, words: &mut Words) -> Result<(), String>;
+
+    /// What is asked for with the words that are no flags.
+    fn asked(self, fields: Vec<OsString>) -> Result<Asked, String>;
+}
+
+impl Take for Flags {
+    fn take(&mut self, flag: &str, words: &mut Words) -> Result<(), String> {
         match flag {
-            "--low" => self.settings.low = number(flag, &text(flag, words)?)?,
-            "--high" => self.settings.high = number(flag, &text(flag, words)?)?,
-            "--channel" => set_channel(&mut self.settings, &text(flag, words)?)?,
-            "--steepness" => self.settings.formula = formula(&text(flag, words)?)?,
             "--floats" => self.floats = Some(Field::of(value(flag, words)?)),
             "--output" => self.output = Some(value(flag, words)?).filter(|v| v != "-").map(PathBuf::from),
             "--grids" => self.grids = Some(value(flag, words)?.into()),
             "--text" => self.text = Some(value(flag, words)?.into()),
             "--quiet" => self.quiet = true,
             "--verbose" => self.verbose = true,
-            _ => return Err(format!("{}: no such flag", flag.escape_debug())),
+            _ => settings::take(&mut self.settings, flag, words)?,
         }
         Ok(())
+    }
+
+    fn asked(self, fields: Vec<OsString>) -> Result<Asked, String> {
+        Ok(Asked::Map(only(fields, self.floats.as_ref())?, self))
     }
 }
 
@@ -132,12 +106,9 @@ fn only(fields: Vec<OsString>, floats: Option<&Field>) -> Result<Field, String> 
     }
 }
 
-/// Reads the words after the program's name; a setting that no flag gives stays as it is. All wrong flags are told, and
-/// only without them the fields, for a word behind a wrong flag may have been meant as its value.
-pub fn read(words: impl Iterator<Item = OsString>, settings: Settings) -> Result<Asked, String> {
-    let mut words = words.peekable();
-    let (floats, output, grids, text, quiet, verbose) = (None, None, None, None, false, false);
-    let mut flags = Flags { settings, floats, output, grids, text, quiet, verbose };
+/// Has the flags take all words. All wrong flags are told, and only without them the fields, for a word behind a wrong
+/// flag may have been meant as its value.
+fn take_all(mut flags: impl Take, mut words: Words) -> Result<Asked, String> {
     let (mut fields, mut wrong) = (Vec::new(), Vec::new());
     while let Some(word) = words.next() {
         match &*word.to_string_lossy() {
@@ -151,14 +122,24 @@ pub fn read(words: impl Iterator<Item = OsString>, settings: Settings) -> Result
     if !wrong.is_empty() {
         return Err(wrong.join("; "));
     }
-    Ok(Asked::Map(only(fields, flags.floats.as_ref())?, flags))
+    flags.asked(fields)
+}
+
+/// Reads the words after the program's name; a setting that no flag gives stays as it is.
+pub fn read(words: impl Iterator<Item = OsString>, settings: Settings) -> Result<Asked, String> {
+    let mut words = self::words(words);
+    if words.next_if(|word| word == "report").is_some() {
+        return take_all(report_flags::none(settings), words);
+    }
+    let (floats, output, grids, text, quiet, verbose) = (None, None, None, None, false, false);
+    take_all(Flags { settings, floats, output, grids, text, quiet, verbose }, words)
 }
 
 #[cfg(test)]
 mod tests {
     use super::*;
-
-    const DEFAULTS: Settings = Settings { low: 0.7, high: 0.5, kind: 2, cells: 0, percentage: 1.0, formula: 0 };
+    use crate::settings::tests::DEFAULTS;
+    use crate::settings::{channel_text, steepness_text};
 
     fn asked(line: &str) -> Result<Asked, String> {
         read(line.split_whitespace().map(OsString::from), DEFAULTS)
@@ -196,32 +177,8 @@ mod tests {
         assert_eq!((flags.text, flags.quiet, flags.verbose), (Some("t".into()), false, true));
         assert!(wanted("--quiet a.asc").1.quiet);
         assert_eq!(wanted("a.asc --low 0.1 --low 0.2").1.settings.low, 0.2);
-    }
-
-    #[test]
-    fn channel_rules_are_named_as_they_are_given() {
-        for rule in ["none", "cells:0", "cells:4294967295", "percent:0.1", "percent:NaN"] {
-            assert_eq!(channel_text(&wanted(&format!("a.asc --channel {rule}")).1.settings), rule);
-        }
-        assert!(
-            wrong("a.asc --channel cells:4294967296").starts_with("--channel cells:N: \"4294967296\" is not a number")
-        );
-        assert!(wrong("a.asc --channel percent:").starts_with("--channel percent:P: \"\" is not a number"));
-        assert_eq!(wrong("a.asc --channel Cells:2"), "--channel: \"Cells:2\" is none of none, cells:N, percent:P");
-    }
-
-    #[test]
-    fn steepness_formulas_are_numbers() {
-        for (number, name) in [(0, "older"), (1, "newer")] {
-            let settings = wanted(&format!("a.asc --steepness {name}")).1.settings;
-            assert_eq!((settings.formula, steepness_text(&settings)), (number, name));
-        }
         assert_eq!(wanted("a.asc --steepness newer --steepness older").1.settings.formula, 0);
-        for word in ["Newer", "0", "1", ""] {
-            let wrong = formula(word).err().unwrap_or_else(|| panic!("{word:?} is accepted"));
-            assert_eq!(wrong, format!("--steepness: {word:?} is neither older nor newer"));
-        }
-        assert_eq!(wrong("a.asc --steepness --quiet"), "--steepness wants a value");
+        assert_eq!(channel_text(&wanted("--channel cells:7 a.asc").1.settings), "cells:7");
     }
 
     #[test]
@@ -285,5 +242,8 @@ mod tests {
         assert_eq!(wrong(""), "no FIELD.asc is named");
         assert_eq!(wrong("--"), "no FIELD.asc is named");
         assert_eq!(wrong("a.asc - b.asc"), "\"-\": one field at a time");
+        assert_eq!(wanted("-- report").0, "report");
+        assert_eq!(wrong("a.asc report"), "\"report\": one field at a time");
+        assert_eq!(wrong("a.asc --jobs 2"), "--jobs: no such flag");
     }
 }

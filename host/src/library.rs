@@ -1,5 +1,5 @@
-//! The calls of crates/fullsize, with each `&[T]` as a pointer and a length. The declarations here have to
-//! agree with crates/fullsize/src/lib.rt.
+//! The calls of crates/fullsize, with each `&[T]` as a pointer and a length, and each array as itself. The declarations
+//! here have to agree with crates/fullsize/src/lib.rt.
 
 unsafe extern "C" {
     fn lsmap_read_header(
@@ -129,6 +129,27 @@ unsafe extern "C" {
         place: &mut usize,
         length: &mut usize,
     ) -> u32;
+
+    fn lsmap_report_empty(report: &mut [u64; 14]);
+
+    fn lsmap_report_add(
+        rows: usize,
+        columns: usize,
+        low: f64,
+        high: f64,
+        kind: u32,
+        cells: u32,
+        percentage: f64,
+        formula: u32,
+        count: *const u32,
+        count_len: usize,
+        factors: *const u32,
+        factors_len: usize,
+        report: &mut [u64; 14],
+        place: &mut usize,
+    ) -> u32;
+
+    fn lsmap_report_join(report: &mut [u64; 14], other: &[u64; 14], place: &mut usize) -> u32;
 }
 
 /// A refusal's number and place.
@@ -189,6 +210,29 @@ pub enum Numbers<'a> {
 pub struct Totals {
     pub valid: u32,
     pub longest: u32,
+}
+
+/// A report over a list of maps: its totals, which are maps, valid, channel, zero and long cells, the sum of LS, and
+/// the cells under 1, from 1, from 5 and from 10; and where there is an LS the greatest, its map and its cell.
+#[derive(Clone, Copy, Debug, PartialEq, Eq)]
+pub struct Report {
+    pub totals: [u64; 10],
+    pub greatest: Option<[u64; 3]>,
+}
+
+impl Report {
+    /// The report of the library's numbers: the totals, whether there is a greatest, and the three numbers of it.
+    fn of(numbers: [u64; 14]) -> Report {
+        let [totals @ .., some, factor, map, cell] = numbers;
+        Report { totals, greatest: (some != 0).then_some([factor, map, cell]) }
+    }
+
+    /// The library's numbers of a report.
+    fn numbers(&self) -> [u64; 14] {
+        let [a, b, c, d, e, f, g, h, i, j] = self.totals;
+        let [factor, map, cell] = self.greatest.unwrap_or_default();
+        [a, b, c, d, e, f, g, h, i, j, u64::from(self.greatest.is_some()), factor, map, cell]
+    }
 }
 
 impl Grids {
@@ -307,4 +351,33 @@ pub fn write(h: Header, c: Corners, grid: Numbers, room: &mut [u8]) -> Result<us
         }
     };
     answer(number, place, length)
+}
+
+/// The report of no map.
+pub fn empty_report() -> Report {
+    let mut numbers = [0; 14];
+    unsafe { lsmap_report_empty(&mut numbers) };
+    Report::of(numbers)
+}
+
+/// Adds a map's flow counts and LS to a report.
+pub fn add(r: &mut Report, h: Header, s: Settings, count: &[u32], factors: &[u32]) -> Result<(), Refusal> {
+    let (mut place, mut numbers) = (0, r.numbers());
+    #[rustfmt::skip]
+    let number = unsafe {
+        lsmap_report_add(
+            h.rows, h.columns, s.low, s.high, s.kind, s.cells, s.percentage, s.formula,
+            count.as_ptr(), count.len(), factors.as_ptr(), factors.len(), &mut numbers, &mut place,
+        )
+    };
+    *r = Report::of(numbers);
+    answer(number, place, ())
+}
+
+/// Joins a second report to a first, whose maps come before its own.
+pub fn join(r: &mut Report, other: &Report) -> Result<(), Refusal> {
+    let (mut place, mut numbers) = (0, r.numbers());
+    let number = unsafe { lsmap_report_join(&mut numbers, &other.numbers(), &mut place) };
+    *r = Report::of(numbers);
+    answer(number, place, ())
 }

@@ -1,13 +1,19 @@
-//! lsmap: the LS factor of an Esri ASCII grid, or of a grid of floats with such a header. It reads the files, lends the
-//! memory to the proved library (crates/fullsize), and writes what the library answers. It judges nothing itself.
+//! lsmap: the LS factor of an Esri ASCII grid, or of a grid of floats with such a header; and a report over many grids.
+//! It reads the files, lends the memory to the proved library (crates/fullsize), and writes what the library answers. It
+//! judges nothing itself.
 
 mod flags;
 mod floats;
 mod grids;
+mod jobs;
 mod library;
+mod lines;
 mod messages;
 mod number;
 mod output;
+mod report;
+mod report_flags;
+mod settings;
 mod sheet;
 mod summary;
 mod texts;
@@ -38,10 +44,11 @@ pub struct Map<'a> {
     pub grids: Grids,
 }
 
-/// Why there is no whole sheet: a refusal with its message, something that kept the program from running, or a reader
-/// that had enough.
+/// Why there is no whole sheet or no report: a refusal with its message, of a report the message alone, something that
+/// kept the program from running, or a reader that had enough.
 enum Stop {
     Refused(Refusal, String),
+    NoReport(String),
     CouldNotRun(String),
     ReaderLeft,
 }
@@ -69,7 +76,7 @@ fn tell(message: &str) {
 }
 
 fn tell_settings(s: &Settings) {
-    let (channel, steepness) = (flags::channel_text(s), flags::steepness_text(s));
+    let (channel, steepness) = (settings::channel_text(s), settings::steepness_text(s));
     tell(&format!("low {}, high {}, channel {channel}, steepness {steepness}", s.low, s.high));
 }
 
@@ -162,6 +169,7 @@ fn obey() -> Result<(), Stop> {
         Ok(Asked::Help) => print(HELP),
         Ok(Asked::Version) => print(&format!("lsmap {}\n", VERSION.unwrap_or("of an unknown commit"))),
         Ok(Asked::Map(field, flags)) => run(&field, &flags),
+        Ok(Asked::Report(fields, flags)) => report::run(&fields, &flags),
     }
 }
 
@@ -170,6 +178,10 @@ fn main() -> ExitCode {
         Ok(()) | Err(Stop::ReaderLeft) => ExitCode::SUCCESS,
         Err(Stop::Refused(refusal, message)) => {
             let _ = writeln!(io::stdout(), "refused {} at {}", refusal.number, refusal.place);
+            tell(&message);
+            ExitCode::from(1)
+        }
+        Err(Stop::NoReport(message)) => {
             tell(&message);
             ExitCode::from(1)
         }

@@ -132,6 +132,16 @@ pub fn of_write(refusal: Refusal) -> String {
     format!("refused {number} at {place}: {what}; that should not happen and is a fault of lsmap")
 }
 
+/// The message for a refusal of a call for reports. Only a map that was accepted is added: all but 16 is lsmap's fault.
+pub fn of_report(refusal: Refusal) -> String {
+    let Refusal { number, place } = refusal;
+    let what = match number {
+        16 => "with it a total, the number of maps or the map of the greatest LS would no longer fit 64 bits",
+        _ => "the map's own shape or settings are not taken, which is a fault of lsmap",
+    };
+    format!("refused {number} at {place}: {what}")
+}
+
 #[cfg(test)]
 mod tests {
     use super::*;
@@ -247,5 +257,14 @@ mod tests {
         assert!(said(13, 0).starts_with("refused 13 at 0: the text is longer than the room for it;"));
         assert!(said(5, 8).starts_with("refused 5 at 8: a height is from -500 to 9000 m"));
         assert!([1, 2, 3, 5, 7, 13].iter().all(|&number| said(number, 0).ends_with("is a fault of lsmap")));
+    }
+
+    #[test]
+    fn a_report_that_is_full_is_told() {
+        let said = |number| of_report(Refusal { number, place: 0 });
+        assert!(
+            said(16).starts_with("refused 16 at 0: with it a total, the number of maps or the map of the greatest LS")
+        );
+        assert!([1, 2, 4].iter().all(|&number| said(number).ends_with("which is a fault of lsmap")));
     }
 }

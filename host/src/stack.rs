@@ -15,7 +15,7 @@ struct Lent {
     room: Vec<u8>,
 }
 
-/// Reads, maps and writes a field; before it the floats are read into the same ground.
+/// Reads, maps, writes and reports a field; before it the floats are read into the same ground.
 fn calls([text, floats, alone]: &[Vec<u8>; 3], settings: Settings, lent: &mut Lent) -> Result<(), Refusal> {
     let Lent { ground, grids, room } = lent;
     library::read_floats(alone, floats, ground)?;
@@ -25,7 +25,10 @@ fn calls([text, floats, alone]: &[Vec<u8>; 3], settings: Settings, lent: &mut Le
     library::write(header, corners, Numbers::Heights(&grids.filled), room)?;
     library::write(header, corners, Numbers::Counts(&grids.count), room)?;
     library::write(header, corners, Numbers::Factors(&grids.factors), room)?;
-    Ok(())
+    let mut report = library::empty_report();
+    library::add(&mut report, header, settings, &grids.count, &grids.factors)?;
+    let other = report;
+    library::join(&mut report, &other)
 }
 
 fn main() {

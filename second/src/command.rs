@@ -1,11 +1,12 @@
 //! What the command line asks for, and doing it.
 
-use crate::checks::{compare, floats, full, selfcheck, texts};
+use crate::checks::{compare, floats, full, reports, selfcheck, texts};
 use crate::rules::grid::MOST_ROWS;
 use crate::rules::grid_texts::{grid_texts, NAMES};
 use crate::rules::program::Program;
 use crate::rules::refusal::Refusal;
-use crate::rules::settings::{Formula, Settings};
+use crate::rules::report::{mapped, report};
+use crate::rules::settings::{Channel, Formula, Settings, LIBRARY};
 use crate::rules::sheet::sheet;
 use crate::texts::{cases, float_grids, telling, terrains};
 use std::io::{self, Read, Write};
@@ -15,6 +16,8 @@ pub const USAGE: &str = "usage: second sheet [--program PROGRAM] [--steepness FO
        second text [--program PROGRAM] [--steepness FORMULA] GRID < TEXT
            PROGRAM: printer job, printer if not named; FORMULA: older newer, the program's if not named;
            GRID: ground filled count ls
+       second report [--low X] [--high X] [--channel RULE] [--steepness FORMULA] FIELD...
+           RULE: none cells:N percent:P; the library's settings where they are not named
        second as-floats < TEXT
        second cases SEED N
        second telling SEED N
@@ -24,6 +27,7 @@ pub const USAGE: &str = "usage: second sheet [--program PROGRAM] [--steepness FO
        second full SIZE PROGRAM...
        second texts SEED N PROGRAM...
        second floats SEED N PROGRAM...
+       second reports SEED N PROGRAM...
        second selfcheck";
 
 /// A command with its words read; programs are given as their words.
@@ -32,6 +36,7 @@ pub enum Command<'a> {
     Sheet { settings: Settings },
     Sheets { settings: Settings },
     Text { settings: Settings, grid: usize },
+    Report { settings: Settings, fields: &'a [&'a str] },
     AsFloats,
     Cases { seed: u64, number: usize },
     Telling { seed: u64, number: usize },
@@ -41,6 +46,7 @@ pub enum Command<'a> {
     Full { size: usize, program: &'a [&'a str] },
     Texts { seed: u64, number: usize, program: &'a [&'a str] },
     Floats { seed: u64, number: usize, program: &'a [&'a str] },
+    Reports { seed: u64, number: usize, program: &'a [&'a str] },
     Selfcheck,
 }
 
@@ -73,14 +79,37 @@ fn sheets(stream: &[u8], settings: Settings) -> io::Result<String> {
 
 /// The text of a grid of a field's map; a refusal as a sheet has it.
 fn grid_text(text: &[u8], settings: Settings, grid: usize) -> Vec<u8> {
-    let refused = |Refusal { number, place }| format!("refused {number} at {place}\n").into_bytes();
+    let refused = |refusal: Refusal| format!("{refusal}\n").into_bytes();
     grid_texts(text, settings).map_or_else(refused, |texts| texts[grid].clone())
+}
+
+/// The settings that words name, each after its flag, and the words after them.
+fn settings<'a>(mut settings: Settings, words: &'a [&'a str]) -> Option<(Settings, &'a [&'a str])> {
+    let [flag, value, rest @ ..] = words else { return Some((settings, words)) };
+    match *flag {
+        "--low" => settings.low = whole(value)?,
+        "--high" => settings.high = whole(value)?,
+        "--channel" => settings.channel = Channel::of(value)?,
+        "--steepness" => settings.formula = Formula::of(value)?,
+        _ => return Some((settings, words)),
+    }
+    self::settings(settings, rest)
+}
+
+/// The lines of the report on fields, or the first that is refused.
+fn report_lines(settings: Settings, fields: &[&str]) -> io::Result<String> {
+    let mut maps = Vec::new();
+    for field in fields {
+        let wrong = |why: String| io::Error::other(format!("{field}: {why}"));
+        let text = std::fs::read(field).map_err(|why| wrong(why.to_string()))?;
+        maps.push(mapped(&text, settings).map_err(|refusal| wrong(refusal.to_string()))?);
+    }
+    report(&maps).map(|report| report.lines()).map_err(|refusal| io::Error::other(refusal.to_string()))
 }
 
 /// The heights of a text as floats.
 fn as_floats(text: &[u8]) -> io::Result<Vec<u8>> {
-    let refused = |Refusal { number, place }| io::Error::other(format!("refused {number} at {place}"));
-    float_grids::of_text(text).map_err(refused)
+    float_grids::of_text(text).map_err(|refusal| io::Error::other(refusal.to_string()))
 }
 
 /// The number of telling texts in a framed stream.
@@ -141,6 +170,13 @@ impl<'a> Command<'a> {
             ["floats", seed, number, program @ ..] if !program.is_empty() => {
                 Command::Floats { seed: whole(seed)?, number: whole(number)?, program }
             }
+            ["reports", seed, number, program @ ..] if !program.is_empty() => {
+                Command::Reports { seed: whole(seed)?, number: whole(number)?, program }
+            }
+            ["report", words @ ..] => {
+                let (settings, fields) = settings(LIBRARY, words)?;
+                (!fields.iter().any(|field| field.starts_with("--"))).then_some(Command::Report { settings, fields })?
+            }
             ["selfcheck"] => Command::Selfcheck,
             _ => return None,
         })
@@ -153,6 +189,7 @@ impl<'a> Command<'a> {
             Command::Sheet { settings } => output.write_all(sheet(&standard_input()?, settings).as_bytes()),
             Command::Sheets { settings } => output.write_all(sheets(&standard_input()?, settings)?.as_bytes()),
             Command::Text { settings, grid } => output.write_all(&grid_text(&standard_input()?, settings, grid)),
+            Command::Report { settings, fields } => output.write_all(report_lines(settings, fields)?.as_bytes()),
             Command::AsFloats => output.write_all(&as_floats(&standard_input()?)?),
             Command::Cases { seed, number } => output.write_all(&cases::stream(cases::case, seed, number)),
             Command::Telling { seed, number } => output.write_all(&cases::stream(telling::text, seed, number)),
@@ -162,6 +199,7 @@ impl<'a> Command<'a> {
             Command::Full { size, program } => full::compare(size, program),
             Command::Texts { seed, number, program } => texts::compare(seed, number, program),
             Command::Floats { seed, number, program } => floats::compare(seed, number, program),
+            Command::Reports { seed, number, program } => reports::compare(seed, number, program),
             Command::Selfcheck => {
                 selfcheck::selfcheck();
                 Ok(())
@@ -209,6 +247,19 @@ mod tests {
         assert_eq!(Command::of(&["compare", "--program", "job", "1", "10", "valgrind", "job"]), compare(job));
     }
 
+    /// The library's settings, where none are named.
+    #[test]
+    fn reports_have_settings_and_fields() {
+        let report = |settings, fields| Some(Command::Report { settings, fields });
+        assert_eq!(Command::of(&["report", "a.asc", "b.asc"]), report(LIBRARY, &["a.asc", "b.asc"]));
+        assert_eq!(Command::of(&["report"]), report(LIBRARY, &[]));
+        let settings = Settings { low: 0.2, high: 0.3, channel: Channel::Cells(4), formula: Formula::Newer };
+        let line = "report --steepness newer --high 0.3 --low 0.2 --channel cells:4 a.asc";
+        assert_eq!(Command::of(&line.split(' ').collect::<Vec<_>>()), report(settings, &["a.asc"]));
+        let reports = Command::Reports { seed: 1, number: 50, program: &["lsmap"] };
+        assert_eq!(Command::of(&["reports", "1", "50", "lsmap"]), Some(reports));
+    }
+
     /// The formula may be another than the program's.
     #[test]
     fn commands_under_a_formula() {
@@ -222,7 +273,7 @@ mod tests {
 
     #[test]
     fn other_words_are_a_usage_error() {
-        let wrong: [&[&str]; 30] = [
+        let wrong: [&[&str]; 34] = [
             &[],
             &["sheet", "field.asc"],
             &["sheet", "--program"],
@@ -253,6 +304,10 @@ mod tests {
             &["texts", "1", "50"],
             &["floats", "1", "50"],
             &["as-floats", "field.asc"],
+            &["report", "--low", "half", "field.asc"],
+            &["report", "--low"],
+            &["report", "field.asc", "--low", "0.5"],
+            &["reports", "1", "50"],
         ];
         wrong.iter().for_each(|words| assert_eq!(Command::of(words), None));
     }

@@ -14,7 +14,7 @@ fn larger(a: u32, b: u32) -> u32
 }
 
 // The largest flow count.
-pub(crate) fn largest(count: &[u32]) -> u32
+pub fn largest(count: &[u32]) -> u32
     ensures { λ r. ⌜ r ≡ largestOf (length (now (count .entry))) (now (count .entry)) ⌝ }
 {
     let mut most: u32 = 0;
@@ -27,7 +27,7 @@ pub(crate) fn largest(count: &[u32]) -> u32
 }
 
 // The greatest count up to the largest that is no channel's.
-pub(crate) fn channel_bound(threshold: Threshold, largest: u32) -> u64
+pub fn channel_bound(threshold: Threshold, largest: u32) -> u64
     ensures { λ r. ⌜ ((c : ℕ) → c ≤ largest → ltb r c ≡ isChannel threshold largest c) ⌝ }
 {
     match threshold {

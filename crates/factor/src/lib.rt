@@ -19,6 +19,8 @@ mod tests;
 mod thresholds;
 
 pub use cell::TOO_LONG;
+pub use channel::channel_bound;
+pub use channel::largest;
 pub use settings::Channel;
 pub use settings::Settings;
 pub use tests::Judgement;

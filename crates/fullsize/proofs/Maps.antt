@@ -6,10 +6,8 @@ use mathlib.Core.List.{List, [], _∷_, _++_}
 use Prim.Native.Nat.{ℕ, _*_, _≤_, _<_}
 use native.Mathlib.Omega.{arith}
 use lib.IntN.{ℤ}
-use lib.Dec.{leb}
-use borrow.Author.Tests.{le-leb, lt-leb}
 use Rattle.laws.specs.Tests.{Test, passed, failed, verdict}
-use Rattle.laws.proofs.Verdicts.{test-yes, test-no, verdict-next, verdict-stops, verdict-before, verdict-after, Numbered, test-numbered, verdict-numbered}
+use Rattle.laws.proofs.Verdicts.{verdict-next, verdict-stops, verdict-before, verdict-after, Numbered, verdict-numbered}
 use Rattle.text.specs.Ranges.{heightTest}
 use Rattle.settings.specs.declared.Settings.{Settings}
 use Rattle.terrain.specs.Drainage.{Totals}
@@ -21,34 +19,7 @@ use Rattle.factor.proofs.Judging.{answer-some, first-numbered, heights-numbered
 use Rattle.fullsize.specs.Crossing.{formulaTest}
 use Rattle.fullsize.specs.Mapping.{judgedBy, answerBy, afterBy}
 use Rattle.fullsize.specs.InnerMapping.{withoutFormula}
-
--- ---- the number of the formula
-
-formula-passes : (n : ℕ) → n ≤ 1 → formulaTest n ≡ passed
-unfolding formulaTest
-formula-passes n h = test-yes 4 7 (le-leb n 1 h)
-
-formula-fails : (n : ℕ) → 1 < n → formulaTest n ≡ failed 4 7
-unfolding formulaTest
-formula-fails n h = test-no 4 7 (lt-leb n 1 h)
-
-formula-numbered : (n : ℕ) → Numbered (formulaTest n)
-unfolding formulaTest
-formula-numbered n = test-numbered (leb n 1) 4 7 (omega arith)
-
--- two lists of tests after a third decide alike, if they do by themselves
-verdict-same : (l m n : List Test) → verdict m ≡ verdict n → verdict (l ++ m) ≡ verdict (l ++ n)
-unfolding verdict
-verdict-same [] m n e = e
-verdict-same (passed ∷ l) m n e = verdict-same l m n e
-verdict-same (failed number place ∷ l) m n e = refl
-
--- a refusal by either of two lists of tests has a number
-joined-numbered : (l m : List Test) → Numbered (verdict l) → Numbered (verdict m) → Numbered (verdict (l ++ m))
-unfolding verdict
-joined-numbered [] m h i = i
-joined-numbered (passed ∷ l) m h i = joined-numbered l m h i
-joined-numbered (failed number place ∷ l) m h i = h
+use Rattle.fullsize.proofs.Formulas.{formula-passes, formula-fails, formula-numbered, verdict-same, joined-numbered}
 
 module _ (rows cols side : ℕ) (settings : Settings) (formula : ℕ) (ground : List ℤ) (g : Grids) where
   abbrev first : List Test

@@ -6,8 +6,10 @@
 mod answers;
 mod crossing;
 mod mapping;
+mod reports;
 
 ghost use mathlib.Core.Path.{_≡_};
+ghost use mathlib.Core.List.{[]};
 ghost use Rattle.text.specs.Answers.{headerAnswer, cornersAnswer, gridAnswer};
 ghost use Rattle.floats.specs.Answers.{floatsAnswer};
 ghost use Rattle.settings.specs.Settings.{defaultSettings};
@@ -20,7 +22,12 @@ ghost use Rattle.writer.specs.Rooms.{roomFor, Holds};
 ghost use Rattle.fullsize.specs.Outcomes.{gridReading};
 ghost use Rattle.fullsize.specs.Crossing.{numbersOf, settingsOf};
 ghost use Rattle.fullsize.specs.Mapping.{answerBy, afterBy};
+ghost use Rattle.report.specs.Maps.{mapOf};
+ghost use Rattle.report.specs.Reports.{reportOf};
+ghost use Rattle.report.specs.Answers.{afterJoin};
+ghost use Rattle.fullsize.specs.Reporting.{reportFrom, numbersFrom, reportingFor, reportingAfter, addedBy};
 ghost use Rattle.fullsize.specs.Lent.{readingAfter, cornersAfter, mappingAfter, numbersAfter, writingAfter};
+use report::Report;
 use settings::Settings;
 
 // Reads the header alone: `text::read_header`. The last four numbers tell where the words of the two corner numbers stand.
@@ -225,4 +232,55 @@ pub extern "C" fn lsmap_room(rows: usize, columns: usize) -> usize
     ensures holds { λ r. ⌜ Holds rows columns r ⌝ }
 {
     writer::room(rows, columns)
+}
+
+// The report of no maps, as fourteen numbers: `Report::empty`.
+#[no_mangle]
+pub extern "C" fn lsmap_report_empty(report: &mut [u64; 14])
+    ensures { λ _. ⌜ now (report .exit) ≡ numbersFrom (reportOf []) ⌝ }
+{
+    let none = Report::empty();
+    reports::hand_out(none, report)
+}
+
+// Adds a map to a report: `report::add`, with the settings of the six numbers.
+#[no_mangle]
+pub extern "C" fn lsmap_report_add(
+    rows: usize,
+    columns: usize,
+    low: f64,
+    high: f64,
+    kind: u32,
+    cells: u32,
+    percentage: f64,
+    formula: u32,
+    count: &[u32],
+    factors: &[u32],
+    report: &mut [u64; 14],
+    place: &mut usize,
+) -> u32
+    ensures { λ r. ⌜ reportingAfter r place report
+        ≡ reportingFor (now (report .entry)) (addedBy (reportFrom (now (report .entry)))
+        (mapOf rows columns (settingsOf low high kind cells percentage formula) (now (count .entry)) (now (factors .entry))) formula) ⌝ }
+{
+    let settings = crossing::settings_of(low, high, kind, cells, percentage, formula);
+    let before = reports::report_of(report);
+    let reported = reports::add(before, rows, columns, settings, formula, count, factors);
+    reports::hand_out_reported(reported, report, place)
+}
+
+// Joins a second report to a first: `report::join`.
+#[no_mangle]
+pub extern "C" fn lsmap_report_join(
+    report: &mut [u64; 14],
+    other: &[u64; 14],
+    place: &mut usize,
+) -> u32
+    ensures { λ r. ⌜ reportingAfter r place report
+        ≡ reportingFor (now (report .entry)) (afterJoin (reportFrom (now (report .entry))) (reportFrom (now (other .entry)))) ⌝ }
+{
+    let before = reports::report_of(report);
+    let after = reports::report_of(other);
+    let reported = report::join(before, after);
+    reports::hand_out_reported(reported, report, place)
 }

@@ -37,7 +37,7 @@ impl Files {
 fn same_refusal(program: &[&str], settings: Settings, files: &Files, refusal: Refusal) -> io::Result<()> {
     let words = [Path::new("--floats"), &files.floats, &files.header];
     let output = output(program, settings, &files.texts, &words)?;
-    let line = format!("refused {} at {}\n", refusal.number, refusal.place);
+    let line = format!("{refusal}\n");
     if output.status.code() == Some(1) && output.stdout == line.as_bytes() && !files.texts.exists() {
         return Ok(());
     }

@@ -5,6 +5,7 @@ pub mod compare;
 mod fast_ways;
 pub mod floats;
 pub mod full;
+pub mod reports;
 mod second_ways;
 pub mod selfcheck;
 pub mod texts;

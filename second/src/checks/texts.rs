@@ -5,7 +5,7 @@
 use super::compare::difference_file;
 use super::second_ways::any_settings;
 use crate::rules::grid_texts::{grid_texts, NAMES};
-use crate::rules::settings::{Channel, Settings};
+use crate::rules::settings::Settings;
 use crate::rules::text::{read_grid, read_header, Header};
 use crate::texts::cornered;
 use crate::texts::seed::Seed;
@@ -22,11 +22,7 @@ fn case(seed: u64, number: usize) -> (Vec<u8>, Settings) {
 
 /// The settings as the program's words.
 pub fn words(settings: Settings) -> [String; 8] {
-    let channel = match settings.channel {
-        Channel::None => "none".to_string(),
-        Channel::Cells(cells) => format!("cells:{cells}"),
-        Channel::Percentage(share) => format!("percent:{share}"),
-    };
+    let channel = settings.channel.word();
     let [low, high] = [settings.low, settings.high].map(|cutoff| cutoff.to_string());
     let formula = settings.formula.name().to_string();
     ["--channel".into(), channel, "--low".into(), low, "--high".into(), high, "--steepness".into(), formula]

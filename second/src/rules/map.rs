@@ -20,12 +20,15 @@ pub struct Map {
     pub longest: usize,
 }
 
+/// 1: rows or columns 0 or above 1,024.
+pub fn judge_shape(shape: Shape) -> Result<(), Refusal> {
+    let good = 1..=MOST_ROWS;
+    if good.contains(&shape.rows) && good.contains(&shape.columns) { Ok(()) } else { refuse(refusal::SHAPE, 0) }
+}
+
 /// The map call tests 1, 2, 3, 4, 5 in that order, 5 at the first bad cell in row order.
 pub fn judge(shape: Shape, side: i64, ground: &[i32], settings: Settings) -> Result<Percents, Refusal> {
-    let good = 1..=MOST_ROWS;
-    if !good.contains(&shape.rows) || !good.contains(&shape.columns) {
-        return refuse(refusal::SHAPE, 0);
-    }
+    judge_shape(shape)?;
     if ground.len() != shape.cells() {
         return refuse(refusal::LENT, 0);
     }

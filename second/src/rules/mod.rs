@@ -1,4 +1,4 @@
-//! The rules of docs/RULES.md read literally: the readers, the map, the sheet and the writer.
+//! The rules of docs/RULES.md read literally: the readers, the map, the sheet, the writer and the report.
 
 mod big;
 pub mod direction;
@@ -13,6 +13,7 @@ pub mod map;
 mod number;
 pub mod program;
 pub mod refusal;
+pub mod report;
 pub mod settings;
 pub mod sheet;
 pub mod text;

@@ -7,6 +7,12 @@ pub struct Refusal {
     pub place: usize,
 }
 
+impl std::fmt::Display for Refusal {
+    fn fmt(&self, f: &mut std::fmt::Formatter) -> std::fmt::Result {
+        write!(f, "refused {} at {}", self.number, self.place)
+    }
+}
+
 /// The answer of a call that refuses.
 pub fn refuse<T>(number: u32, place: usize) -> Result<T, Refusal> {
     Err(Refusal { number, place })
@@ -27,3 +33,4 @@ pub const COMMA: u32 = 12;
 pub const ROOM: u32 = 13;
 pub const BYTES: u32 = 14;
 pub const NOT_FINITE: u32 = 15;
+pub const FULL: u32 = 16;

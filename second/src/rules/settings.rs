@@ -10,6 +10,27 @@ pub enum Channel {
     None,
 }
 
+impl Channel {
+    /// The channel rule's word on a command line.
+    pub fn word(self) -> String {
+        match self {
+            Channel::None => "none".to_string(),
+            Channel::Cells(cells) => format!("cells:{cells}"),
+            Channel::Percentage(share) => format!("percent:{share}"),
+        }
+    }
+
+    /// The channel rule of this word.
+    pub fn of(word: &str) -> Option<Channel> {
+        match word.split_once(':') {
+            None if word == "none" => Some(Channel::None),
+            Some(("cells", cells)) => cells.parse().ok().map(Channel::Cells),
+            Some(("percent", share)) => share.parse().ok().map(Channel::Percentage),
+            _ => None,
+        }
+    }
+}
+
 /// The formula of S: the older one of Handbook 537, or the newer one of Handbook 703 (RUSLE).
 #[derive(Clone, Copy, Debug, PartialEq, Eq)]
 pub enum Formula {
@@ -49,6 +70,10 @@ pub const PRINTER: Settings = Settings { low: 0.5, high: 0.5, channel: Channel::
 
 /// The job's settings: the printer's, with channels from 1 percent of the largest flow count.
 pub const JOB: Settings = Settings { channel: Channel::Percentage(1.0), ..PRINTER };
+
+/// The library's defaults.
+pub const LIBRARY: Settings =
+    Settings { low: 0.7, high: 0.5, channel: Channel::Percentage(1.0), formula: Formula::Older };
 
 /// The channel rule with its percentage in tenths.
 #[derive(Clone, Copy)]
@@ -124,6 +149,13 @@ mod tests {
         assert_eq!(place(bad), Err(1));
         assert_eq!(place(Settings { low: 0.5, high: 0.005, ..bad }), Err(2));
         assert_eq!(place(Settings { low: 0.5, high: 0.5, ..bad }), Err(3));
+    }
+
+    #[test]
+    fn channels_have_their_words() {
+        let channels = [Channel::None, Channel::Cells(7), Channel::Percentage(0.5)];
+        assert_eq!(channels.map(|channel| Channel::of(&channel.word())), channels.map(Some));
+        assert_eq!(["", "None", "cells:", "cells:-1", "percent:x", "7"].map(Channel::of), [None; 6]);
     }
 
     /// A formula is accepted and handed on.

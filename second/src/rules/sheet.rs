@@ -54,7 +54,7 @@ fn accepted(text: &[u8], settings: Settings) -> Result<String, Refusal> {
 
 /// The sheet under these settings; a refusal prints `refused 7 at 52` and nothing else.
 pub fn sheet(text: &[u8], settings: Settings) -> String {
-    accepted(text, settings).unwrap_or_else(|Refusal { number, place }| format!("refused {number} at {place}\n"))
+    accepted(text, settings).unwrap_or_else(|refusal| format!("{refusal}\n"))
 }
 
 #[cfg(test)]

@@ -11,3 +11,4 @@ pub mod seed;
 pub mod spelling;
 pub mod telling;
 pub mod terrains;
+pub mod valleys;
