@@ -157,6 +157,7 @@ texts() {
     "$lsmap" corners.asc $printers --text deep/texts | cmp - "$root/host/pit.txt" || fail "the sheet beside the texts"
     holds deep/texts/ground.asc 3 3 10.00 '5.00 5.00 5.00\n5.00 2.00 4.00\n5.00 5.00 5.00'
     holds deep/texts/filled.asc 3 3 10.00 '5.00 5.00 5.00\n5.00 4.00 4.00\n5.00 5.00 5.00'
+    holds deep/texts/direction.asc 3 3 10.00 '2 4 4\n1 1 0\n128 64 64'
     holds deep/texts/count.asc 3 3 10.00 '1 1 1\n1 6 9\n1 1 1'
     holds deep/texts/ls.asc 3 3 10.00 '0.39424 0.54379 0.54379\n0.54379 0.00000 0.04810\n0.39424 0.54379 0.54379'
     "$lsmap" deep/texts/ground.asc $printers --text again | cmp - "$root/host/pit.txt" || fail "the sheet of a text that was written"
@@ -164,17 +165,18 @@ texts() {
     printf 'ncols 5 nrows 1 %s cellsize 1000 nodata_value 7 -0.05 0 -0 7 -500' "$corners" >bounds.asc
     "$lsmap" - $printers --text again --quiet <bounds.asc >out
     holds again/ground.asc 5 1 1000.00 '-0.05 0.00 0.00 -9999 -500.00'
+    holds again/direction.asc 5 1 1000.00 '0 16 0 -9999 0'
     holds again/count.asc 5 1 1000.00 '2 1 1 -9999 1'
     holds again/ls.asc 5 1 1000.00 '0.00000 -9999 -9999 -9999 -9999'
     printf 'ncols 1 nrows 1 %s cellsize 0.05 9000' "$corners" >bounds.asc
     "$lsmap" bounds.asc --text again --quiet >>out
     holds again/filled.asc 1 1 0.05 9000.00
-    [ ! -s out ] && [ "$(ls -A again | tr '\n' ' ')" = 'count.asc filled.asc ground.asc ls.asc ' ] || fail "--quiet, or a text's part is left"
+    [ ! -s out ] && [ "$(ls -A again | tr '\n' ' ')" = 'count.asc direction.asc filled.asc ground.asc ls.asc ' ] || fail "--quiet, or a text's part is left"
     ends 0 corners.asc $printers --text unread
     diff -r deep/texts unread || fail "the texts beside a broken pipe"
 }
 
-# None of the four texts where one can't be written.
+# None of the five texts where one can't be written.
 no_texts() {
     stops 1 'refused 12 at 54' 'comma.asc: refused 12' comma.asc --text none.d --quiet
     stops 2 '' 'cannot make pit.asc' pit.asc --text pit.asc
@@ -184,7 +186,7 @@ no_texts() {
     mkdir again/ls.asc
     stops 2 '' 'cannot write again/ls.asc: Is a directory' pit.asc --text again
     holds again/ground.asc 1 1 0.05 9000.00
-    [ "$(ls -A again | wc -l)" -eq 4 ] || fail "a text's part is left"
+    [ "$(ls -A again | wc -l)" -eq 5 ] || fail "a text's part is left"
 }
 
 # Without a sheet: nothing is said of a field that is accepted.
@@ -308,7 +310,7 @@ limit() {
 
 # unharmed WHAT: each text in the folder is the old one, or the new one where it had the time for all.
 unharmed() {
-    for name in ground filled count ls; do
+    for name in ground filled direction count ls; do
         [ "$(cat "kept/$name.asc")" = old ] || { [ "$1" = killed ] && cmp -s "kept/$name.asc" "whole/$name.asc"; } || fail "$1: half a text $name"
     done
 }
@@ -316,12 +318,12 @@ unharmed() {
 # A run that can't write its last text, or is ended while it writes, leaves no half text.
 broken_texts() {
     mkdir kept
-    for name in ground filled count ls; do echo old >"kept/$name.asc"; done
+    for name in ground filled direction count ls; do echo old >"kept/$name.asc"; done
     "$lsmap" full.asc --text whole --quiet
     got=0
     (trap '' XFSZ; limit; "$lsmap" full.asc --text kept --quiet 2>err) || got=$?
     [ "$got" -eq 2 ] && grep -qx 'lsmap: cannot write kept/ls.asc: File too large' err || fail "a text that may not grow"
-    [ "$(ls -A kept | wc -l)" -eq 4 ] || fail "a text's part is left"
+    [ "$(ls -A kept | wc -l)" -eq 5 ] || fail "a text's part is left"
     unharmed 'a text that may not grow'
     got=0
     { (limit; exec "$lsmap" full.asc --text kept --quiet) || got=$?; } 2>err

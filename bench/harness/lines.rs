@@ -1,7 +1,7 @@
 //! Measurements as lines, so that those of several layouts can be put together: layout, terrain, size, the milliseconds
 //! of both sides for the map, for reading the text, for writing one, for reading floats and for a report, those of the
-//! measured side for the map under the newer formula, those of another commit's library for the map or `-`, the bytes that
-//! are read, those that are written and those of the floats, the peak.
+//! measured side for the map under the newer formula and with our own directions given back, those of another commit's
+//! library for the map or `-`, the bytes that are read, those that are written and those of the floats, the peak.
 
 use crate::files::field;
 use crate::layout::BYTES;
@@ -36,11 +36,13 @@ pub fn print(rounds: usize, folder: &Path) -> Result<(), String> {
         for (size, rounds) in [(SMALL, MORE_ROUNDS * rounds), (LARGE, rounds)] {
             let (text, lent) = field(&folder.join(format!("{terrain}-{size}.asc")))?;
             let found = measure(rounds, &text, lent);
-            let Found { map, text, write, floats, report, newer, before, bytes, written, float_bytes, peak } = found;
+            let Found { map, text, write, floats, report, newer, given, before, bytes, written, float_bytes, peak } =
+                found;
             let pairs = [map, text, write, floats, report];
             let times = pairs.map(|pair| format!("{} {}", word(pair.measured), word(pair.plain)));
-            let (times, newer, before) = (times.join(" "), word(newer), before.map_or(NONE.into(), word));
-            println!("{BYTES} {terrain} {size} {times} {newer} {before} {bytes} {written} {float_bytes} {peak}");
+            let own = [newer, given].map(word).join(" ");
+            let (times, before) = (times.join(" "), before.map_or(NONE.into(), word));
+            println!("{BYTES} {terrain} {size} {times} {own} {before} {bytes} {written} {float_bytes} {peak}");
         }
     }
     Ok(())
@@ -49,7 +51,8 @@ pub fn print(rounds: usize, folder: &Path) -> Result<(), String> {
 /// The measurement of a line.
 pub fn parse(line: &str) -> Option<Line> {
     let words: Vec<&str> = line.split_whitespace().collect();
-    let &[layout, terrain, size, ref times @ .., newer, before, bytes, written, float_bytes, peak] = &words[..] else {
+    let &[layout, terrain, size, ref times @ .., newer, given, before, bytes, written, float_bytes, peak] = &words[..]
+    else {
         return None;
     };
     let times: Option<Vec<f64>> = times.iter().map(|word| word.parse().ok()).collect();
@@ -63,6 +66,7 @@ pub fn parse(line: &str) -> Option<Line> {
         floats,
         report,
         newer: newer.parse().ok()?,
+        given: given.parse().ok()?,
         before: if before == NONE { None } else { Some(before.parse().ok()?) },
         bytes: bytes.parse().ok()?,
         written: written.parse().ok()?,

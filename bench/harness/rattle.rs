@@ -1,9 +1,9 @@
 //! The proved library as a side: crates/fullsize, through the declarations of the program that lends it memory, under the
-//! older steepness formula and under the newer; and the library of another commit, through its own declarations with other
-//! names, which the build makes.
+//! older steepness formula, under the newer, and by given directions; and the library of another commit, through its own
+//! declarations with other names, which the build makes.
 
 #[path = "../../host/src/library.rs"]
-#[allow(dead_code, reason = "default settings, texts of counts and LS and joined reports are the other program's")]
+#[allow(dead_code, reason = "default settings, texts of other grids and joined reports are the other program's")]
 mod library;
 
 #[cfg(before)]
@@ -15,10 +15,10 @@ mod before {
 use crate::lent::{Lent, Reported, Side, CUTOFF, PERCENTAGE};
 use std::mem::take;
 
-/// The side of a library that a module declares. Cutoffs as in every measurement, no channels and the older formula, but
-/// for the settings that are given.
+/// The side of a library that a module declares, with its map call. Cutoffs as in every measurement, no channels and the
+/// older formula, but for the settings that are named.
 macro_rules! side {
-    ($name:literal, $library:ident $(, $setting:ident: $value:expr)*) => {{
+    ($name:literal, $library:ident, $map:ident $(, $setting:ident: $value:expr)*) => {{
         use $library::{Corners, Grids, Header, Numbers, Settings};
 
         fn read(text: &[u8], heights: &mut [i32]) {
@@ -45,7 +45,7 @@ macro_rules! side {
                 workspace: take(&mut lent.workspace),
             };
             let settings = Settings { low: CUTOFF, high: CUTOFF, $($setting: $value,)* ..Settings::default() };
-            let totals = $library::map(header(lent), settings, &lent.ground, &mut grids);
+            let totals = $library::$map(header(lent), settings, &lent.ground, &mut grids);
             let totals = totals.ok().expect("a terrain is accepted");
             lent.answer = (totals.valid, totals.longest);
             Grids {
@@ -68,8 +68,11 @@ macro_rules! side {
     }};
 }
 
-pub const RATTLE: Side = side!("rattle", library);
-pub const NEWER: Side = side!("rattle newer", library, formula: 1);
+pub const RATTLE: Side = side!("rattle", library, map);
+pub const NEWER: Side = side!("rattle newer", library, map, formula: 1);
+
+/// By the directions that stand in the lent grid, and stay there.
+pub const GIVEN: Side = side!("rattle given", library, map_given);
 
 /// Adds the map to an empty report.
 pub fn report(lent: &Lent) -> Reported {
@@ -83,4 +86,4 @@ pub fn report(lent: &Lent) -> Reported {
 }
 
 #[cfg(before)]
-pub const BEFORE: Side = side!("before", before);
+pub const BEFORE: Side = side!("before", before, map);

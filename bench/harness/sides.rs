@@ -68,6 +68,12 @@ pub const NEWER: Side = crate::rattle::NEWER;
 #[cfg(not(rattle))]
 pub const NEWER: Side = PLAIN_NEWER;
 
+/// The measured side with our own directions given back; the plain program's map call where the library is not built.
+#[cfg(rattle)]
+pub const GIVEN: Side = crate::rattle::GIVEN;
+#[cfg(not(rattle))]
+pub const GIVEN: Side = PLAIN;
+
 /// A report by the measured side, and by the plain one.
 #[cfg(rattle)]
 pub const REPORTS: [fn(&Lent) -> Reported; 2] = [crate::rattle::report, plain_report];

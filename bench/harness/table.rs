@@ -51,6 +51,7 @@ fn print_lines(lines: &[Line], terrain: &str, small: &Found, large: &Found) {
     println!("ratio report {terrain} {:.3}", large.report.ratio());
     println!("share report {terrain} {:.4}", large.share_report());
     println!("ratio newer {terrain} {:.3}", large.ratio_newer());
+    println!("ratio given {terrain} {:.3}", large.ratio_given());
     if let Some(ratio) = large.ratio_before() {
         println!("ratio before {terrain} {ratio:.3}");
     }

@@ -10,6 +10,7 @@ mod factor;
 mod fill;
 mod flat;
 mod floats;
+mod given;
 mod length;
 mod map;
 mod queue;
@@ -22,11 +23,11 @@ mod trail;
 mod write;
 
 pub use floats::read_floats;
-pub use map::{map, Grids};
+pub use map::{map, map_given, Grids};
 pub use report::{add, join, Greatest, Report};
 pub use settings::{Channel, Formula, Settings};
 pub use text::{read_grid, read_header, Header, Span};
-pub use write::{room, write_counts, write_factors, write_heights, Frame};
+pub use write::{room, write_codes, write_counts, write_factors, write_heights, Frame};
 
 /// docs/RULES.md, 1 Quantities: NoData as a height, as a code and as a factor, which is its fall too; and a factor that
 /// is too long.

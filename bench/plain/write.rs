@@ -2,7 +2,7 @@
 //! written. docs/RULES.md, 10 The text that is written.
 
 use crate::text::is_number;
-use crate::{refuse, Refusal, NODATA, NO_FACTOR, TOO_LONG};
+use crate::{refuse, Refusal, NODATA, NO_CODE, NO_FACTOR, TOO_LONG};
 
 /// What the header says; the side in cm, the corner words as they were read.
 #[derive(Clone, Copy)]
@@ -29,6 +29,7 @@ trait Kind {
 struct Heights;
 struct Counts;
 struct Factors;
+struct Codes;
 
 impl Kind for Heights {
     type Cell = i32;
@@ -62,6 +63,16 @@ impl Kind for Factors {
     #[inline]
     fn number(factor: u32) -> Option<(bool, u32)> {
         (factor != NO_FACTOR && factor != TOO_LONG).then_some((false, factor))
+    }
+}
+
+impl Kind for Codes {
+    type Cell = u8;
+    const DECIMALS: usize = 0;
+
+    #[inline]
+    fn number(code: u8) -> Option<(bool, u32)> {
+        (code != NO_CODE).then_some((false, code.into()))
     }
 }
 
@@ -203,6 +214,11 @@ pub fn write_counts(frame: Frame, counts: &[u32], room: &mut [u8]) -> Result<usi
 /// Writes LS.
 pub fn write_factors(frame: Frame, factors: &[u32], room: &mut [u8]) -> Result<usize, Refusal> {
     write::<Factors>(frame, factors, room)
+}
+
+/// Writes the codes of directions.
+pub fn write_codes(frame: Frame, codes: &[u8], room: &mut [u8]) -> Result<usize, Refusal> {
+    write::<Codes>(frame, codes, room)
 }
 
 /// Bytes in which every text of a shape has room: the longest header, and for each cell the longest word, an LS of

@@ -28,11 +28,12 @@ impl Field {
     }
 }
 
-/// What the flags ask for. With floats the field's text is a header alone. Without an output the sheet goes to standard
+/// What the flags ask for. With floats the field's text is a header alone. With directions these are given. Without an output the sheet goes to standard
 /// output, unless it is to be quiet.
 pub struct Flags {
     pub settings: Settings,
     pub floats: Option<Field>,
+    pub directions: Option<Field>,
     pub output: Option<PathBuf>,
     pub grids: Option<PathBuf>,
     pub text: Option<PathBuf>,
@@ -65,6 +66,14 @@ pub fn text(flag: &str, words: &mut Words) -> Result<String, String> {
     v.into_string().map_err(|v| format!("{flag}: {v:?} is not text"))
 }
 
+/// Whether standard input is among the files once at most.
+pub fn read_once<'a>(files: impl Iterator<Item = &'a Field>) -> Result<(), String> {
+    if files.filter(|file| matches!(file, Field::StandardInput)).count() > 1 {
+        return Err("standard input, `-`, can be read only once".to_string());
+    }
+    Ok(())
+}
+
 /// Flags that take their words and in the end the fields.
 pub trait Take: Sized {
     /// Takes a flag, and its value from the words after it.
@@ -78,6 +87,7 @@ impl Take for Flags {
     fn take(&mut self, flag: &str, words: &mut Words) -> Result<(), String> {
         match flag {
             "--floats" => self.floats = Some(Field::of(value(flag, words)?)),
+            "--directions" => self.directions = Some(Field::of(value(flag, words)?)),
             "--output" => self.output = Some(value(flag, words)?).filter(|v| v != "-").map(PathBuf::from),
             "--grids" => self.grids = Some(value(flag, words)?.into()),
             "--text" => self.text = Some(value(flag, words)?.into()),
@@ -89,7 +99,9 @@ impl Take for Flags {
     }
 
     fn asked(self, fields: Vec<OsString>) -> Result<Asked, String> {
-        Ok(Asked::Map(only(fields, self.floats.as_ref())?, self))
+        let field = only(fields, self.floats.as_ref())?;
+        read_once(std::iter::once(&field).chain(&self.floats).chain(&self.directions))?;
+        Ok(Asked::Map(field, self))
     }
 }
 
@@ -131,8 +143,8 @@ pub fn read(words: impl Iterator<Item = OsString>, settings: Settings) -> Result
     if words.next_if(|word| word == "report").is_some() {
         return take_all(report_flags::none(settings), words);
     }
-    let (floats, output, grids, text, quiet, verbose) = (None, None, None, None, false, false);
-    take_all(Flags { settings, floats, output, grids, text, quiet, verbose }, words)
+    let (floats, directions, output, grids, text) = (None, None, None, None, None);
+    take_all(Flags { settings, floats, directions, output, grids, text, quiet: false, verbose: false }, words)
 }
 
 #[cfg(test)]
@@ -201,6 +213,24 @@ mod tests {
         assert_eq!(wrong("--floats a.flt a.hdr b.hdr"), "\"b.hdr\": one field at a time");
         assert_eq!(wrong("- --floats -"), "--floats: standard input is the header or the heights, and not both");
         assert_eq!(wrong("a.hdr --floats"), "--floats wants a value");
+    }
+
+    #[test]
+    fn directions_may_be_given() {
+        let names = |line| {
+            let (name, flags) = wanted(line);
+            (flags.directions.map(|directions| directions.name()), name)
+        };
+        assert_eq!(names("a.asc"), (None, "a.asc".into()));
+        assert_eq!(names("--directions d.asc a.asc"), (Some("d.asc".into()), "a.asc".into()));
+        assert_eq!(names("a.asc --directions -"), (Some("standard input".into()), "a.asc".into()));
+        assert_eq!(names("- --directions d.asc"), (Some("d.asc".into()), "standard input".into()));
+        assert_eq!(names("--floats a.flt --directions - a.hdr").1, "a.hdr");
+        for line in ["- --directions -", "--floats - --directions - a.hdr"] {
+            assert_eq!(wrong(line), "standard input, `-`, can be read only once");
+        }
+        assert_eq!(wrong("a.asc --directions"), "--directions wants a value");
+        assert_eq!(wrong("--directions d.asc"), "no FIELD.asc is named");
     }
 
     #[test]

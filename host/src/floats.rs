@@ -1,7 +1,7 @@
 //! The floats of a field's heights as they were read, and a refusal of them in words.
 
 use crate::library::{Header, Refusal};
-use crate::messages::expected;
+use crate::messages::{cell_name, expected, metres};
 
 /// The bytes of a file of floats, and its name in a message.
 pub struct Floats {
@@ -14,12 +14,6 @@ fn shown(float: f32) -> String {
     if float.is_nan() { format!("NaN, by its bits {:08x},", float.to_bits()) } else { format!("{float:?}") }
 }
 
-/// A number of cm as metres.
-fn metres(cm: i64) -> String {
-    let sign = if cm < 0 { "-" } else { "" };
-    format!("{sign}{}.{:02}", cm.unsigned_abs() / 100, cm.unsigned_abs() % 100)
-}
-
 impl Floats {
     /// The float of a cell.
     fn of(&self, cell: usize) -> Option<f32> {
@@ -28,7 +22,6 @@ impl Floats {
 
     /// What is wrong with a cell: where it lies, its float, and what was expected.
     fn fault(&self, refusal: Refusal, header: Header) -> String {
-        let (row, column) = (refusal.place / header.columns, refusal.place % header.columns);
         let float = self.of(refusal.place).map_or_else(|| "nothing".to_string(), shown);
         let why = match refusal.number {
             15 => "is no height: a height is finite".to_string(),
@@ -40,7 +33,7 @@ impl Floats {
                 )
             }
         };
-        format!("row {row}, column {column}: {float} {why}")
+        format!("{}: {float} {why}", cell_name(refusal.place, header))
     }
 
     /// The message for a refusal of the floats under a good header.

@@ -61,6 +61,7 @@ unsafe extern "C" {
         cells: u32,
         percentage: f64,
         formula: u32,
+        given: bool,
         ground: *const i32,
         ground_len: usize,
         filled: *mut i32,
@@ -108,6 +109,22 @@ unsafe extern "C" {
         y_corner_len: usize,
         counts: *const u32,
         counts_len: usize,
+        room: *mut u8,
+        room_len: usize,
+        place: &mut usize,
+        length: &mut usize,
+    ) -> u32;
+
+    fn lsmap_write_directions(
+        rows: usize,
+        columns: usize,
+        side: u32,
+        x_corner: *const u8,
+        x_corner_len: usize,
+        y_corner: *const u8,
+        y_corner_len: usize,
+        directions: *const u8,
+        directions_len: usize,
         room: *mut u8,
         room_len: usize,
         place: &mut usize,
@@ -201,6 +218,7 @@ pub struct Grids {
 #[derive(Clone, Copy)]
 pub enum Numbers<'a> {
     Heights(&'a [i32]),
+    Directions(&'a [u8]),
     Counts(&'a [u32]),
     Factors(&'a [u32]),
 }
@@ -306,13 +324,23 @@ pub fn default_settings() -> Settings {
     s
 }
 
-/// Maps the ground into the grids.
+/// Maps the ground into the grids, by our own directions.
 pub fn map(h: Header, s: Settings, ground: &[i32], g: &mut Grids) -> Result<Totals, Refusal> {
+    map_by(false, h, s, ground, g)
+}
+
+/// Maps the ground into the grids, by the directions that stand there.
+pub fn map_given(h: Header, s: Settings, ground: &[i32], g: &mut Grids) -> Result<Totals, Refusal> {
+    map_by(true, h, s, ground, g)
+}
+
+/// The map call, with the directions given or not.
+fn map_by(given: bool, h: Header, s: Settings, ground: &[i32], g: &mut Grids) -> Result<Totals, Refusal> {
     let (mut place, mut t) = (0, Totals::default());
     #[rustfmt::skip]
     let number = unsafe {
         lsmap_map(
-            h.rows, h.columns, h.side, s.low, s.high, s.kind, s.cells, s.percentage, s.formula,
+            h.rows, h.columns, h.side, s.low, s.high, s.kind, s.cells, s.percentage, s.formula, given,
             ground.as_ptr(), ground.len(),
             g.filled.as_mut_ptr(), g.filled.len(),
             g.direction.as_mut_ptr(), g.direction.len(),
@@ -340,6 +368,9 @@ pub fn write(h: Header, c: Corners, grid: Numbers, room: &mut [u8]) -> Result<us
     let number = unsafe {
         match grid {
             Numbers::Heights(g) => lsmap_write_heights(
+                h.rows, h.columns, h.side, x, x_len, y, y_len, g.as_ptr(), g.len(), start, end, &mut place, &mut length,
+            ),
+            Numbers::Directions(g) => lsmap_write_directions(
                 h.rows, h.columns, h.side, x, x_len, y, y_len, g.as_ptr(), g.len(), start, end, &mut place, &mut length,
             ),
             Numbers::Counts(g) => lsmap_write_counts(

@@ -1,9 +1,12 @@
 //! lsmap: the LS factor of an Esri ASCII grid, or of a grid of floats with such a header; and a report over many grids.
 //! It reads the files, lends the memory to the proved library (crates/fullsize), and writes what the library answers. It
-//! judges nothing itself.
+//! judges nothing itself but that given directions have the field's shape.
 
+mod faults;
+mod files;
 mod flags;
 mod floats;
+mod given;
 mod grids;
 mod jobs;
 mod library;
@@ -18,14 +21,13 @@ mod sheet;
 mod summary;
 mod texts;
 
+use files::Files;
 use flags::{Asked, Field, Flags};
-use floats::Floats;
 use library::{Corners, Grids, Header, Refusal, Settings, Totals};
-use messages::Text;
 use output::Output;
 use std::fs;
 use std::io::{self, ErrorKind, IsTerminal, Read, Write};
-use std::path::{Path, PathBuf};
+use std::path::PathBuf;
 use std::process::ExitCode;
 use std::time::Instant;
 use texts::Texts;
@@ -80,7 +82,7 @@ fn tell_settings(s: &Settings) {
     tell(&format!("low {}, high {}, channel {channel}, steepness {steepness}", s.low, s.high));
 }
 
-/// The bytes of a field's text, or of its floats.
+/// The bytes of a file of a field, or of standard input.
 fn read(field: &Field) -> Result<Vec<u8>, Stop> {
     let mut bytes = Vec::new();
     let read = match field {
@@ -88,25 +90,6 @@ fn read(field: &Field) -> Result<Vec<u8>, Stop> {
         Field::File(path) => fs::read(path),
     };
     read.map_err(|e| Stop::CouldNotRun(format!("cannot read {}: {}", field.name(), reason(&e))))
-}
-
-/// Has the library read and map a text, or a header with its floats.
-fn map<'a>(name: &str, text: &'a [u8], floats: Option<&Floats>, settings: Settings) -> Result<Map<'a>, Stop> {
-    let kind = if floats.is_none() { Text::Grid } else { Text::Header };
-    let of_text = |r, h| Stop::Refused(r, format!("{name}: {}", messages::of_text(text, r, h, kind)));
-    let (header, corners) = library::read_header(text).map_err(|r| of_text(r, None))?;
-    let mut ground = vec![0; header.rows * header.columns];
-    let header = match floats {
-        None => library::read_grid(text, &mut ground).map_err(|r| of_text(r, Some(header)))?,
-        Some(floats) => library::read_floats(text, &floats.bytes, &mut ground).map_err(|r| match r.number {
-            10 => of_text(r, Some(header)),
-            _ => Stop::Refused(r, floats.message(r, header)),
-        })?,
-    };
-    let mut grids = Grids::new(ground.len());
-    let totals = library::map(header, settings, &ground, &mut grids)
-        .map_err(|r| Stop::Refused(r, format!("{name}: {}", messages::of_map(r, header))))?;
-    Ok(Map { header, corners, totals, ground, grids })
 }
 
 /// Writes the sheet to standard output, or to a file that appears when it is whole; the grids and the texts before it.
@@ -131,15 +114,17 @@ fn write_grids(map: &Map, flags: &Flags) -> Result<(), String> {
     texts.map_or(Ok(()), Texts::finish)
 }
 
-/// A file to be written that is the field itself, its text or its floats, with its flag.
-fn field_itself(field: &Field, flags: &Flags) -> Option<(&'static str, PathBuf)> {
-    let read = |path: &Path| {
-        let files = std::iter::once(field).chain(&flags.floats);
-        files.into_iter().any(|field| matches!(field, Field::File(file) if output::same(file, path)))
-    };
+/// A file to be written that is one to be read, with its flag and what is read there.
+fn written_over(field: &Field, flags: &Flags) -> Option<(&'static str, PathBuf, &'static str)> {
+    let heights = std::iter::once(field).chain(&flags.floats).map(|file| (file, "the field itself"));
+    let read: Vec<_> = heights.chain(flags.directions.iter().map(|file| (file, "the given directions"))).collect();
     let output = flags.output.iter().map(|path| ("--output", path.clone()));
     let texts = flags.text.iter().flat_map(|folder| texts::paths(folder)).map(|path| ("--text", path));
-    output.chain(texts).find(|(_, path)| read(path))
+    output.chain(texts).find_map(|(flag, path)| {
+        let same = |file: &Field| matches!(file, Field::File(file) if output::same(file, &path));
+        let &(_, what) = read.iter().find(|(file, _)| same(file))?;
+        Some((flag, path, what))
+    })
 }
 
 /// Reads, maps and writes one field.
@@ -147,14 +132,13 @@ fn run(field: &Field, flags: &Flags) -> Result<(), Stop> {
     let start = Instant::now();
     if flags.verbose {
         tell_settings(&flags.settings);
+        flags.directions.iter().for_each(|file| tell(&format!("directions given by {}", file.name())));
     }
-    if let Some((flag, path)) = field_itself(field, flags) {
-        return Err(Stop::CouldNotRun(format!("{flag}: {} is the field itself", path.display())));
+    if let Some((flag, path, what)) = written_over(field, flags) {
+        return Err(Stop::CouldNotRun(format!("{flag}: {} is {what}", path.display())));
     }
-    let text = read(field)?;
-    let floats = |floats: &Field| read(floats).map(|bytes| Floats { name: floats.name(), bytes });
-    let floats = flags.floats.as_ref().map(floats).transpose()?;
-    let map = map(&field.name(), &text, floats.as_ref(), flags.settings)?;
+    let files = Files::of_flags(field, flags)?;
+    let map = files.map(flags.settings)?;
     write(&map, flags)?;
     if !flags.quiet && io::stderr().is_terminal() {
         tell(&summary::line(&map, start.elapsed().as_secs_f64()));

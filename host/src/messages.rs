@@ -3,16 +3,23 @@
 use crate::library::{Header, Refusal};
 use crate::number::Word;
 
-const NAMES: &str = "expected the header's next word: ncols, nrows, xllcorner, yllcorner, cellsize, \
-    then nodata_value or the heights";
-const LONE_NAMES: &str = "expected the header's next word: ncols, nrows, xllcorner, yllcorner, cellsize, \
-    then nodata_value or the end";
+/// What the header's next word is; the end is what may follow the header.
+macro_rules! names {
+    ($end:literal) => {
+        concat!(
+            "expected the header's next word: ncols, nrows, xllcorner, yllcorner, cellsize, then nodata_value or ",
+            $end
+        )
+    };
+}
 
-/// What a text is: a whole grid, or a header alone, whose heights are floats in another file.
+/// What a text is: a whole grid of heights; a header alone, whose heights are floats in another file; or a whole grid of
+/// given directions.
 #[derive(Clone, Copy)]
 pub enum Text {
     Grid,
     Header,
+    Codes,
 }
 
 /// What refusals 1 to 10 of the text's calls expect, as docs/RULES.md 3 has them; of 7 and 12 the word itself tells it.
@@ -21,7 +28,7 @@ pub fn expected(number: u32) -> &'static str {
         1 => "the number of rows and the number of columns are each from 1 to 1024",
         3 => "the cell side is from 0.01 to 1000 m",
         5 => "a height is from -500 to 9000 m, or equals the NoData number",
-        6 => NAMES,
+        6 => names!("the heights"),
         8 => "a number is whole in cm: a digit after the second decimal has to be 0",
         9 => "the text ends too early: a word is missing here",
         10 => "nothing may follow the last height",
@@ -32,10 +39,32 @@ pub fn expected(number: u32) -> &'static str {
 /// The same of a header alone.
 fn expected_alone(number: u32) -> &'static str {
     match number {
-        6 => LONE_NAMES,
+        6 => names!("the end"),
         10 => "nothing may follow the header, for the heights are floats in a file of their own",
         _ => expected(number),
     }
+}
+
+/// The same of given directions.
+fn expected_codes(number: u32) -> &'static str {
+    match number {
+        5 => "a code is a whole number from 0 to 255, or equals the NoData number",
+        6 => names!("the codes"),
+        8 => "a digit after the second decimal has to be 0",
+        10 => "nothing may follow the last code",
+        _ => expected(number),
+    }
+}
+
+/// A cell's row and column, both from 0.
+pub fn cell_name(cell: usize, header: Header) -> String {
+    format!("row {}, column {}", cell / header.columns, cell % header.columns)
+}
+
+/// A number of cm as metres.
+pub fn metres(cm: i64) -> String {
+    let sign = if cm < 0 { "-" } else { "" };
+    format!("{sign}{}.{:02}", cm.unsigned_abs() / 100, cm.unsigned_abs() % 100)
 }
 
 /// Line and column of a place, both from 1, the column in bytes.
@@ -67,13 +96,13 @@ fn is_marked(text: &[u8]) -> bool {
     marks.iter().any(|mark| text.starts_with(mark))
 }
 
-/// What is likely behind a refusal, where its number and the bytes there tell.
-fn hint(text: &[u8], refusal: Refusal, header: Option<Header>) -> String {
+/// What is likely behind a refusal, where its number and the bytes there tell; a cell has a height or a code.
+fn hint(text: &[u8], refusal: Refusal, header: Option<Header>, cells: &str) -> String {
     match (refusal.number, header) {
         (6, _) if refusal.place == 0 && is_marked(text) => {
             "; the text begins with a byte order mark: save it as plain text without one".to_string()
         }
-        (9 | 10, Some(h)) => format!("; the header asks for {} rows of {} heights", h.rows, h.columns),
+        (9 | 10, Some(h)) => format!("; the header asks for {} rows of {} {cells}", h.rows, h.columns),
         (9, None) if text.is_empty() => "; the text is empty".to_string(),
         _ => String::new(),
     }
@@ -86,7 +115,7 @@ fn hint_alone(text: &[u8], refusal: Refusal) -> String {
         6 if refusal.place == 0 && is_order => "; docs/FROM-GIS.md makes this header of GDAL's own".to_string(),
         6 | 10 if is_order => "; leave the line out: floats are little-endian here".to_string(),
         10 => String::new(),
-        _ => hint(text, refusal, None),
+        _ => hint(text, refusal, None, "heights"),
     }
 }
 
@@ -100,7 +129,8 @@ pub fn of_text(text: &[u8], refusal: Refusal, header: Option<Header>, kind: Text
     let why = match (number, kind) {
         (7, _) => Word::around(text, place).fault(),
         (12, _) => Word::around(text, place).comma(),
-        (_, Text::Grid) => format!("{}{}", expected(number), hint(text, refusal, header)),
+        (_, Text::Grid) => format!("{}{}", expected(number), hint(text, refusal, header, "heights")),
+        (_, Text::Codes) => format!("{}{}", expected_codes(number), hint(text, refusal, header, "codes")),
         (_, Text::Header) => format!("{}{}", expected_alone(number), hint_alone(text, refusal)),
     };
     format!("refused {number} at {place} (line {line}, column {column}, {}): {why}", shown(text, refusal))
@@ -114,7 +144,7 @@ pub fn of_map(refusal: Refusal, header: Header) -> String {
         (4, 2) => "--high is a cutoff: 0.00, 0.01 and so on up to 1.00".to_string(),
         (4, 7) => "--steepness takes older or newer".to_string(),
         (4, _) => "--channel percent:P takes 0.0, 0.1 and so on up to 100.0".to_string(),
-        (5, x) => format!("row {}, column {}: {}", x / header.columns, x % header.columns, expected(5)),
+        (5, cell) => format!("{}: {}", cell_name(cell, header), expected(5)),
         _ => expected(number).to_string(),
     };
     format!("refused {number} at {place}: {what}")
@@ -222,6 +252,21 @@ mod tests {
         assert!(message_alone(b"\xef\xbb\xbfncols", 6, 0).contains("begins with a byte order mark"));
         let said = "refused 12 at 7 (line 1, column 8, at `3,5`): a comma stands where a point belongs: write `3.5`";
         assert_eq!(message_alone(b"ncols 3,5", 12, 7), said);
+    }
+
+    #[test]
+    fn given_directions_have_codes() {
+        let said = |number, header| of_text(b"x", Refusal { number, place: 0 }, header, Text::Codes);
+        assert!(said(5, None).ends_with(
+            "(line 1, column 1, at `x`): a code is a whole number from 0 to 255, or equals the NoData number"
+        ));
+        assert!(said(6, None).ends_with("cellsize, then nodata_value or the codes"));
+        assert!(said(8, None).ends_with("): a digit after the second decimal has to be 0"));
+        assert!(
+            said(10, Some(ONE_ROW))
+                .ends_with("nothing may follow the last code; the header asks for 1 rows of 3 codes")
+        );
+        assert!(said(3, None).ends_with("the cell side is from 0.01 to 1000 m"));
     }
 
     #[test]

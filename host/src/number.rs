@@ -4,6 +4,11 @@ fn is_blank(byte: &u8) -> bool {
     b" \t\r\n".contains(byte)
 }
 
+/// The words of a text.
+pub fn words(text: &[u8]) -> impl DoubleEndedIterator<Item = &[u8]> {
+    text.split(is_blank).filter(|word| !word.is_empty())
+}
+
 /// A word of a text, and a place in it or right after it.
 pub struct Word<'a> {
     pub bytes: &'a [u8],
@@ -87,7 +92,7 @@ impl<'a> Word<'a> {
 
 /// Whether the word after these is a count: the second one of a text after ncols, or the fourth after nrows.
 fn count_comes_next(text: &[u8]) -> bool {
-    let words: Vec<&[u8]> = text.split(is_blank).filter(|word| !word.is_empty()).take(4).collect();
+    let words: Vec<&[u8]> = words(text).take(4).collect();
     match words[..] {
         [name] => name.eq_ignore_ascii_case(b"ncols"),
         [_, _, name] => name.eq_ignore_ascii_case(b"nrows"),

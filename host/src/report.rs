@@ -1,6 +1,7 @@
 //! The report over many fields. Each is mapped and gets a report of its own, some of them at a time; the library joins
 //! these in the order of the command line, and its law of joining says that this is the report of the whole list.
 
+use crate::files::Files;
 use crate::flags::Field;
 use crate::library::{self, Refusal, Report};
 use crate::output::{self, Output};
@@ -25,8 +26,8 @@ fn saved(file: &Field) -> Result<Report, Stop> {
 /// The report of one field, and the line for a terminal.
 fn of_field(field: &Field, flags: &ReportFlags) -> Result<(Report, String), Stop> {
     let (start, name, settings) = (Instant::now(), field.name(), flags.settings);
-    let text = crate::read(field)?;
-    let map = crate::map(&name, &text, None, settings)?;
+    let files = Files::of_text(field)?;
+    let map = files.map(settings)?;
     let mut report = library::empty_report();
     library::add(&mut report, map.header, settings, &map.grids.count, &map.grids.factors)
         .map_err(|r| refused(&name, r))?;

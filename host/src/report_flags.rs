@@ -1,6 +1,6 @@
 //! The command line of a report: many fields, how many at a time, and reports that were saved.
 
-use crate::flags::{Asked, Field, Take, Words, text, value};
+use crate::flags::{Asked, Field, Take, Words, read_once, text, value};
 use crate::library::Settings;
 use crate::settings;
 use std::ffi::OsString;
@@ -44,6 +44,10 @@ impl Take for ReportFlags {
             "--quiet" => self.quiet = true,
             "--verbose" => self.verbose = true,
             "--floats" => return value(flag, words).and(Err("--floats: a report takes texts alone".to_string())),
+            "--directions" => {
+                return value(flag, words)
+                    .and(Err("--directions: a report's maps have our own directions".to_string()));
+            }
             "--output" | "--grids" | "--text" => {
                 let why = "a report has neither a sheet nor grids to write; --save FILE writes the report";
                 return value(flag, words).and(Err(format!("{flag}: {why}")));
@@ -55,10 +59,7 @@ impl Take for ReportFlags {
 
     fn asked(self, fields: Vec<OsString>) -> Result<Asked, String> {
         let fields: Vec<Field> = fields.into_iter().map(Field::of).collect();
-        let read = self.joined.iter().chain(&fields);
-        if read.filter(|field| matches!(field, Field::StandardInput)).count() > 1 {
-            return Err("standard input, `-`, can be read only once".to_string());
-        }
+        read_once(self.joined.iter().chain(&fields))?;
         if fields.is_empty() && self.joined.is_empty() {
             return Err("no FIELD.asc is named, and no report with --join".to_string());
         }
@@ -135,6 +136,7 @@ mod tests {
             );
         }
         assert_eq!(wrong("--floats a.flt a.hdr"), "--floats: a report takes texts alone");
+        assert_eq!(wrong("--directions d.asc a.asc"), "--directions: a report's maps have our own directions");
         assert_eq!(wrong("--save - a.asc"), "--save wants a file: standard output gets the report without it");
         assert_eq!(
             wrong("--deep --save --low half"),

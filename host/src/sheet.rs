@@ -4,7 +4,7 @@ use crate::Map;
 use std::io::{self, Write};
 
 /// A NoData cell's direction, and the LS of a slope that is too long.
-const NO_DIRECTION: u8 = 255;
+pub const NO_DIRECTION: u8 = 255;
 pub const TOO_LONG: u32 = 4_294_967_294;
 
 /// Bytes that are gathered before they are written.

@@ -15,14 +15,17 @@ struct Lent {
     room: Vec<u8>,
 }
 
-/// Reads, maps, writes and reports a field; before it the floats are read into the same ground.
+/// Reads, maps, writes and reports a field; before it the floats are read into the same ground, and after the map its own
+/// directions are given back.
 fn calls([text, floats, alone]: &[Vec<u8>; 3], settings: Settings, lent: &mut Lent) -> Result<(), Refusal> {
     let Lent { ground, grids, room } = lent;
     library::read_floats(alone, floats, ground)?;
     let (_, corners) = library::read_header(text)?;
     let header = library::read_grid(text, ground)?;
     library::map(header, settings, ground, grids)?;
+    library::map_given(header, settings, ground, grids)?;
     library::write(header, corners, Numbers::Heights(&grids.filled), room)?;
+    library::write(header, corners, Numbers::Directions(&grids.direction), room)?;
     library::write(header, corners, Numbers::Counts(&grids.count), room)?;
     library::write(header, corners, Numbers::Factors(&grids.factors), room)?;
     let mut report = library::empty_report();

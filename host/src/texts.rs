@@ -1,5 +1,5 @@
-//! Four grids as texts for mapping programs, NAME.asc in a folder: the library writes the text, this file puts it there.
-//! All four are stored beside their places before the first takes its own.
+//! Five grids as texts for mapping programs, NAME.asc in a folder: the library writes the text, this file puts it there.
+//! All five are stored beside their places before the first takes its own.
 
 use crate::library::{self, Numbers};
 use crate::output::Output;
@@ -8,19 +8,20 @@ use std::fs;
 use std::io::{self, Write};
 use std::path::{Path, PathBuf};
 
-const NAMES: [&str; 4] = ["ground.asc", "filled.asc", "count.asc", "ls.asc"];
+const NAMES: [&str; 5] = ["ground.asc", "filled.asc", "direction.asc", "count.asc", "ls.asc"];
 
 /// The files that a folder gets.
-pub fn paths(folder: &Path) -> [PathBuf; 4] {
+pub fn paths(folder: &Path) -> [PathBuf; 5] {
     NAMES.map(|name| folder.join(name))
 }
 
 /// The grids, in the order of the names.
-fn grids<'a>(map: &'a Map) -> [Numbers<'a>; 4] {
+fn grids<'a>(map: &'a Map) -> [Numbers<'a>; 5] {
     let g = &map.grids;
     [
         Numbers::Heights(&map.ground),
         Numbers::Heights(&g.filled),
+        Numbers::Directions(&g.direction),
         Numbers::Counts(&g.count),
         Numbers::Factors(&g.factors),
     ]

@@ -1,21 +1,21 @@
 //! What the command line asks for, and doing it.
 
-use crate::checks::{compare, floats, full, reports, selfcheck, texts};
+use crate::checks::{compare, directions, floats, full, reports, selfcheck, texts};
 use crate::rules::grid::MOST_ROWS;
-use crate::rules::grid_texts::{grid_texts, NAMES};
+use crate::rules::grid_texts::{mapped as grids_mapped, NAMES};
 use crate::rules::program::Program;
 use crate::rules::refusal::Refusal;
 use crate::rules::report::{mapped, report};
 use crate::rules::settings::{Channel, Formula, Settings, LIBRARY};
-use crate::rules::sheet::sheet;
+use crate::rules::sheet::{sheet, sheet_by};
 use crate::texts::{cases, float_grids, telling, terrains};
 use std::io::{self, Read, Write};
 
-pub const USAGE: &str = "usage: second sheet [--program PROGRAM] [--steepness FORMULA] < TEXT
+pub const USAGE: &str = "usage: second sheet [--program PROGRAM] [--steepness FORMULA] [--directions CODES] < TEXT
        second sheets [--program PROGRAM] [--steepness FORMULA] < STREAM
-       second text [--program PROGRAM] [--steepness FORMULA] GRID < TEXT
+       second text [--program PROGRAM] [--steepness FORMULA] [--directions CODES] GRID < TEXT
            PROGRAM: printer job, printer if not named; FORMULA: older newer, the program's if not named;
-           GRID: ground filled count ls
+           CODES: the file of a text with given directions; GRID: ground filled count ls direction
        second report [--low X] [--high X] [--channel RULE] [--steepness FORMULA] FIELD...
            RULE: none cells:N percent:P; the library's settings where they are not named
        second as-floats < TEXT
@@ -27,15 +27,16 @@ pub const USAGE: &str = "usage: second sheet [--program PROGRAM] [--steepness FO
        second full SIZE PROGRAM...
        second texts SEED N PROGRAM...
        second floats SEED N PROGRAM...
+       second directions SEED N PROGRAM...
        second reports SEED N PROGRAM...
        second selfcheck";
 
 /// A command with its words read; programs are given as their words.
 #[derive(Debug, PartialEq)]
 pub enum Command<'a> {
-    Sheet { settings: Settings },
+    Sheet { settings: Settings, codes: Option<&'a str> },
     Sheets { settings: Settings },
-    Text { settings: Settings, grid: usize },
+    Text { settings: Settings, codes: Option<&'a str>, grid: usize },
     Report { settings: Settings, fields: &'a [&'a str] },
     AsFloats,
     Cases { seed: u64, number: usize },
@@ -46,6 +47,7 @@ pub enum Command<'a> {
     Full { size: usize, program: &'a [&'a str] },
     Texts { seed: u64, number: usize, program: &'a [&'a str] },
     Floats { seed: u64, number: usize, program: &'a [&'a str] },
+    Directions { seed: u64, number: usize, program: &'a [&'a str] },
     Reports { seed: u64, number: usize, program: &'a [&'a str] },
     Selfcheck,
 }
@@ -77,10 +79,22 @@ fn sheets(stream: &[u8], settings: Settings) -> io::Result<String> {
     Ok(texts.iter().enumerate().map(numbered).collect())
 }
 
-/// The text of a grid of a field's map; a refusal as a sheet has it.
-fn grid_text(text: &[u8], settings: Settings, grid: usize) -> Vec<u8> {
-    let refused = |refusal: Refusal| format!("{refusal}\n").into_bytes();
-    grid_texts(text, settings).map_or_else(refused, |texts| texts[grid].clone())
+/// The text with given directions, if one is named.
+fn given(codes: Option<&str>) -> io::Result<Option<Vec<u8>>> {
+    let read = |file: &str| std::fs::read(file).map_err(|why| io::Error::other(format!("{file}: {why}")));
+    codes.map(read).transpose()
+}
+
+/// The sheet of standard input, under the directions of a file if one is named.
+fn one_sheet(settings: Settings, codes: Option<&str>) -> io::Result<String> {
+    Ok(sheet_by(&standard_input()?, given(codes)?.as_deref(), settings))
+}
+
+/// The text of a grid of the map of standard input; a refusal as a sheet has it.
+fn grid_text(settings: Settings, codes: Option<&str>, grid: usize) -> io::Result<Vec<u8>> {
+    let (text, codes) = (standard_input()?, given(codes)?);
+    let texts = grids_mapped(&text, codes.as_deref(), settings).and_then(|mapped| mapped.texts());
+    Ok(texts.map_or_else(|refusal: Refusal| format!("{refusal}\n").into_bytes(), |texts| texts[grid].clone()))
 }
 
 /// The settings that words name, each after its flag, and the words after them.
@@ -144,11 +158,15 @@ impl<'a> Command<'a> {
     }
 
     /// A command that prints sheets or a text under these settings.
-    fn under(settings: Settings, name: &str, words: &[&str]) -> Option<Command<'a>> {
+    fn under(settings: Settings, name: &str, words: &'a [&'a str]) -> Option<Command<'a>> {
+        let (codes, words) = match words {
+            ["--directions", codes, words @ ..] => (Some(*codes), words),
+            _ => (None, words),
+        };
         Some(match (name, words) {
-            ("sheet", []) => Command::Sheet { settings },
-            ("sheets", []) => Command::Sheets { settings },
-            ("text", [name]) => Command::Text { settings, grid: grid(name)? },
+            ("sheet", []) => Command::Sheet { settings, codes },
+            ("sheets", []) if codes.is_none() => Command::Sheets { settings },
+            ("text", [name]) => Command::Text { settings, codes, grid: grid(name)? },
             _ => return None,
         })
     }
@@ -170,6 +188,9 @@ impl<'a> Command<'a> {
             ["floats", seed, number, program @ ..] if !program.is_empty() => {
                 Command::Floats { seed: whole(seed)?, number: whole(number)?, program }
             }
+            ["directions", seed, number, program @ ..] if !program.is_empty() => {
+                Command::Directions { seed: whole(seed)?, number: whole(number)?, program }
+            }
             ["reports", seed, number, program @ ..] if !program.is_empty() => {
                 Command::Reports { seed: whole(seed)?, number: whole(number)?, program }
             }
@@ -186,9 +207,9 @@ impl<'a> Command<'a> {
     pub fn run(&self) -> io::Result<()> {
         let mut output = io::stdout();
         match *self {
-            Command::Sheet { settings } => output.write_all(sheet(&standard_input()?, settings).as_bytes()),
+            Command::Sheet { settings, codes } => output.write_all(one_sheet(settings, codes)?.as_bytes()),
             Command::Sheets { settings } => output.write_all(sheets(&standard_input()?, settings)?.as_bytes()),
-            Command::Text { settings, grid } => output.write_all(&grid_text(&standard_input()?, settings, grid)),
+            Command::Text { settings, codes, grid } => output.write_all(&grid_text(settings, codes, grid)?),
             Command::Report { settings, fields } => output.write_all(report_lines(settings, fields)?.as_bytes()),
             Command::AsFloats => output.write_all(&as_floats(&standard_input()?)?),
             Command::Cases { seed, number } => output.write_all(&cases::stream(cases::case, seed, number)),
@@ -199,6 +220,7 @@ impl<'a> Command<'a> {
             Command::Full { size, program } => full::compare(size, program),
             Command::Texts { seed, number, program } => texts::compare(seed, number, program),
             Command::Floats { seed, number, program } => floats::compare(seed, number, program),
+            Command::Directions { seed, number, program } => directions::compare(seed, number, program),
             Command::Reports { seed, number, program } => reports::compare(seed, number, program),
             Command::Selfcheck => {
                 selfcheck::selfcheck();
@@ -224,6 +246,8 @@ mod tests {
         assert_eq!(Command::of(&["texts", "1", "50", "lsmap"]), Some(texts));
         let floats = Command::Floats { seed: 1, number: 50, program: &["lsmap"] };
         assert_eq!(Command::of(&["floats", "1", "50", "lsmap"]), Some(floats));
+        let directions = Command::Directions { seed: 1, number: 50, program: &["lsmap"] };
+        assert_eq!(Command::of(&["directions", "1", "50", "lsmap"]), Some(directions));
         for (kind, (name, ..)) in terrains::TERRAINS.iter().enumerate() {
             assert_eq!(Command::of(&["terrain", name, "1", "0"]), Some(Command::Terrain { kind, size: 1, seed: 0 }));
             assert!(USAGE.contains(name));
@@ -235,12 +259,17 @@ mod tests {
     fn commands_for_a_program() {
         let (printer, job) = (Program::Printer, Program::Job);
         let [settings, jobs] = [printer, job].map(Program::settings);
-        assert_eq!(Command::of(&["sheet"]), Some(Command::Sheet { settings }));
-        assert_eq!(Command::of(&["sheet", "--program", "printer"]), Some(Command::Sheet { settings }));
+        let plain_sheet = Command::Sheet { settings, codes: None };
+        assert_eq!(Command::of(&["sheet"]), Some(plain_sheet));
+        assert_eq!(Command::of(&["sheet", "--program", "printer"]), Command::of(&["sheet"]));
+        let sheet = Command::Sheet { settings, codes: Some("codes.asc") };
+        assert_eq!(Command::of(&["sheet", "--directions", "codes.asc"]), Some(sheet));
         assert_eq!(Command::of(&["sheets"]), Some(Command::Sheets { settings }));
         assert_eq!(Command::of(&["sheets", "--program", "job"]), Some(Command::Sheets { settings: jobs }));
-        assert_eq!(Command::of(&["text", "ground"]), Some(Command::Text { settings, grid: 0 }));
-        let text = Command::Text { settings: jobs, grid: 3 };
+        assert_eq!(Command::of(&["text", "ground"]), Some(Command::Text { settings, codes: None, grid: 0 }));
+        let given = Command::Text { settings, codes: Some("codes.asc"), grid: 4 };
+        assert_eq!(Command::of(&["text", "--directions", "codes.asc", "direction"]), Some(given));
+        let text = Command::Text { settings: jobs, codes: None, grid: 3 };
         assert_eq!(Command::of(&["text", "--program", "job", "ls"]), Some(text));
         let compare = |program| Some(Command::Compare { program, seed: 1, number: 10, printer: &["valgrind", "job"] });
         assert_eq!(Command::of(&["compare", "1", "10", "valgrind", "job"]), compare(printer));
@@ -265,15 +294,16 @@ mod tests {
     fn commands_under_a_formula() {
         let [printers, jobs] = [Program::Printer, Program::Job].map(Program::settings);
         let settings = Settings { formula: Formula::Newer, ..printers };
-        assert_eq!(Command::of(&["sheet", "--steepness", "newer"]), Some(Command::Sheet { settings }));
-        assert_eq!(Command::of(&["text", "--steepness", "newer", "ls"]), Some(Command::Text { settings, grid: 3 }));
+        assert_eq!(Command::of(&["sheet", "--steepness", "newer"]), Some(Command::Sheet { settings, codes: None }));
+        let text = Command::Text { settings, codes: None, grid: 3 };
+        assert_eq!(Command::of(&["text", "--steepness", "newer", "ls"]), Some(text));
         let older = ["sheets", "--program", "job", "--steepness", "older"];
         assert_eq!(Command::of(&older), Some(Command::Sheets { settings: jobs }));
     }
 
     #[test]
     fn other_words_are_a_usage_error() {
-        let wrong: [&[&str]; 34] = [
+        let wrong: [&[&str]; 37] = [
             &[],
             &["sheet", "field.asc"],
             &["sheet", "--program"],
@@ -303,6 +333,9 @@ mod tests {
             &["text", "ls", "--program", "job"],
             &["texts", "1", "50"],
             &["floats", "1", "50"],
+            &["directions", "1", "50"],
+            &["sheet", "--directions"],
+            &["sheets", "--directions", "codes.asc"],
             &["as-floats", "field.asc"],
             &["report", "--low", "half", "field.asc"],
             &["report", "--low"],

@@ -1,7 +1,7 @@
 -- The promise of the map call: from the judge's finding, the terrain layer's promise, and the pass along the order. Assumes nothing.
 use mathlib.Core.Path.{_≡_, refl, sym, ap, ap₂, subst, _∙_}
 use mathlib.Core.List.{List}
-use mathlib.Core.Bool.{true, false, true≢false}
+use mathlib.Core.Bool.{Bool, true, false, cond, true≢false}
 use Prim.Native.Nat.{ℕ, _*_}
 use native.Mathlib.Omega.{arith}
 use lib.ListN.{length, replicate}
@@ -16,19 +16,20 @@ use Rattle.terrain.specs.Filled.{filledLevels}
 use Rattle.terrain.specs.Trail.{countsOf, longestOf}
 use Rattle.terrain.specs.Falls.{fallsOf}
 use Rattle.terrain.specs.Drainage.{Drainage}
-use Rattle.terrain.specs.Answers.{Mapped, After, groundValids, groundDirections}
+use Rattle.terrain.specs.Answers.{Mapped, After, groundValids, directionsBy, leavesZeros}
+use Rattle.terrain.specs.declared.Source.{Source}
 use Rattle.terrain.specs.Answers as terrain
 use Rattle.terrain.specs.declared.Answer as Drained
 use Rattle.terrain.specs.declared.Answer.the-variants as drained
-use Rattle.terrain.proofs.Public.{passed-ready, filled-small, directions-directed, counts-long}
+use Rattle.terrain.proofs.Public.{accepted-ready, accepted-directed, filled-small, counts-long}
 use Rattle.factor.specs.Length.{lengthsOf}
 use Rattle.factor.specs.Grid.{factorsOf}
-use Rattle.factor.specs.Answers.{Grids, lent, judged, mapOf, answerOf, gridsOf, answer, after, firstTests, accepts}
+use Rattle.factor.specs.Answers.{Grids, lent, judged, mapOf, answerOf, refusedGrids, gridsOf, answer, after, firstTests, accepts}
 use Rattle.factor.specs.Inner.{Promised}
 use Rattle.factor.specs.InnerPass.{Measuring}
 use Rattle.factor.specs.declared.Answer.{Answer}
 use Rattle.factor.specs.declared.Answer.the-variants.{Accepted, Refused}
-use Rattle.factor.proofs.Judging.{lentOn, first-fails, first-passes, first-side, first-lengths}
+use Rattle.factor.proofs.Judging.{lentOn, first-fails, first-kept, first-passes, first-side, first-lengths}
 
 -- grids that are the same one by one
 lent-same : {f f′ : List ℤ} {d d′ c c′ l l′ x x′ w w′ : List ℕ} → f ≡ f′ → d ≡ d′ → c ≡ c′ → l ≡ l′ → x ≡ x′ → w ≡ w′ → lent f d c l x w ≡ lent f′ d′ c′ l′ x′ w′
@@ -39,24 +40,38 @@ abbrev returned : terrain.Grids → List ℕ → List ℕ → List ℕ → Grids
 returned t lengths factors workspace = lent (t .filled) (t .direction) (t .count) lengths factors workspace
 
 -- what the terrain layer tells by accepting
-record Accepting (rows cols : ℕ) (ground : List ℤ) (g t : terrain.Grids) (valid longest : ℕ) : Type 0 where
-  passes : terrain.judged rows cols ground g ≡ passed
-  mapped : Mapped rows cols ground (groundDirections rows cols ground) t
+record Accepting (rows cols : ℕ) (source : Source) (ground : List ℤ) (g t : terrain.Grids) (valid longest : ℕ) : Type 0 where
+  passes : terrain.judged rows cols source ground g ≡ passed
+  mapped : Mapped rows cols ground (directionsBy source rows cols ground (g .direction)) t
   valid-is : valid ≡ groundValids rows cols ground
-  longest-is : longest ≡ longestOf rows cols (groundDirections rows cols ground)
+  longest-is : longest ≡ longestOf rows cols (directionsBy source rows cols ground (g .direction))
 
-module _ (rows cols side : ℕ) (settings : Settings) (ground : List ℤ) (g : Grids) where
+-- what a refusal leaves to the terrain layer's grids and to these
+left-same : (n : ℕ) (g : Grids) → returned (terrain.refusedGrids n (lentOn g)) (g .lengths) (terrain.refusedGrids n (lentOn g) .falls) (terrain.refusedGrids n (lentOn g) .workspace) ≡ refusedGrids n g
+left-same n g = go (leavesZeros n)
+  where
+    go : (b : Bool) →
+        (let t = cond b (terrain.lent (g .filled) (g .direction) (g .count) (g .factors) (replicate (length (g .workspace)) 0)) (lentOn g) in returned t (g .lengths) (t .falls) (t .workspace))
+        ≡ cond b (lent (g .filled) (g .direction) (g .count) (g .lengths) (g .factors) (replicate (length (g .workspace)) 0)) g
+    go true = refl
+    go false = refl
+
+module _ (rows cols side : ℕ) (settings : Settings) (source : Source) (ground : List ℤ) (g : Grids) where
+  -- the directions of the map
+  abbrev dir : List ℕ
+  dir = directionsBy source rows cols ground (g .direction)
+
   abbrev first : Test
   first = verdict (firstTests rows cols side settings ground g)
 
   -- its promise
   abbrev Made : Answer → Grids → Type 0
-  Made = Promised rows cols side settings ground g
+  Made = Promised rows cols side settings source ground g
 
   -- a refusal
-  refuses : (f : Refusal) → judged rows cols side settings ground g ≡ failed (f .number) (f .place) → Made (Refused f) g
+  refuses : (f : Refusal) → judged rows cols side settings source ground g ≡ failed (f .number) (f .place) → Made (Refused f) (refusedGrids (f .number) g)
   unfolding answer after answerOf gridsOf
-  refuses f j = (sym (ap (answerOf rows cols ground) j), (sym (ap (gridsOf rows cols side settings ground g) j), (none, (none, none))))
+  refuses f j = (sym (ap (answerOf rows cols ground dir) j), (sym (ap (gridsOf rows cols side settings ground dir g) j), (none, (none, none))))
     where
       -- it is no acceptance
       none : {P : Type 0} → false ≡ true → P
@@ -64,58 +79,59 @@ module _ (rows cols side : ℕ) (settings : Settings) (ground : List ℤ) (g : G
 
   -- by one of the first four tests
   pub first-refuses : (f : Refusal) → failed (f .number) (f .place) ≡ verdict (firstTests rows cols side settings ground g) → Made (Refused f) g
-  first-refuses f e = refuses f (first-fails rows cols side settings ground g (sym e))
+  first-refuses f e =
+      subst (Made (Refused f)) (first-kept rows cols side settings ground g (sym e))
+      (refuses f (first-fails rows cols side settings ground g source (sym e)))
 
   -- ---- the terrain layer is called
 
   module _ (e : first ≡ passed) where
     abbrev heights : Test
-    heights = terrain.judged rows cols ground (lentOn g)
+    heights = terrain.judged rows cols source ground (lentOn g)
 
     -- it refuses, and leaves its grids t
     abbrev Left : Refusal → terrain.Grids → Type 0
-    Left f t = (t ≡ lentOn g) × (judged rows cols side settings ground g ≡ failed (f .number) (f .place))
+    Left f t = (t ≡ terrain.refusedGrids (f .number) (lentOn g)) × (judged rows cols side settings source ground g ≡ failed (f .number) (f .place))
 
-    terrain-refuses : (f : Refusal) {t : terrain.Grids} → drained.Refused f ≡ terrain.answer rows cols ground (lentOn g) →
-        After rows cols ground (lentOn g) t heights → Left f t
+    terrain-refuses : (f : Refusal) {t : terrain.Grids} → drained.Refused f ≡ terrain.answer rows cols source ground (lentOn g) →
+        After rows cols ground dir (lentOn g) t heights → Left f t
     unfolding terrain.answer terrain.answerOf
     terrain-refuses f {t} q a = go heights refl q a
       where
-        go : (v : Test) → heights ≡ v → drained.Refused f ≡ terrain.answerOf rows cols ground v → After rows cols ground (lentOn g) t v → Left f t
+        go : (v : Test) → heights ≡ v → drained.Refused f ≡ terrain.answerOf rows cols ground dir v → After rows cols ground dir (lentOn g) t v → Left f t
         go passed j q a = absurd (true≢false (sym (ap terrain.accepts q)))
         go (failed number place) j q a =
-            let r : f ≡ record { number = number; place = place } = cc in
-            (a, first-passes rows cols side settings ground g e ∙ j ∙ sym (ap (λ (r : Refusal). failed (r .number) (r .place)) r))
+            let r : f ≡ record { number = number; place = place } = cc in (
+              a ∙ ap (λ (r : Refusal). terrain.refusedGrids (r .number) (lentOn g)) (sym r),
+              first-passes rows cols side settings ground g e source ∙ j ∙ sym (ap (λ (r : Refusal). failed (r .number) (r .place)) r),
+            )
 
-    pub terrain-refused : (f : Refusal) {t : terrain.Grids} → drained.Refused f ≡ terrain.answer rows cols ground (lentOn g) →
-        After rows cols ground (lentOn g) t heights → Made (Refused f) (returned t (g .lengths) (t .falls) (t .workspace))
+    pub terrain-refused : (f : Refusal) {t : terrain.Grids} → drained.Refused f ≡ terrain.answer rows cols source ground (lentOn g) →
+        After rows cols ground (directionsBy source rows cols ground (g .direction)) (lentOn g) t heights → Made (Refused f) (returned t (g .lengths) (t .falls) (t .workspace))
     terrain-refused f {t} q a =
         let w = terrain-refuses f q a in
-        subst (λ (u : terrain.Grids). Made (Refused f) (returned u (g .lengths) (u .falls) (u .workspace))) (sym (w .0)) (refuses f (w .1))
+        subst (λ (u : terrain.Grids). Made (Refused f) (returned u (g .lengths) (u .falls) (u .workspace))) (sym (w .0)) (subst (Made (Refused f)) (sym (left-same (f .number) g)) (refuses f (w .1)))
 
     -- it accepts, and gives its grids
-    terrain-accepts : {valid longest : ℕ} {t : terrain.Grids} → drained.Accepted valid longest ≡ terrain.answer rows cols ground (lentOn g) →
-        After rows cols ground (lentOn g) t heights → Accepting rows cols ground (lentOn g) t valid longest
+    terrain-accepts : {valid longest : ℕ} {t : terrain.Grids} → drained.Accepted valid longest ≡ terrain.answer rows cols source ground (lentOn g) →
+        After rows cols ground dir (lentOn g) t heights → Accepting rows cols source ground (lentOn g) t valid longest
     unfolding terrain.answer terrain.answerOf
     terrain-accepts {valid} {longest} {t} q a = go heights refl q a
       where
-        go : (v : Test) → heights ≡ v → drained.Accepted valid longest ≡ terrain.answerOf rows cols ground v → After rows cols ground (lentOn g) t v →
-            Accepting rows cols ground (lentOn g) t valid longest
+        go : (v : Test) → heights ≡ v → drained.Accepted valid longest ≡ terrain.answerOf rows cols ground dir v → After rows cols ground dir (lentOn g) t v →
+            Accepting rows cols source ground (lentOn g) t valid longest
         go passed j q a = record { passes = j; mapped = a; valid-is = cc; longest-is = cc }
         go (failed number place) j q a = absurd (true≢false (ap terrain.accepts q))
 
-    module _ (t : terrain.Grids) {valid longest : ℕ} (q : drained.Accepted valid longest ≡ terrain.answer rows cols ground (lentOn g)) (a : After rows cols ground (lentOn g) t heights) where
-      abbrev found : Accepting rows cols ground (lentOn g) t valid longest
+    module _ (t : terrain.Grids) {valid longest : ℕ} (q : drained.Accepted valid longest ≡ terrain.answer rows cols source ground (lentOn g)) (a : After rows cols ground (directionsBy source rows cols ground (g .direction)) (lentOn g) t heights) where
+      abbrev found : Accepting rows cols source ground (lentOn g) t valid longest
       found = terrain-accepts q a
 
       abbrev lv : List ℕ
       lv = filledLevels rows cols ground
 
-      abbrev dir : List ℕ
-      dir = groundDirections rows cols ground
-
       ready : Ready rows cols ground
-      ready = passed-ready rows cols ground (lentOn g) (found .passes)
+      ready = accepted-ready rows cols source ground (lentOn g) (found .passes)
 
       -- what the pass assumes
       pub accepted-measuring : Measuring rows cols side (filledLevels rows cols ground) (t .direction) (t .count) (t .workspace) valid (g .lengths) (t .falls)
@@ -123,11 +139,11 @@ module _ (rows cols side : ℕ) (settings : Settings) (ground : List ℤ) (g : G
           let m = found .mapped in
           let s = first-side rows cols side settings ground g e in
           record {
-            directed = rw (m .direction-is) (directions-directed ready);
+            directed = rw (m .direction-is) (accepted-directed rows cols source ground (lentOn g) (found .passes));
             capped = (λ x. omega (arith, filled-small rows cols ground ready x));
             side-some = s .0;
             side-small = s .1;
-            count-long = ap length (m .count-is) ∙ counts-long rows cols (groundDirections rows cols ground);
+            count-long = ap length (m .count-is) ∙ counts-long rows cols dir;
             order-is = rw (m .direction-is, found .valid-is) (m .order);
             lengths-long = first-lengths rows cols side settings ground g e;
             falls-are = m .falls-are ∙ ap (fallsOf rows cols lv) (sym (m .direction-is));
@@ -140,9 +156,9 @@ module _ (rows cols side : ℕ) (settings : Settings) (ground : List ℤ) (g : G
           Made (Accepted valid longest) (returned t lengths factors workspace)
       unfolding answer after answerOf gridsOf mapOf
       accepted-promised {rules} {lengths} {factors} {workspace} r d w n =
-          let j = first-passes rows cols side settings ground g e ∙ found .passes in
-          let answers = answer-is ∙ sym (ap (answerOf rows cols ground) j) in
-          let leaves = grids-are ∙ sym (ap (gridsOf rows cols side settings ground g) j) in
+          let j = first-passes rows cols side settings ground g e source ∙ found .passes in
+          let answers = answer-is ∙ sym (ap (answerOf rows cols ground dir) j) in
+          let leaves = grids-are ∙ sym (ap (gridsOf rows cols side settings ground dir g) j) in
           (answers, (leaves, ((λ x. n .trails), ((λ x. n .totals), (λ x. n .surface)))))
         where
           answer-is : Accepted valid longest ≡ Accepted (groundValids rows cols ground) (longestOf rows cols dir)

@@ -77,7 +77,7 @@ module _ {rows cols : ℕ} {dir : List ℕ} (d : Directed rows cols dir) (side :
   -- by the sides of the cell
   gathered-sides : (z : ℕ) → z < n → gathered z ≡ greatestTo 8 (λ k. when (into z k) (brings z (nb z k) + 1))
   unfolding gatheredAt
-  gathered-sides z h = sym (inflow-greatest d h (λ x. brings z x + 1))
+  gathered-sides z h = sym (inflow-greatest (d .drawn) h (λ x. brings z x + 1))
 
   -- one more than the greatest amount, or 0 where there is no inflow
   final-inflows : (z : ℕ) → z < n
@@ -101,7 +101,7 @@ module _ {rows cols : ℕ} {dir : List ℕ} (d : Directed rows cols dir) (side :
   unfolding finalAt finalLength
   final-is z v =
       let start = startLength (getD dir z 255) in
-      ap (λ (m : ℕ). cond (channelAt rows cols rules count z) 0 m) (final-inflows z (pointing d .within z v))
+      ap (λ (m : ℕ). cond (channelAt rows cols rules count z) 0 m) (final-inflows z (pointing (d .drawn) .within z v))
       ∙ sym (ap (λ (b : Bool). cond b (cond (channelAt rows cols rules count z) 0 (cond (someOf (into z) 8) (most d side rules lv count len z) start)) 0) v)
       ∙ sym (length-local d side rules lv count z ∙ from-is d side rules lv count len z)
 
@@ -116,7 +116,7 @@ module _ {rows cols : ℕ} {dir : List ℕ} (d : Directed rows cols dir) (side :
     where
       none : (x : ℕ) → when (eqb (recv x) z) (brings z x + 1) ≤ 0
       none x =
-          ⊎-elim (λ t. let e = eqb-true (recv x) z t in absurd (true≢false (sym (pointing d .stays x (omega arith)) ∙ ap valid e ∙ v)))
+          ⊎-elim (λ t. let e = eqb-true (recv x) z t in absurd (true≢false (sym (pointing (d .drawn) .stays x (omega arith)) ∙ ap valid e ∙ v)))
           (λ t. omega (arith, when-no (brings z x + 1) t)) (two (eqb (recv x) z))
 
   pub gathered-small : (z : ℕ) → gatheredAt rows cols side rules lv dir count z ≤ greatestLength
@@ -131,7 +131,7 @@ module _ {rows cols : ℕ} {dir : List ℕ} (d : Directed rows cols dir) (side :
   given-is : (z x : ℕ) → z < n → recv x ≡ z → brings z x + 1 ≡ given x (gathered x)
   unfolding givenBy
   given-is z x h e =
-      let whole = ap (λ (m : ℕ). broughtTo rows cols side rules lv dir (recv x) x m + 1) (final-is x (pointing d .from x (omega arith))) in
+      let whole = ap (λ (m : ℕ). broughtTo rows cols side rules lv dir (recv x) x m + 1) (final-is x (pointing (d .drawn) .from x (omega arith))) in
       sym (whole ∙ ap (λ (y : ℕ). brings y x + 1) e)
 
   local : (z : ℕ) → z < n → gathered z ≡ greatestTo n (λ x. when (eqb (recv x) z) (given x (gathered x)))
@@ -142,4 +142,4 @@ module _ {rows cols : ℕ} {dir : List ℕ} (d : Directed rows cols dir) (side :
 
   -- it is handed on along the order
   pub lengths-handed : Handed max greatestTo n valid recv given (λ z. 0) gathered
-  lengths-handed = record { joins = greatest-joining; points = pointing d; local = (λ z h. omega (arith, local z h)) }
+  lengths-handed = record { joins = greatest-joining; points = pointing (d .drawn); local = (λ z h. omega (arith, local z h)) }

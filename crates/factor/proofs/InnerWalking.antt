@@ -118,7 +118,7 @@ module _ {rows : ℕ} {lv dir count order : List ℕ} {places : ℕ} {rules : Ru
     here-valid = ap (mappedAt rows cols dir) e ∙ order-cell (c .order-is .cells) p h
 
     here-in : x < size
-    here-in = pointing (c .directed) .within x here-valid
+    here-in = pointing (c .directed .drawn) .within x here-valid
 
     here-new : standsIn order p x ≡ 0
     here-new = ap (standsIn order p) e ∙ order-new (c .order-is .cells) p h
@@ -131,14 +131,14 @@ module _ {rows : ℕ} {lv dir count order : List ℕ} {places : ℕ} {rules : Ru
     here-fall = valid-fall rows cols lv dir (c .capped) x here-valid (w .falls x here-in here-new)
 
     code-some : getD dir x 0 ≡ 255 → ⊥
-    code-some q = mapped-is rows cols dir x here-valid (code-read (c .directed) x here-in ∙ q)
+    code-some q = mapped-is rows cols dir x here-valid (code-read (c .directed .drawn) x here-in ∙ q)
 
     -- its length
     here-length : lengthNow terms dir count lengths factors x ≡ finalAt rows cols (terms .side) rules lv dir count x (whole x)
     unfolding finalAt
     here-length =
         ap₂ (λ (b : Bool) (m : ℕ). finalLength b (startLength (getD dir x 0)) m) (c .channel x here-in) here-whole
-        ∙ ap (λ (code : ℕ). finalLength (channelAt rows cols rules count x) (startLength code) (whole x)) (sym (code-read (c .directed) x here-in))
+        ∙ ap (λ (code : ℕ). finalLength (channelAt rows cols rules count x) (startLength code) (whole x)) (sym (code-read (c .directed .drawn) x here-in))
 
     here-final : lengthNow terms dir count lengths factors x ≡ final x
     here-final = here-length ∙ final-is (c .directed) (terms .side) rules lv count x here-valid
@@ -146,13 +146,13 @@ module _ {rows : ℕ} {lv dir count order : List ℕ} {places : ℕ} {rules : Ru
     module _ (k : bearingAt dir x < 8) where
       -- the cell that it points at
       next-is : besideOf cols x (bearingAt dir x) ≡ to x
-      next-is = beside-is rows cols x (bearingAt dir x) (receiver-near (c .directed) x here-in code-some k) ∙ receiver-beside (c .directed) x here-in code-some k
+      next-is = beside-is rows cols x (bearingAt dir x) (receiver-near (c .directed .drawn) x here-in code-some k) ∙ receiver-beside (c .directed .drawn) x here-in code-some k
 
       next-in : to x < size
-      next-in = omega (arith, receiver-near (c .directed) x here-in code-some k, receiver-beside (c .directed) x here-in code-some k)
+      next-in = omega (arith, receiver-near (c .directed .drawn) x here-in code-some k, receiver-beside (c .directed .drawn) x here-in code-some k)
 
       next-fall : (getD factors (to x) 0 ≤ greatestFall) × (steepnessOf (getD factors (to x) 0) ≡ steepnessAt rows cols lv dir (to x))
-      next-fall = valid-fall rows cols lv dir (c .capped) (to x) (pointing (c .directed) .stays x next-in) (w .falls (to x) next-in (hand-next handed (w .handing) x here-new))
+      next-fall = valid-fall rows cols lv dir (c .capped) (to x) (pointing (c .directed .drawn) .stays x next-in) (w .falls (to x) next-in (hand-next handed (w .handing) x here-new))
 
       -- what it hands on
       here-given : amountNow terms dir count lengths factors x rules (to x) + 1 ≡ givenBy rows cols (terms .side) rules lv dir count x (whole x)
@@ -160,25 +160,25 @@ module _ {rows : ℕ} {lv dir count order : List ℕ} {places : ℕ} {rules : Ru
       here-given =
           let len = lengthNow terms dir count lengths factors x in
           ap (λ (i : ℕ). broughtBy (terms .side) rules (bearingAt dir x) (steepnessOf (getD factors x 0)) (steepnessOf (getD factors (to x) 0)) i len + 1)
-          (ap startLength (sym (code-read (c .directed) (to x) next-in)))
-          ∙ rw (here-fall .1, next-fall .1, receiver-bearing (c .directed) x here-in code-some k, here-length)
+          (ap startLength (sym (code-read (c .directed .drawn) (to x) next-in)))
+          ∙ rw (here-fall .1, next-fall .1, receiver-bearing (c .directed .drawn) x here-in code-some k, here-length)
 
     pub walk-turning : Turning terms dir count lengths factors x
     walk-turning =
         record {
           rules = rules;
           ruled = c .ruled;
-          dir-in = omega (arith, here-in, c .directed .long);
+          dir-in = omega (arith, here-in, c .directed .drawn .long);
           count-in = omega (arith, here-in, c .count-long);
           lengths-in = omega (arith, here-in, w .handing .long);
           factors-in = omega (arith, here-in, w .factors-long);
-          lengths-few = omega (arith, w .handing .long, c .directed .sized .small);
-          factors-few = omega (arith, w .factors-long, c .directed .sized .small);
+          lengths-few = omega (arith, w .handing .long, c .directed .drawn .sized .small);
+          factors-few = omega (arith, w .factors-long, c .directed .drawn .sized .small);
           fall-small = here-fall .0;
           gathered-small = omega (arith, here-whole, gathered-small (c .directed) (terms .side) rules lv count x);
-          beside-room = (λ k. beside-room rows cols x (bearingAt dir x) (c .directed .sized) (omega (arith, here-in, c .directed .sized .small)) k (receiver-near (c .directed) x here-in code-some k));
-          next-other = (λ k q. pointing (c .directed) .apart x (next-in k) (sym (next-is k) ∙ q));
-          next-dir = (λ k. omega (arith, next-is k, next-in k, c .directed .long));
+          beside-room = (λ k. beside-room rows cols x (bearingAt dir x) (c .directed .drawn .sized) (omega (arith, here-in, c .directed .drawn .sized .small)) k (receiver-near (c .directed .drawn) x here-in code-some k));
+          next-other = (λ k q. pointing (c .directed .drawn) .apart x (next-in k) (sym (next-is k) ∙ q));
+          next-dir = (λ k. omega (arith, next-is k, next-in k, c .directed .drawn .long));
           next-lengths = (λ k. omega (arith, next-is k, next-in k, w .handing .long));
           next-factors = (λ k. omega (arith, next-is k, next-in k, w .factors-long));
           next-small = (λ k. omega (arith, ap (λ (z : ℕ). getD factors z 0) (next-is k), next-fall k .0));
@@ -195,11 +195,11 @@ module _ {rows : ℕ} {lv dir count order : List ℕ} {places : ℕ} {rules : Ru
       turn-of =
           turn-stored handed now
           (elim (decLt (bearingAt dir x) 8) [
-            | yes k ↦ let kept = getD-set-other lengths x (to x) now 0 (pointing (c .directed) .apart x (next-in k)) in
+            | yes k ↦ let kept = getD-set-other lengths x (to x) now 0 (pointing (c .directed .drawn) .apart x (next-in k)) in
                 subst (λ (l : List ℕ). Turns (set lengths x now) l x) (sym (on k))
                 (turn-on handed (length-set lengths x now ∙ w .handing .long) (next-in k) stored (ap₂ max (sym kept) (here-given k)))
             | no f ↦ subst (λ (l : List ℕ). Turns (set lengths x now) l x) (sym (t .leaves (omega arith)))
-                (turn-off handed (omega (arith, receiver-leaves (c .directed) x here-in (omega arith))) stored)
+                (turn-off handed (omega (arith, receiver-leaves (c .directed .drawn) x here-in (omega arith))) stored)
           ])
         where
           on : (k : bearingAt dir x < 8) → lengths′ ≡ lengthsNext terms dir count lengths factors x rules (to x)

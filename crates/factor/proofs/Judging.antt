@@ -1,16 +1,16 @@
 -- The tests of the map call: what each of the first four decides, what is left to the terrain layer after them, and that no refusal has number 0.
 -- Assumes nothing.
-use mathlib.Core.Path.{_≡_, refl, sym, ap, ap₂, _∙_}
+use mathlib.Core.Path.{_≡_, refl, sym, ap, ap₂, subst, _∙_}
 use mathlib.Core.List.{List, [], _∷_}
-use mathlib.Core.Bool.{true, false, not, _&&_}
-use Prim.Native.Nat.{ℕ, _*_, _≤_}
+use mathlib.Core.Bool.{Bool, true, false, cond, not, _&&_}
+use Prim.Native.Nat.{ℕ, _*_, _≤_, _<_}
 use native.Mathlib.Omega.{arith}
-use lib.ListN.{length}
+use lib.ListN.{length, replicate}
 use lib.IntN.{ℤ}
 use lib.Dec.{ltb}
 use borrow.Author.Tests.{eq-eqb}
 use Rattle.laws.specs.Tests.{Test, passed, failed, verdict}
-use Rattle.laws.proofs.Verdicts.{passed-failed, verdict-none, verdict-next, verdict-stops, verdict-passed, verdict-before, verdict-after, Numbered, test-numbered, verdict-numbered}
+use Rattle.laws.proofs.Verdicts.{passed-failed, verdict-none, verdict-next, verdict-stops, verdict-passed, verdict-before, verdict-after, Numbered, test-numbered, verdict-numbered, OfNumber, test-number, verdict-number}
 use Rattle.text.specs.Ranges.{sizeAccepted, sideAccepted, firstBad, allLong, sizeTest, lengthTest, sideTest, heightTest}
 use Rattle.text.proofs.Accepted.{size-passes, rows-fail, columns-fail, AllLong, lengths-pass, lengths-fail, lengths-passed, side-is, side-passed, side-passes, side-fails}
 use Rattle.settings.specs.declared.Settings.{Settings}
@@ -19,8 +19,12 @@ use Rattle.settings.specs.declared.Judged.{Judged}
 use Rattle.settings.specs.declared.Judged.the-variants.{Accepted, Refused}
 use Rattle.settings.specs.Settings.{rulesOf, judgedOf, settingsTest, told as testOf}
 use Rattle.settings.proofs.Verdicts.{judged-passed, judged-failed}
-use Rattle.terrain.specs.Answers.{Grids as TerrainGrids, lent as lentTerrain, placesOf as terrainPlaces, tests as terrainTests, judged as terrainJudged}
-use Rattle.factor.specs.Answers.{Grids, placesOf, tests, judged, answerOf, answer, found, firstTests, Judges, told, accepts}
+use Rattle.terrain.specs.Answers.{Grids as TerrainGrids, lent as lentTerrain, placesOf as terrainPlaces, groundTests, tests as terrainTests, judged as terrainJudged, sourceTests, directionsBy, leavesZeros}
+use Rattle.terrain.specs.Filled.{filledLevels}
+use Rattle.terrain.specs.Given.{firstBroken, firstRing, codeTest, ringTest}
+use Rattle.terrain.specs.declared.Source.{Source}
+use Rattle.terrain.specs.declared.Source.the-variants.{Own, Given}
+use Rattle.factor.specs.Answers.{Grids, lent, placesOf, tests, judged, answerOf, refusedGrids, answer, found, firstTests, Judges, told, accepts}
 use Rattle.factor.specs.declared.tests.Judgement.{Judgement}
 use Rattle.factor.specs.declared.tests.Judgement.the-variants.{Sound}
 
@@ -35,11 +39,15 @@ all-long n [] w = refl
 all-long n (a ∷ l) w = ap₂ _&&_ (eq-eqb a n (w .0)) (all-long n l (w .1))
 
 -- an answer with number 0 is no refusal, whatever the tests were, if none of them refuses with 0
-pub answer-some : (rows cols : ℕ) (ground : List ℤ) (t : Test) → Numbered t → told (answerOf rows cols ground t) .number ≡ 0 →
-    accepts (answerOf rows cols ground t) ≡ true
+pub answer-some : (rows cols : ℕ) (ground : List ℤ) (dir : List ℕ) (t : Test) → Numbered t → told (answerOf rows cols ground dir t) .number ≡ 0 →
+    accepts (answerOf rows cols ground dir t) ≡ true
 unfolding answerOf
-answer-some rows cols ground passed n e = refl
-answer-some rows cols ground (failed number place) n e = absurd (omega arith)
+answer-some rows cols ground dir passed n e = refl
+answer-some rows cols ground dir (failed number place) n e = absurd (omega arith)
+
+-- a refusal that leaves the workspace as it was
+abbrev Early : ℕ → Type 0
+Early number = leavesZeros number ≡ false
 
 module _ (rows cols side : ℕ) (settings : Settings) (ground : List ℤ) (g : Grids) where
   abbrev size : Test
@@ -56,6 +64,10 @@ module _ (rows cols side : ℕ) (settings : Settings) (ground : List ℤ) (g : G
 
   abbrev heights : Test
   heights = heightTest (rows * cols) ground
+
+  -- the tests of the directions
+  abbrev later : Source → List Test
+  later source = sourceTests source rows cols (filledLevels rows cols ground) (g .direction)
 
   -- what the first four tests decide
   abbrev pub first : Test
@@ -107,9 +119,9 @@ module _ (rows cols side : ℕ) (settings : Settings) (ground : List ℤ) (g : G
   -- ---- what is left to the terrain layer
 
   -- a failure of the first four decides
-  pub first-fails : {number place : ℕ} → first ≡ failed number place → judged rows cols side settings ground g ≡ failed number place
+  pub first-fails : (source : Source) {number place : ℕ} → first ≡ failed number place → judged rows cols side settings source ground g ≡ failed number place
   unfolding judged tests firstTests
-  first-fails e = verdict-before (size ∷ long ∷ sided ∷ chosen ∷ []) (heights ∷ []) e
+  first-fails source e = verdict-before (size ∷ long ∷ sided ∷ chosen ∷ []) (heights ∷ later source) e
 
   module _ (e : first ≡ passed) where
     passed-size : (size ≡ passed) × (verdict (long ∷ sided ∷ chosen ∷ []) ≡ passed)
@@ -142,13 +154,13 @@ module _ (rows cols side : ℕ) (settings : Settings) (ground : List ℤ) (g : G
     lent-places = (places .0, (places .1 .0, (places .1 .1 .0, (places .1 .1 .1 .0, places .1 .1 .1 .1 .1))))
 
     -- if they are passed, the terrain layer's tests decide
-    pub first-passes : judged rows cols side settings ground g ≡ terrainJudged rows cols ground (lentOn g)
-    unfolding judged tests firstTests terrainJudged terrainTests
-    first-passes =
+    pub first-passes : (source : Source) → judged rows cols side settings source ground g ≡ terrainJudged rows cols source ground (lentOn g)
+    unfolding judged tests firstTests terrainJudged terrainTests groundTests
+    first-passes source =
         let t = lengthTest (rows * cols) lent-on in
         let passes = lengths-pass (rows * cols) lent-on (all-long (rows * cols) lent-on lent-places) in
-        verdict-after (size ∷ long ∷ sided ∷ chosen ∷ []) (heights ∷ []) e
-        ∙ sym (verdict-next (t ∷ heights ∷ []) (passed-size .0) ∙ verdict-next (heights ∷ []) passes)
+        verdict-after (size ∷ long ∷ sided ∷ chosen ∷ []) (heights ∷ later source) e
+        ∙ sym (verdict-next (t ∷ heights ∷ later source) (passed-size .0) ∙ verdict-next (heights ∷ later source) passes)
 
   -- ---- the number of a refusal
 
@@ -187,15 +199,42 @@ module _ (rows cols side : ℕ) (settings : Settings) (ground : List ℤ) (g : G
       (verdict-numbered long (sided ∷ chosen ∷ []) long-numbered
       (verdict-numbered sided (chosen ∷ []) side-numbered (verdict-numbered chosen [] settings-numbered none-numbered)))
 
-  judged-numbered : Numbered (judged rows cols side settings ground g)
+  pub later-numbered : (source : Source) → Numbered (verdict (sourceTests source rows cols (filledLevels rows cols ground) (g .direction)))
+  unfolding verdict codeTest ringTest
+  later-numbered Own = tt
+  later-numbered Given =
+      let lv = filledLevels rows cols ground in
+      let dir = g .direction in
+      verdict-numbered (codeTest rows cols lv dir) (ringTest rows cols dir ∷ [])
+      (test-numbered (not (ltb (firstBroken rows cols lv dir) (rows * cols))) 17 (firstBroken rows cols lv dir) (omega arith))
+      (verdict-numbered (ringTest rows cols dir) [] (test-numbered (not (ltb (firstRing rows cols dir) (rows * cols))) 18 (firstRing rows cols dir) (omega arith)) tt)
+
+  judged-numbered : (source : Source) → Numbered (judged rows cols side settings source ground g)
   unfolding judged tests
-  judged-numbered =
-      verdict-numbered size (long ∷ sided ∷ chosen ∷ heights ∷ []) size-numbered
-      (verdict-numbered long (sided ∷ chosen ∷ heights ∷ []) long-numbered
-      (verdict-numbered sided (chosen ∷ heights ∷ []) side-numbered
-      (verdict-numbered chosen (heights ∷ []) settings-numbered (verdict-numbered heights [] heights-numbered none-numbered))))
+  judged-numbered source =
+      verdict-numbered size (long ∷ sided ∷ chosen ∷ heights ∷ later source) size-numbered
+      (verdict-numbered long (sided ∷ chosen ∷ heights ∷ later source) long-numbered
+      (verdict-numbered sided (chosen ∷ heights ∷ later source) side-numbered
+      (verdict-numbered chosen (heights ∷ later source) settings-numbered (verdict-numbered heights (later source) heights-numbered (later-numbered source)))))
 
   -- an answer with number 0 is no refusal
-  pub number-some : told (answer rows cols side settings ground g) .number ≡ 0 → accepts (answer rows cols side settings ground g) ≡ true
+  pub number-some : (source : Source) → told (answer rows cols side settings source ground g) .number ≡ 0 → accepts (answer rows cols side settings source ground g) ≡ true
   unfolding answer
-  number-some = answer-some rows cols ground (judged rows cols side settings ground g) judged-numbered
+  number-some source = answer-some rows cols ground (directionsBy source rows cols ground (g .direction)) (judged rows cols side settings source ground g) (judged-numbered source)
+
+  -- the first four leave the workspace as it was
+  first-number : OfNumber Early first
+  unfolding firstTests verdict sizeTest lengthTest sideTest settingsTest
+  first-number =
+      verdict-number Early size (long ∷ sided ∷ chosen ∷ []) (test-number Early (sizeAccepted rows && sizeAccepted cols) 1 0 refl)
+      (verdict-number Early long (sided ∷ chosen ∷ []) (test-number Early (allLong (rows * cols) (placesOf ground g)) 2 0 refl)
+      (verdict-number Early sided (chosen ∷ []) (test-number Early (sideAccepted side) 3 0 refl) (verdict-number Early chosen [] (go (judgedOf settings)) tt)))
+    where
+      go : (j : Judged) → OfNumber Early (testOf j)
+      go (Accepted rules) = tt
+      go (Refused place) = refl
+
+  pub first-kept : {number place : ℕ} → first ≡ failed number place → refusedGrids number g ≡ g
+  first-kept e =
+      ap (λ (b : Bool). cond b (lent (g .filled) (g .direction) (g .count) (g .lengths) (g .factors) (replicate (length (g .workspace)) 0)) g)
+      (subst (OfNumber Early) e first-number)

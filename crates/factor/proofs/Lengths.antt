@@ -176,7 +176,7 @@ module _ {rows cols : ℕ} {dir : List ℕ} (d : Directed rows cols dir) (side :
 
   -- even one step more is below 15,000,000,000
   pub length-small : (z : ℕ) → lengthIn rows cols side rules lv dir count (rows * cols) z ≤ 14900000000
-  length-small z = omega (arith, length-le size z, d .sized .small)
+  length-small z = omega (arith, length-le size z, d .drawn .sized .small)
 
   -- ---- the grid of lengths
 

@@ -1,7 +1,7 @@
 -- RULES 3 and 7.2 to 7.4: what the map call answers, and what each lent grid holds afterwards; and the tests 1 to 4 by themselves. Assumes nothing.
 use mathlib.Core.List.{List, [], _∷_}
 use mathlib.Core.Path.{_≡_}
-use mathlib.Core.Bool.{Bool, true, false}
+use mathlib.Core.Bool.{Bool, true, false, cond}
 use Prim.Native.Nat.{ℕ, _*_}
 use lib.ListN.{length, replicate}
 use lib.IntN.{ℤ}
@@ -14,7 +14,8 @@ use Rattle.settings.specs.declared.Rules.{Rules}
 use Rattle.settings.specs.Settings.{rulesOf, settingsTest}
 use Rattle.terrain.specs.Filled.{filledLevels, filledOf}
 use Rattle.terrain.specs.Trail.{countsOf, longestOf}
-use Rattle.terrain.specs.Answers.{groundValids, groundDirections}
+use Rattle.terrain.specs.Answers.{groundValids, groundDirections, sourceTests, directionsBy, leavesZeros}
+use Rattle.terrain.specs.declared.Source.{Source}
 use Rattle.factor.specs.Length.{lengthsOf}
 use Rattle.factor.specs.Grid.{factorsOf}
 use Rattle.factor.specs.declared.Answer.{Answer}
@@ -54,15 +55,17 @@ abbrev pub placesOf : List ℤ → Grids → List ℕ
 placesOf ground g =
     length ground ∷ length (g .filled) ∷ length (g .direction) ∷ length (g .count) ∷ length (g .lengths) ∷ length (g .factors) ∷ length (g .workspace) ∷ []
 
--- The map call tests 1, 2, 3, 4, 5 in that order, 5 at the first bad cell in row order.
-unfoldable pub tests : ℕ → ℕ → ℕ → Settings → List ℤ → Grids → List Test
-tests rows cols side settings ground g =
-    sizeTest rows cols ∷ lengthTest (rows * cols) (placesOf ground g) ∷ sideTest side ∷ settingsTest settings ∷ heightTest (rows * cols) ground ∷ []
+-- The map call tests 1, 2, 3, 4, 5 in that order, 5 at the first bad cell in row order; then, if the lent directions are given ones, 17 and 18.
+unfoldable pub tests : ℕ → ℕ → ℕ → Settings → Source → List ℤ → Grids → List Test
+unfolding filledLevels
+tests rows cols side settings source ground g =
+    sizeTest rows cols ∷ lengthTest (rows * cols) (placesOf ground g) ∷ sideTest side ∷ settingsTest settings ∷ heightTest (rows * cols) ground
+    ∷ sourceTests source rows cols (filledLevels rows cols ground) (g .direction)
 
 -- what they decide
-unfoldable pub judged : ℕ → ℕ → ℕ → Settings → List ℤ → Grids → Test
+unfoldable pub judged : ℕ → ℕ → ℕ → Settings → Source → List ℤ → Grids → Test
 unfolding tests verdict
-judged rows cols side settings ground g = verdict (tests rows cols side settings ground g)
+judged rows cols side settings source ground g = verdict (tests rows cols side settings source ground g)
 
 -- the grids of a ground for a list of directions. The workspace holds zeros after success.
 unfoldable pub mapOf : ℕ → ℕ → ℕ → Rules → List ℤ → List ℕ → Grids
@@ -74,25 +77,31 @@ mapOf rows cols side rules ground dir =
     lent (filledOf rows cols ground) dir count lengths (factorsOf rows cols side (rules .formula) lv dir lengths) (replicate (rows * cols) 0)
 
 -- The answer also gives the number of valid cells and the longest trail; a refusal has number and place
-unfoldable pub answerOf : ℕ → ℕ → List ℤ → Test → Answer
-unfolding groundValids groundDirections longestOf
-answerOf rows cols ground passed = let dir = groundDirections rows cols ground in Accepted (groundValids rows cols ground) (longestOf rows cols dir)
-answerOf rows cols ground (failed number place) = Refused (record { number = number; place = place })
+unfoldable pub answerOf : ℕ → ℕ → List ℤ → List ℕ → Test → Answer
+unfolding groundValids longestOf
+answerOf rows cols ground dir passed = Accepted (groundValids rows cols ground) (longestOf rows cols dir)
+answerOf rows cols ground dir (failed number place) = Refused (record { number = number; place = place })
 
--- A refusal changes no lent grid.
-unfoldable pub gridsOf : ℕ → ℕ → ℕ → Settings → List ℤ → Grids → Test → Grids
-unfolding rulesOf groundDirections mapOf
-gridsOf rows cols side settings ground g passed = let dir = groundDirections rows cols ground in mapOf rows cols side (rulesOf settings) ground dir
-gridsOf rows cols side settings ground g (failed number place) = g
+-- A refusal changes no lent grid; 17 and 18 leave zeros in the workspace.
+abbrev pub refusedGrids : ℕ → Grids → Grids
+refusedGrids number g =
+    cond (leavesZeros number) (lent (g .filled) (g .direction) (g .count) (g .lengths) (g .factors) (replicate (length (g .workspace)) 0)) g
 
--- the whole of the map call
-unfoldable pub answer : ℕ → ℕ → ℕ → Settings → List ℤ → Grids → Answer
-unfolding judged answerOf
-answer rows cols side settings ground g = answerOf rows cols ground (judged rows cols side settings ground g)
+unfoldable pub gridsOf : ℕ → ℕ → ℕ → Settings → List ℤ → List ℕ → Grids → Test → Grids
+unfolding rulesOf mapOf
+gridsOf rows cols side settings ground dir g passed = mapOf rows cols side (rulesOf settings) ground dir
+gridsOf rows cols side settings ground dir g (failed number place) = refusedGrids number g
 
-unfoldable pub after : ℕ → ℕ → ℕ → Settings → List ℤ → Grids → Grids
-unfolding judged gridsOf
-after rows cols side settings ground g = gridsOf rows cols side settings ground g (judged rows cols side settings ground g)
+-- the whole of the map call, for directions of our own or given ones
+unfoldable pub answer : ℕ → ℕ → ℕ → Settings → Source → List ℤ → Grids → Answer
+unfolding judged answerOf groundDirections
+answer rows cols side settings source ground g =
+    answerOf rows cols ground (directionsBy source rows cols ground (g .direction)) (judged rows cols side settings source ground g)
+
+unfoldable pub after : ℕ → ℕ → ℕ → Settings → Source → List ℤ → Grids → Grids
+unfolding judged gridsOf groundDirections
+after rows cols side settings source ground g =
+    gridsOf rows cols side settings ground (directionsBy source rows cols ground (g .direction)) g (judged rows cols side settings source ground g)
 
 -- ---- the tests 1 to 4, which are made before the heights are looked at
 

@@ -15,6 +15,7 @@ use Rattle.factor.specs.LengthFactor.{greatestMm, reached}
 use Rattle.terrain.specs.Filled.{top}
 use Rattle.terrain.specs.Drainage.{Trails, Totals, Surface}
 use Rattle.terrain.specs.Answers.{groundValids}
+use Rattle.terrain.specs.declared.Source.{Source}
 use Rattle.factor.specs.Answers.{Grids, firstTests, answer, after, accepts, told}
 use Rattle.factor.specs.declared.Answer.{Answer}
 
@@ -77,11 +78,11 @@ module _ (rows cols side : ℕ) (settings : Settings) where
     pub rules-are : rules ≡ rulesOf settings
 
   -- the promise of the map call, for lent grids g, an answer, and the grids h that it leaves
-  module _ (ground : List ℤ) (g : Grids) where
+  module _ (source : Source) (ground : List ℤ) (g : Grids) where
     abbrev pub Promised : Answer → Grids → Type 0
     Promised a h =
-        (a ≡ answer rows cols side settings ground g)
-        × ((h ≡ after rows cols side settings ground g)
+        (a ≡ answer rows cols side settings source ground g)
+        × ((h ≡ after rows cols side settings source ground g)
         × ((accepts a ≡ true → Trails rows cols ground (h .filled) (h .direction))
         × ((accepts a ≡ true → Totals rows cols ground (h .direction) (h .count) (told a .valids))
         × (accepts a ≡ true → Surface rows cols ground (h .filled)))))

@@ -23,6 +23,7 @@ pub use channel::channel_bound;
 pub use channel::largest;
 pub use settings::Channel;
 pub use settings::Settings;
+pub use terrain::Source;
 pub use tests::Judgement;
 pub use tests::judge;
 ghost use mathlib.Core.Path.{_≡_};
@@ -58,6 +59,7 @@ fn map_sound(
     columns: usize,
     side: u32,
     rules: Rules,
+    source: Source,
     ground: &[i32],
     filled: &mut [i32],
     direction: &mut [u8],
@@ -69,12 +71,13 @@ fn map_sound(
     requires { ⌜ ((settings : Settings) × Passing rows columns side settings rules (now ground) (lentAt filled direction count lengths factors workspace)) ⌝ }
     ensures { λ r. ⌜ ((settings : Settings) →
         Passing rows columns side settings rules (now (ground .entry)) (lentBefore filled direction count lengths factors workspace) →
-        Promised rows columns side settings (now (ground .entry)) (lentBefore filled direction count lengths factors workspace)
+        Promised rows columns side settings source (now (ground .entry)) (lentBefore filled direction count lengths factors workspace)
         r (lentAfter filled direction count lengths factors workspace)) ⌝ }
 {
     let drained = terrain::map(
         rows,
         columns,
+        source,
         ground,
         filled,
         direction,
@@ -106,12 +109,14 @@ fn map_sound(
 }
 
 // Maps a ground of rows times columns heights with cells of the given side in cm, each lent grid and the workspace having
-// one place per cell. A refusal changes nothing that is lent; after success the workspace holds zeros.
+// one place per cell. Given directions stand in the lent grid, and stay there. A refusal changes nothing that is lent, but that 17
+// and 18 leave zeros in the workspace; after success it holds zeros.
 pub fn map(
     rows: usize,
     columns: usize,
     side: u32,
     settings: Settings,
+    source: Source,
     ground: &[i32],
     filled: &mut [i32],
     direction: &mut [u8],
@@ -120,10 +125,10 @@ pub fn map(
     factors: &mut [u32],
     workspace: &mut [u32],
 ) -> Answer
-    ensures answers { λ r. ⌜ r ≡ answer rows columns side settings (now (ground .entry)) (lentBefore filled direction count lengths factors workspace) ⌝ }
+    ensures answers { λ r. ⌜ r ≡ answer rows columns side settings source (now (ground .entry)) (lentBefore filled direction count lengths factors workspace) ⌝ }
     ensures leaves { λ _. ⌜
         lentAfter filled direction count lengths factors workspace
-        ≡ after rows columns side settings (now (ground .entry)) (lentBefore filled direction count lengths factors workspace) ⌝ }
+        ≡ after rows columns side settings source (now (ground .entry)) (lentBefore filled direction count lengths factors workspace) ⌝ }
     ensures trails { λ r. ⌜ (accepts r ≡ true → Trails rows columns (now (ground .entry)) (now (filled .exit)) (now (direction .exit))) ⌝ }
     ensures totals { λ r. ⌜ (accepts r ≡ true →
         Totals rows columns (now (ground .entry)) (now (direction .exit)) (now (count .exit)) (told r .valids)) ⌝ }
@@ -149,6 +154,7 @@ pub fn map(
             columns,
             side,
             rules,
+            source,
             ground,
             filled,
             direction,

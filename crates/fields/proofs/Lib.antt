@@ -2,3 +2,4 @@ pub mod Papers
 pub mod Inland
 pub mod Rules
 pub mod Formulas
+pub mod Drawn

@@ -11,6 +11,7 @@ use Rattle.settings.specs.declared.Settings.{Settings}
 use Rattle.settings.specs.declared.Rules.{Rules}
 use Rattle.settings.specs.Settings.{quotient}
 use Rattle.terrain.specs.Answers.{groundDirections}
+use Rattle.terrain.specs.declared.Source.the-variants.{Own, Given}
 use Rattle.factor.specs.Exponent.{exponentOf}
 use Rattle.factor.specs.LengthFactor.{lengthFactor}
 use Rattle.factor.specs.Steepness.{sineOf, steepnessFactor}
@@ -43,6 +44,9 @@ half = settings 50 50
 pub data Claim : Type 0 where
   -- rows, columns, cell side in cm, settings and ground give this map
   mapped : ℕ → ℕ → ℕ → Settings → List ℤ → Maps → Claim
+  -- or, with these directions given, this map; or number and place, and zeros in the workspace
+  drawn : ℕ → ℕ → ℕ → Settings → List ℤ → List ℕ → Maps → Claim
+  drawnWrong : ℕ → ℕ → ℕ → Settings → List ℤ → List ℕ → ℕ → ℕ → Claim
   -- or number and place
   refusedAt : ℕ → ℕ → ℕ → Settings → List ℤ → ℕ → ℕ → Claim
   -- or, with the rules of accepted settings, these lengths
@@ -61,12 +65,23 @@ abbrev pub lent : ℕ → Grids
 lent n =
     record { filled = replicate n (pos 7); direction = replicate n 7; count = replicate n 7; lengths = replicate n 7; factors = replicate n 7; workspace = replicate n 7 }
 
+-- the same with given directions in their grid, and with another workspace
+abbrev pub lentWith : List ℕ → List ℕ → ℕ → Grids
+lentWith given workspace n =
+    record { filled = replicate n (pos 7); direction = given; count = replicate n 7; lengths = replicate n 7; factors = replicate n 7; workspace = workspace }
+
 abbrev pub Holds : Claim → Type 0
 Holds (mapped rows cols side given ground m) =
-    (answer rows cols side given ground (lent (rows * cols)) ≡ Accepted (m .valids) (m .longest))
-    × (after rows cols side given ground (lent (rows * cols)) ≡ record { filled = m .filled; direction = m .direction; count = m .count; lengths = m .lengths; factors = m .factors; workspace = replicate (rows * cols) 0 })
+    (answer rows cols side given Own ground (lent (rows * cols)) ≡ Accepted (m .valids) (m .longest))
+    × (after rows cols side given Own ground (lent (rows * cols)) ≡ record { filled = m .filled; direction = m .direction; count = m .count; lengths = m .lengths; factors = m .factors; workspace = replicate (rows * cols) 0 })
+Holds (drawn rows cols side settings ground given m) =
+    (answer rows cols side settings Given ground (lentWith given (replicate (rows * cols) 7) (rows * cols)) ≡ Accepted (m .valids) (m .longest))
+    × (after rows cols side settings Given ground (lentWith given (replicate (rows * cols) 7) (rows * cols)) ≡ record { filled = m .filled; direction = m .direction; count = m .count; lengths = m .lengths; factors = m .factors; workspace = replicate (rows * cols) 0 })
+Holds (drawnWrong rows cols side settings ground given number place) =
+    (answer rows cols side settings Given ground (lentWith given (replicate (rows * cols) 7) (rows * cols)) ≡ Refused (record { number = number; place = place }))
+    × (after rows cols side settings Given ground (lentWith given (replicate (rows * cols) 7) (rows * cols)) ≡ lentWith given (replicate (rows * cols) 0) (rows * cols))
 Holds (refusedAt rows cols side given ground number place) =
-    (answer rows cols side given ground (lent 2) ≡ Refused (record { number = number; place = place })) × (after rows cols side given ground (lent 2) ≡ lent 2)
+    (answer rows cols side given Own ground (lent 2) ≡ Refused (record { number = number; place = place })) × (after rows cols side given Own ground (lent 2) ≡ lent 2)
 Holds (measured rows cols side rules ground lengths) = (let dir = groundDirections rows cols ground in mapOf rows cols side rules ground dir .lengths) ≡ lengths
 Holds (reaches k mm t) = lengthFactor k mm ≡ t
 Holds (east drop k) = exponentOf 1000 (2 * (drop * drop)) ≡ k

@@ -1,7 +1,7 @@
 -- Settings as plain numbers, for a caller that has no enum. RULES 7.3: the channel rule is a percentage of the largest flow count, a
 -- number of cells, or none; the steepness formula is the older or the newer one. Assumes nothing.
 use Prim.Native.Nat.{ℕ}
-use mathlib.Core.Bool.{cond}
+use mathlib.Core.Bool.{Bool, true, false, cond}
 use lib.Dec.{eqb, leb}
 use lib.Ieee.{Float}
 use Rattle.laws.specs.Tests.{Test, test}
@@ -11,6 +11,8 @@ use Rattle.settings.specs.declared.Channel.the-variants.{Percentage, Cells, NoC
 use Rattle.settings.specs.declared.Formula.{Formula}
 use Rattle.settings.specs.declared.Formula.the-variants.{Older, Newer}
 use Rattle.settings.specs.declared.Settings.{Settings}
+use Rattle.terrain.specs.declared.Source.{Source}
+use Rattle.terrain.specs.declared.Source.the-variants.{Own, Given}
 
 -- the two cutoffs; the kind of channel rule, 0 none, 1 a number of cells, 2 a percentage; these two; and the formula, 0 older, 1 newer
 pub record Numbers : Type 0 where
@@ -42,6 +44,11 @@ formulaOf n = cond (eqb n 0) Older Newer
 -- 4: a setting not accepted; place 7, the formula, is judged after the channel rule's place 3
 unfoldable pub formulaTest : ℕ → Test
 formulaTest n = test (leb n 1) 4 7
+
+-- whose directions a map takes: given ones, or our own
+abbrev pub sourceOf : Bool → Source
+sourceOf true = Given
+sourceOf false = Own
 
 unfoldable pub settingsOf : Float → Float → ℕ → ℕ → Float → ℕ → Settings
 unfolding channelOf formulaOf

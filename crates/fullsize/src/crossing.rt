@@ -1,8 +1,9 @@
 // Settings as plain numbers: the two cutoffs, the kind of channel rule (0 none, 1 a number of cells, 2 a percentage), the number of cells and
-// the percentage, of which the kind says which one counts, and the steepness formula (0 older, 1 newer).
+// the percentage, of which the kind says which one counts, and the steepness formula (0 older, 1 newer). Whether directions are given.
 ghost use mathlib.Core.Path.{_≡_};
-ghost use Rattle.fullsize.specs.Crossing.{numbersOf, channelOf, formulaOf, formulaNumber, settingsOf};
+ghost use Rattle.fullsize.specs.Crossing.{numbersOf, channelOf, formulaOf, formulaNumber, settingsOf, sourceOf};
 ghost use Rattle.fullsize.specs.Lent.{numbersAfter};
+use factor::Source;
 use settings::Channel;
 use settings::Formula;
 use settings::Settings;
@@ -40,6 +41,16 @@ fn formula_number(formula: Formula) -> u32
         Formula::Older => 0,
         Formula::Newer => 1,
     }
+}
+
+// Whose directions a map takes.
+pub(crate) fn source_of(given: bool) -> Source
+    ensures { λ r. ⌜ r ≡ sourceOf given ⌝ }
+{
+    if given {
+        return Source::Given;
+    }
+    Source::Own
 }
 
 pub(crate) fn settings_of(

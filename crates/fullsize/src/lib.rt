@@ -16,11 +16,11 @@ ghost use Rattle.settings.specs.Settings.{defaultSettings};
 ghost use Rattle.terrain.specs.Drainage.{Trails, Totals, Surface};
 ghost use Rattle.factor.specs.Answers.{told, lentBefore, lentAfter};
 ghost use Rattle.writer.specs.Text.{frame};
-ghost use Rattle.writer.specs.Answers.{heightCells, countCells, factorCells};
+ghost use Rattle.writer.specs.Answers.{heightCells, countCells, factorCells, directionCells};
 ghost use Rattle.writer.specs.Answers as W;
 ghost use Rattle.writer.specs.Rooms.{roomFor, Holds};
 ghost use Rattle.fullsize.specs.Outcomes.{gridReading};
-ghost use Rattle.fullsize.specs.Crossing.{numbersOf, settingsOf};
+ghost use Rattle.fullsize.specs.Crossing.{numbersOf, settingsOf, sourceOf};
 ghost use Rattle.fullsize.specs.Mapping.{answerBy, afterBy};
 ghost use Rattle.report.specs.Maps.{mapOf};
 ghost use Rattle.report.specs.Reports.{reportOf};
@@ -107,7 +107,8 @@ pub extern "C" fn lsmap_default_settings(
     crossing::hand_out(settings, low, high, kind, cells, percentage, formula)
 }
 
-// Maps a ground into the lent grids: `factor::map`, with the settings of the six numbers.
+// Maps a ground into the lent grids: `factor::map`, with the settings of the six numbers, and with the directions that the lent
+// grid holds if they are given.
 #[no_mangle]
 pub extern "C" fn lsmap_map(
     rows: usize,
@@ -119,6 +120,7 @@ pub extern "C" fn lsmap_map(
     cells: u32,
     percentage: f64,
     formula: u32,
+    given: bool,
     ground: &[i32],
     filled: &mut [i32],
     direction: &mut [u8],
@@ -131,10 +133,10 @@ pub extern "C" fn lsmap_map(
     longest: &mut u32,
 ) -> u32
     ensures answers { λ r. ⌜ mappingAfter r place valid longest
-        ≡ told (answerBy rows columns side (settingsOf low high kind cells percentage formula) formula (now (ground .entry))
+        ≡ told (answerBy rows columns side (settingsOf low high kind cells percentage formula) formula (sourceOf given) (now (ground .entry))
         (lentBefore filled direction count lengths factors workspace)) ⌝ }
     ensures leaves { λ _. ⌜ lentAfter filled direction count lengths factors workspace
-        ≡ afterBy rows columns side (settingsOf low high kind cells percentage formula) formula (now (ground .entry))
+        ≡ afterBy rows columns side (settingsOf low high kind cells percentage formula) formula (sourceOf given) (now (ground .entry))
         (lentBefore filled direction count lengths factors workspace) ⌝ }
     ensures trails { λ r. ⌜ (r ≡ 0 → Trails rows columns (now (ground .entry)) (now (filled .exit)) (now (direction .exit))) ⌝ }
     ensures totals { λ r. ⌜ (r ≡ 0 →
@@ -142,12 +144,14 @@ pub extern "C" fn lsmap_map(
     ensures surface { λ r. ⌜ (r ≡ 0 → Surface rows columns (now (ground .entry)) (now (filled .exit))) ⌝ }
 {
     let settings = crossing::settings_of(low, high, kind, cells, percentage, formula);
+    let source = crossing::source_of(given);
     let answer = mapping::map(
         rows,
         columns,
         side,
         settings,
         formula,
+        source,
         ground,
         filled,
         direction,
@@ -222,6 +226,36 @@ pub extern "C" fn lsmap_write_factors(
         (factorCells (now (factors .entry))) (now (room .entry)) ⌝ }
 {
     let answer = writer::write_factors(rows, columns, side, x_corner, y_corner, factors, room);
+    answers::hand_out_writing(answer, place, length)
+}
+
+// Writes directions as a text into the lent room: `writer::write_directions`.
+#[no_mangle]
+pub extern "C" fn lsmap_write_directions(
+    rows: usize,
+    columns: usize,
+    side: u32,
+    x_corner: &[u8],
+    y_corner: &[u8],
+    directions: &[u8],
+    room: &mut [u8],
+    place: &mut usize,
+    length: &mut usize,
+) -> u32
+    ensures answers { λ r. ⌜ writingAfter r place length ≡ W.told (W.answer (frame rows columns side (now («x_corner» .entry)) (now («y_corner» .entry)))
+        (directionCells (now (directions .entry))) (now (room .entry))) ⌝ }
+    ensures leaves { λ _. ⌜ now (room .exit) ≡ W.after (frame rows columns side (now («x_corner» .entry)) (now («y_corner» .entry)))
+        (directionCells (now (directions .entry))) (now (room .entry)) ⌝ }
+{
+    let answer = writer::write_directions(
+        rows,
+        columns,
+        side,
+        x_corner,
+        y_corner,
+        directions,
+        room,
+    );
     answers::hand_out_writing(answer, place, length)
 }
 

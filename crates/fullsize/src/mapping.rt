@@ -8,6 +8,7 @@ ghost use Rattle.fullsize.specs.Mapping.{answerBy, afterBy};
 ghost use Rattle.fullsize.specs.InnerMapping.{withoutFormula};
 use factor::Answer;
 use factor::Judgement;
+use factor::Source;
 use settings::Settings;
 use text::Refusal;
 
@@ -24,13 +25,14 @@ fn without_formula(judgement: Judgement) -> Answer
     }
 }
 
-// Maps a ground into the lent grids, by settings and the number of their formula.
+// Maps a ground into the lent grids, by settings, the number of their formula, and whose directions it takes.
 pub(crate) fn map(
     rows: usize,
     columns: usize,
     side: u32,
     settings: Settings,
     formula: u32,
+    source: Source,
     ground: &[i32],
     filled: &mut [i32],
     direction: &mut [u8],
@@ -39,9 +41,9 @@ pub(crate) fn map(
     factors: &mut [u32],
     workspace: &mut [u32],
 ) -> Answer
-    ensures answers { λ r. ⌜ r ≡ answerBy rows columns side settings formula (now (ground .entry)) (lentBefore filled direction count lengths factors workspace) ⌝ }
+    ensures answers { λ r. ⌜ r ≡ answerBy rows columns side settings formula source (now (ground .entry)) (lentBefore filled direction count lengths factors workspace) ⌝ }
     ensures leaves { λ _. ⌜ lentAfter filled direction count lengths factors workspace
-        ≡ afterBy rows columns side settings formula (now (ground .entry)) (lentBefore filled direction count lengths factors workspace) ⌝ }
+        ≡ afterBy rows columns side settings formula source (now (ground .entry)) (lentBefore filled direction count lengths factors workspace) ⌝ }
     ensures trails { λ r. ⌜ (accepts r ≡ true → Trails rows columns (now (ground .entry)) (now (filled .exit)) (now (direction .exit))) ⌝ }
     ensures totals { λ r. ⌜ (accepts r ≡ true →
         Totals rows columns (now (ground .entry)) (now (direction .exit)) (now (count .exit)) (told r .valids)) ⌝ }
@@ -68,6 +70,7 @@ pub(crate) fn map(
         columns,
         side,
         settings,
+        source,
         ground,
         filled,
         direction,

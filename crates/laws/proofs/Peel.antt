@@ -14,7 +14,7 @@ use Rattle.laws.specs.Sums.{sumTo, when}
 use Rattle.laws.specs.Orders.{standsIn, Pointing}
 use Rattle.laws.specs.Peel.{leftOf, Peeling, Taking}
 use Rattle.laws.proofs.Tests.{two}
-use Rattle.laws.proofs.Sums.{sum-but-one, sum-ge, sum-ext, sum-zero, sum-one, sum-add, sum-ones, when-yes, when-no, when-under, when-zero}
+use Rattle.laws.proofs.Sums.{sum-but-one, sum-ge, sum-le, sum-ext, sum-zero, sum-one, sum-add, sum-ones, when-yes, when-no, when-under, when-le, when-zero}
 use Rattle.laws.proofs.Orders.{stands-none, stands-set, stands-store, stands-le, stands-here, stands-at, stands-total, placed-store, placed-here, placed-other}
 
 module _ {n : ℕ} {cell : ℕ → Bool} {to : ℕ → ℕ} (f : Pointing n cell to) where
@@ -36,6 +36,11 @@ module _ {n : ℕ} {cell : ℕ → Bool} {to : ℕ → ℕ} (f : Pointing n cell
   left-none order p z h =
       sum-zero n (λ x. when (eqb (to x) z) (1 - standsIn order p x)) (λ x l.
       ⊎-elim (λ e. when-yes (1 - standsIn order p x) e ∙ omega (arith, h x (eqb-true (to x) z e))) (λ e. when-no (1 - standsIn order p x) e) (two (eqb (to x) z)))
+
+  -- a cell waits for no more than point at it
+  pub left-le : (order : List ℕ) (p z : ℕ) → leftOf n to order p z ≤ sumTo n (λ x. when (eqb (to x) z) 1)
+  unfolding leftOf
+  left-le order p z = sum-le n (λ x. when (eqb (to x) z) (1 - standsIn order p x)) (λ x. when (eqb (to x) z) 1) (λ x l. when-le (eqb (to x) z) (1 - standsIn order p x) 1 (λ e. omega arith))
 
   -- x is taken at the next place
   left-take : (order : List ℕ) (p z x : ℕ) → x < n → p < length order → standsIn order p x ≡ 0 → leftOf n to order p z ≡ leftOf n to (set order p x) (p + 1) z + when (eqb (to x) z) 1
@@ -89,7 +94,7 @@ module _ {n : ℕ} {cell : ℕ → Bool} {to : ℕ → ℕ} (f : Pointing n cell
     hand-after h u e = omega (arith, left-ge order p x u h e, s .waits x (hand-cell h) (hand-new h), s .held h)
 
     -- the cell that it points at is not taken
-    next-new : x < n → to x < n → standsIn order p (to x) ≡ 0
+    pub next-new : x < n → to x < n → standsIn order p (to x) ≡ 0
     next-new h k =
         elim (decLt 0 (standsIn order p (to x))) [
           | yes l ↦ (let r = stands-at order p (to x) l in absurd (omega (arith, s .after (r .0) x (r .1) (sym (r .2)), stands-le order (r .0) p x (omega (arith, r .1)), hand-new h)))

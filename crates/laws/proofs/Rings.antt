@@ -24,13 +24,26 @@ use Rattle.laws.proofs.Peel.{end-taken}
 
 -- ---- walks
 
-walk-none : (to : ℕ → ℕ) (x : ℕ) → walkTo to 0 x ≡ x
+pub walk-none : (to : ℕ → ℕ) (x : ℕ) → walkTo to 0 x ≡ x
 unfolding walkTo
 walk-none to x = refl
 
 walk-more : (to : ℕ → ℕ) (m x : ℕ) → walkTo to (m + 1) x ≡ to (walkTo to m x)
 unfolding walkTo
 walk-more to m x = rw add-one
+
+-- the first step, and then the others
+pub walk-first : (to : ℕ → ℕ) (m x : ℕ) → walkTo to (suc m) x ≡ walkTo to m (to x)
+unfolding walkTo
+walk-first to zero x = refl
+walk-first to (suc m) x = ap to (walk-first to m x)
+
+-- one walk after another
+pub walk-join : (to : ℕ → ℕ) (a b c x : ℕ) → c ≡ a + b → walkTo to c x ≡ walkTo to a (walkTo to b x)
+unfolding walkTo
+walk-join to zero b c x e = let q : c ≡ b = omega arith in ap (λ (m : ℕ). walkTo to m x) q
+walk-join to (suc a) b zero x e = absurd (omega arith)
+walk-join to (suc a) b (suc c) x e = ap to (walk-join to a b c x (omega arith))
 
 -- ---- a ring
 
@@ -50,22 +63,63 @@ module _ {n : ℕ} {to : ℕ → ℕ} {x : ℕ} (r : OnRing n to x) where
         | no d ↦ omega (arith, ring-waits order p after k i (omega arith) l, stands-more order k (walkTo to i x), when-no 1 (ne-eqb (getD order k 0) (walkTo to i x) d), ap (λ (m : ℕ). standsIn order m (walkTo to i x)) (add-one k))
       ]
 
+  -- its last step, too, leads to a cell
+  pub ring-inside : (i : ℕ) → i ≤ r .steps → walkTo to i x < n
+  ring-inside i h =
+      elim (decLt i (r .steps)) [
+        | yes l ↦ r .inside i l
+        | no d ↦ (let e : i ≡ r .steps = omega arith in omega (arith, ap (λ (m : ℕ). walkTo to m x) e, r .back, r .inside 0 (r .some), walk-none to x))
+      ]
+
+  pub ring-next : to x < n
+  ring-next = omega (arith, ring-inside 1 (r .some), walk-first to 0 x ∙ walk-none to (to x))
+
+  -- no more steps than cells lead back
+  pub ring-few : (m : ℕ) × (m < n) × (walkTo to m (to x) ≡ x)
+  ring-few = elim (decLt n (r .steps)) [ yes l ↦ shorter (pigeon-meet n (n + 1) (λ i. walkTo to i x) (omega arith) (λ i h. ring-inside i (omega arith))) | no d ↦ few (r .steps) (r .some) (omega arith) (r .back) ]
+    where
+      few : (m : ℕ) → 0 < m → m ≤ n → walkTo to m x ≡ x → (k : ℕ) × (k < n) × (walkTo to k (to x) ≡ x)
+      few zero h l e = absurd (omega arith)
+      few (suc m) h l e = (m, omega arith, sym (walk-first to m x) ∙ e)
+
+      shorter : (i : ℕ) × (j : ℕ) × (i < j) × (j < n + 1) × (walkTo to i x ≡ walkTo to j x) → (k : ℕ) × (k < n) × (walkTo to k (to x) ≡ x)
+      shorter (i, j, h, k, e) =
+          elim (decLt (r .steps) i) [
+            | yes l ↦ few (r .steps) (r .some) (omega arith) (r .back)
+            | no l ↦
+                few (j - i) (omega arith) (omega arith)
+                (ap (walkTo to (j - i)) (sym (r .back))
+                ∙ sym (walk-join to (j - i) (r .steps) (r .steps - i + j) x (omega arith))
+                ∙ walk-join to (r .steps - i) j (r .steps - i + j) x refl
+                ∙ ap (walkTo to (r .steps - i)) (sym e)
+                ∙ sym (walk-join to (r .steps - i) i (r .steps) x (omega arith))
+                ∙ r .back)
+          ]
+
   -- there is none where ranks fall
   pub falling-ringless : {rank : ℕ → ℕ} → Falling n to rank → ⊥
   falling-ringless {rank} f = omega (arith, r .some, falls (r .steps) (omega arith), ap rank (r .back))
     where
-      below : (i : ℕ) → i ≤ r .steps → walkTo to i x < n
-      below i h =
-          elim (decLt i (r .steps)) [
-            | yes l ↦ r .inside i l
-            | no d ↦ (let e : i ≡ r .steps = omega arith in omega (arith, ap (λ (m : ℕ). walkTo to m x) e, r .back, r .inside 0 (r .some), walk-none to x))
-          ]
-
       falls : (i : ℕ) → i ≤ r .steps → rank (walkTo to i x) + i ≤ rank x
       falls zero h = omega (arith, ap rank (walk-none to x))
       falls (suc i) h =
           let e : walkTo to (suc i) x ≡ to (walkTo to i x) = ap (λ (m : ℕ). walkTo to m x) (sym (add-one i)) ∙ walk-more to i x in
-          omega (arith, falls i (omega arith), f .less (walkTo to i x) (omega (arith, below (suc i) h, e)), ap rank e)
+          omega (arith, falls i (omega arith), f .less (walkTo to i x) (omega (arith, ring-inside (suc i) h, e)), ap rank e)
+
+-- a walk of as many steps as there are cells meets a ring
+pub long-ring : {n : ℕ} {to : ℕ → ℕ} (x : ℕ) → ((i : ℕ) → i ≤ n → walkTo to i x < n) → (z : ℕ) × OnRing n to z
+long-ring {n} {to} x below = go (pigeon-meet n (n + 1) (λ i. walkTo to i x) (omega arith) (λ i h. below i (omega arith)))
+  where
+    go : (i : ℕ) × (j : ℕ) × (i < j) × (j < n + 1) × (walkTo to i x ≡ walkTo to j x) → (z : ℕ) × OnRing n to z
+    go (i, j, h, k, e) = (
+      walkTo to i x,
+      record {
+        steps = j - i;
+        some = omega arith;
+        inside = (λ t l. omega (arith, walk-join to t i (t + i) x refl, below (t + i) (omega arith)));
+        back = sym (walk-join to (j - i) i j x (omega arith)) ∙ sym e;
+      },
+    )
 
 -- of cells without end, each of which points at the one before, the first is on a ring: one must come again
 module _ {n : ℕ} (to c : ℕ → ℕ) (below : (i : ℕ) → c i < n) (points : (i : ℕ) → to (c (suc i)) ≡ c i) where

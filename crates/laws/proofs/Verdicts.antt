@@ -80,3 +80,17 @@ pub verdict-numbered : (t : Test) (l : List Test) → Numbered t → Numbered (v
 unfolding verdict
 verdict-numbered passed l h i = i
 verdict-numbered (failed number place) l h i = h
+
+-- what holds of the number of a refusal
+abbrev pub OfNumber : (ℕ → Type 0) → Test → Type 0
+OfNumber P passed = Unit
+OfNumber P (failed number place) = P number
+
+pub test-number : (P : ℕ → Type 0) (ok : Bool) (number place : ℕ) → P number → OfNumber P (test ok number place)
+test-number P true number place h = tt
+test-number P false number place h = h
+
+pub verdict-number : (P : ℕ → Type 0) (t : Test) (l : List Test) → OfNumber P t → OfNumber P (verdict l) → OfNumber P (verdict (t ∷ l))
+unfolding verdict
+verdict-number P passed l h i = i
+verdict-number P (failed number place) l h i = h

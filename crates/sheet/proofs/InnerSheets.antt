@@ -14,6 +14,8 @@ use Rattle.settings.specs.Settings.{settingsTest}
 use Rattle.text.specs.Answers.{headerAnswer, gridAnswer}
 use Rattle.text.specs.Ranges.{sizeTest, lengthTest, sideTest, heightTest}
 use Rattle.text.proofs.Accepted.{size-is, size-passed}
+use Rattle.terrain.specs.Answers.{groundDirections}
+use Rattle.terrain.specs.declared.Source.the-variants.{Own}
 use Rattle.factor.specs.Answers.{Grids, placesOf, tests, judged, answerOf, answer, after, told, accepts}
 use Rattle.factor.specs.declared.Answer.{Answer}
 use Rattle.factor.proofs.Judging.{number-some}
@@ -40,35 +42,35 @@ refused-as number place lines en ep h = ap₂ refusalLine en ep ∙ sym (lines-n
 -- ---- the map call
 
 module _ (rows columns side : ℕ) (settings : Settings) (ground : List ℤ) (g : Grids) where
-  passed-size : judged rows columns side settings ground g ≡ passed → sizeTest rows columns ≡ passed
+  passed-size : judged rows columns side settings Own ground g ≡ passed → sizeTest rows columns ≡ passed
   unfolding judged tests
   passed-size j = verdict-passed (sizeTest rows columns) (lengthTest (rows * columns) (placesOf ground g) ∷ sideTest side ∷ settingsTest settings ∷ heightTest (rows * columns) ground ∷ []) j .0
 
   -- a map that is accepted has columns
-  accepted-columns : accepts (answer rows columns side settings ground g) ≡ true → 0 < columns
+  accepted-columns : accepts (answer rows columns side settings Own ground g) ≡ true → 0 < columns
   unfolding answer answerOf
-  accepted-columns = go (judged rows columns side settings ground g) refl
+  accepted-columns = go (judged rows columns side settings Own ground g) refl
     where
-      go : (t : Test) → judged rows columns side settings ground g ≡ t → accepts (answerOf rows columns ground t) ≡ true → 0 < columns
+      go : (t : Test) → judged rows columns side settings Own ground g ≡ t → accepts (answerOf rows columns ground (groundDirections rows columns ground) t) ≡ true → 0 < columns
       go passed j y = omega (arith, size-is columns (size-passed rows columns (passed-size j) .1) .0)
       go (failed number place) j y = absurd (true≢false (sym y))
 
-module _ (rows columns side : ℕ) (settings : Settings) (ground : List ℤ) (g : Grids) {s : Survey} {a : Answer} (es : s ≡ surveyNumbers (told a)) (ea : a ≡ answer rows columns side settings ground g) where
-  e : s ≡ surveyNumbers (told (answer rows columns side settings ground g))
+module _ (rows columns side : ℕ) (settings : Settings) (ground : List ℤ) (g : Grids) {s : Survey} {a : Answer} (es : s ≡ surveyNumbers (told a)) (ea : a ≡ answer rows columns side settings Own ground g) where
+  e : s ≡ surveyNumbers (told (answer rows columns side settings Own ground g))
   e = es ∙ ap (λ (x : Answer). surveyNumbers (told x)) ea
 
   pub map-refused : (s .number ≡ 0 → ⊥) → refusalLine (s .number) (s .place) ≡ mapSheet rows columns side settings ground g
   unfolding mapSheet
   map-refused h = refused-as _ _ _ (ap (λ (x : Survey). x .number) e) (ap (λ (x : Survey). x .place) e) h
 
-  pub map-printed : (m : Grids) → m ≡ after rows columns side settings ground g → s .number ≡ 0 → mapLines (record { rows = rows; columns = columns; side = side; valid = s .valid; longest = s .longest }) (gridsOf ground (m .filled) (m .direction) (m .count) (m .lengths) (m .factors)) ≡ mapSheet rows columns side settings ground g
+  pub map-printed : (m : Grids) → m ≡ after rows columns side settings Own ground g → s .number ≡ 0 → mapLines (record { rows = rows; columns = columns; side = side; valid = s .valid; longest = s .longest }) (gridsOf ground (m .filled) (m .direction) (m .count) (m .lengths) (m .factors)) ≡ mapSheet rows columns side settings ground g
   unfolding mapSheet
   map-printed m f h =
       ap₂ (λ (x : Survey) (m : Grids). mapLines (record { rows = rows; columns = columns; side = side; valid = x .valid; longest = x .longest }) (gridsOf ground (m .filled) (m .direction) (m .count) (m .lengths) (m .factors))) e f
-      ∙ sym (lines-yes _ (told (answer rows columns side settings ground g) .place) _ (sym (ap (λ (x : Survey). x .number) e) ∙ h))
+      ∙ sym (lines-yes _ (told (answer rows columns side settings Own ground g) .place) _ (sym (ap (λ (x : Survey). x .number) e) ∙ h))
 
   pub map-columns : s .number ≡ 0 → 0 < columns
-  map-columns h = accepted-columns rows columns side settings ground g (number-some rows columns side settings ground g (sym (ap (λ (x : Survey). x .number) e) ∙ h))
+  map-columns h = accepted-columns rows columns side settings ground g (number-some rows columns side settings ground g Own (sym (ap (λ (x : Survey). x .number) e) ∙ h))
 
 -- ---- the reader call
 

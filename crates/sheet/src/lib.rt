@@ -15,6 +15,7 @@ ghost use Rattle.sheet.specs.InnerWriting.{Puts};
 ghost use Rattle.sheet.specs.InnerGrids.{LentLong};
 ghost use Rattle.sheet.specs.Sheet.{mapSheet, gridSheet, zeros, sheetOf};
 use answers::Head;
+use factor::Source;
 use lines::Shape;
 use settings::Settings;
 
@@ -41,6 +42,7 @@ fn print_map(
         head.columns,
         head.side,
         settings,
+        Source::Own,
         ground,
         filled,
         direction,

@@ -5,15 +5,16 @@ use mathlib.Core.Logic.{⊎-elim}
 use mathlib.Core.Bool.{true, _&&_}
 use Prim.Native.Nat.{ℕ, _*_, _≤_, _<_}
 use native.Mathlib.Omega.{arith}
+use native.Mathlib.Decide.{decLt}
 use lib.ListN.{getD}
 use lib.Dec.{eqb}
-use borrow.Author.Tests.{eqb-true, eq-eqb}
-use Rattle.laws.specs.Sums.{greatestTo, when}
+use borrow.Author.Tests.{eqb-true, eq-eqb, ne-eqb}
+use Rattle.laws.specs.Sums.{sumTo, greatestTo, when}
 use Rattle.laws.proofs.Tests.{two, and-both}
-use Rattle.laws.proofs.Sums.{greatest-ge, greatest-le, when-yes, when-no}
+use Rattle.laws.proofs.Sums.{sum-le, sum-swap, sum-ones, sum-ge, sum-one, sum-zero, greatest-ge, greatest-le, when-yes, when-no, when-under}
 use Rattle.terrain.specs.Cells.{neighbour, bearingOf}
 use Rattle.terrain.specs.Trail.{flowsAt, nextAt, stepsIn, intoAt, receiverOf}
-use Rattle.terrain.specs.InnerTrail.{Directed}
+use Rattle.terrain.specs.InnerTrail.{Drawn, Directed}
 use Rattle.terrain.proofs.Neighbours.{across, across-small, neighbour-back}
 use Rattle.terrain.proofs.Trails.{code-next, flows-code, flows-mapped, receiver-flows, receiver-points}
 use Rattle.terrain.proofs.Receivers.{pointing}
@@ -34,7 +35,7 @@ module _ (rows cols : ℕ) (dir : List ℕ) (z k : ℕ) where
 
 -- ---- the cells that point at z
 
-module _ {rows cols : ℕ} {dir : List ℕ} (d : Directed rows cols dir) where
+module _ {rows cols : ℕ} {dir : List ℕ} (d : Drawn rows cols dir) where
   abbrev n : ℕ
   n = rows * cols
 
@@ -43,10 +44,6 @@ module _ {rows cols : ℕ} {dir : List ℕ} (d : Directed rows cols dir) where
 
   abbrev recv : ℕ → ℕ
   recv = receiverOf rows cols dir
-
-  -- an inflow is further from the end of its trail
-  pub into-above : (z k : ℕ) → intoAt rows cols dir z k ≡ true → stepsIn rows cols dir (rows * cols) z < stepsIn rows cols dir (rows * cols) (neighbour rows cols z k)
-  into-above z k e = let w = into-flows rows cols dir z k e in omega (arith, d .less (nb z k) (w .0), ap (stepsIn rows cols dir n) (w .1))
 
   pub into-points : (z k : ℕ) → intoAt rows cols dir z k ≡ true → (neighbour rows cols z k < rows * cols) × (receiverOf rows cols dir (neighbour rows cols z k) ≡ z)
   into-points z k e =
@@ -73,6 +70,28 @@ module _ {rows cols : ℕ} {dir : List ℕ} (d : Directed rows cols dir) where
     abbrev from-cell : (ℕ → ℕ) → ℕ → ℕ
     from-cell g x = when (eqb (recv x) z) (g x)
 
+    -- no more than eight cells point at one
+    pub inflow-few : (m : ℕ) → sumTo m (λ x. when (eqb (receiverOf rows cols dir x) z) 1) ≤ 8
+    inflow-few m =
+        omega (
+          arith,
+          sum-le m (λ x. when (eqb (recv x) z) 1) (λ x. sumTo 8 (λ k. when (eqb (nb z k) x) 1)) (λ x l. each x),
+          sum-swap m 8 (λ x k. when (eqb (nb z k) x) 1),
+          sum-ones 8 (λ k. sumTo m (λ x. when (eqb (nb z k) x) 1)) (λ k l. once k),
+        )
+      where
+        each : (x : ℕ) → when (eqb (recv x) z) 1 ≤ sumTo 8 (λ k. when (eqb (nb z k) x) 1)
+        each x =
+            ⊎-elim (λ e. let w = points-into z x h (eqb-true (recv x) z e) in omega (arith, when-yes 1 e, sum-ge 8 (λ k. when (eqb (nb z k) x) 1) (w .0) (w .1), when-yes 1 (eq-eqb (nb z (w .0)) x (w .2))))
+            (λ e. omega (arith, when-no 1 e)) (two (eqb (recv x) z))
+
+        once : (k : ℕ) → sumTo m (λ x. when (eqb (nb z k) x) 1) ≤ 1
+        once k =
+            elim (decLt (nb z k) m) [
+              | yes l ↦ omega (arith, sum-one m (λ x. when (eqb (nb z k) x) 1) (nb z k) l (λ x g d. when-no 1 (ne-eqb (nb z k) x (λ e. d (sym e)))), when-under (eqb (nb z k) (nb z k)) 1)
+              | no f ↦ omega (arith, sum-zero m (λ x. when (eqb (nb z k) x) 1) (λ x g. when-no 1 (ne-eqb (nb z k) x (λ e. omega arith))))
+            ]
+
     pub inflow-greatest : (g : ℕ → ℕ) → greatestTo 8 (λ k. when (intoAt rows cols dir z k) (g (neighbour rows cols z k))) ≡ greatestTo (rows * cols) (λ x. when (eqb (receiverOf rows cols dir x) z) (g x))
     inflow-greatest g = omega (arith, greatest-le 8 (across-bearing g) (greatestTo n (from-cell g)) (λ k l. bearing k), greatest-le n (from-cell g) (greatestTo 8 (across-bearing g)) (λ x l. cell x))
       where
@@ -85,3 +104,7 @@ module _ {rows cols : ℕ} {dir : List ℕ} (d : Directed rows cols dir) where
         cell x =
             ⊎-elim (λ e. let w = points-into z x h (eqb-true (recv x) z e) in omega (arith, when-yes (g x) e, ap g (w .2), when-yes (g (nb z (w .0))) (w .3), greatest-ge 8 (across-bearing g) (w .0) (w .1)))
             (λ e. omega (arith, when-no (g x) e)) (two (eqb (recv x) z))
+
+-- an inflow is further from the end of its trail
+pub into-above : {rows cols : ℕ} {dir : List ℕ} → Directed rows cols dir → (z k : ℕ) → intoAt rows cols dir z k ≡ true → stepsIn rows cols dir (rows * cols) z < stepsIn rows cols dir (rows * cols) (neighbour rows cols z k)
+into-above {rows} {cols} {dir} d z k e = let w = into-flows rows cols dir z k e in omega (arith, d .less (neighbour rows cols z k) (w .0), ap (stepsIn rows cols dir (rows * cols)) (w .1))

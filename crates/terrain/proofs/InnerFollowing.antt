@@ -60,7 +60,7 @@ module _ {rows cols : ℕ} {dir : List ℕ} (d : Directed rows cols dir) where
   cells-none x v = when-no (rank x + 1) v
 
   cells-off : (x : ℕ) → rows * cols ≤ x → cellsOf rows cols dir x ≡ 0
-  cells-off x h = cells-none x (mapped-none rows cols dir x (List·getD-eq-default dir 255 {n = x} (omega (arith, d .long))))
+  cells-off x h = cells-none x (mapped-none rows cols dir x (List·getD-eq-default dir 255 {n = x} (omega (arith, d .drawn .long))))
 
   cells-small : (x : ℕ) → cellsOf rows cols dir x ≤ rows * cols
   cells-small x = ⊎-elim (λ v. omega (arith, cells-mapped x v, steps-below rows cols dir rank (directed-falls d) (rows * cols) x v)) (λ v. omega (arith, cells-none x v)) (two (valid x))
@@ -69,7 +69,7 @@ module _ {rows cols : ℕ} {dir : List ℕ} (d : Directed rows cols dir) where
   cells-next : (x : ℕ) → valid x ≡ true → cellsOf rows cols dir x ≡ cellsOf rows cols dir (receiverOf rows cols dir x) + 1
   cells-next x v =
       ⊎-elim
-      (λ q. omega (arith, cells-mapped x v, rank-next rows cols dir rank (directed-falls d) x q, cells-mapped (nextAt rows cols dir x) (d .stays x q), ap (cellsOf rows cols dir) (receiver-flows rows cols dir x q)))
+      (λ q. omega (arith, cells-mapped x v, rank-next rows cols dir rank (directed-falls d) x q, cells-mapped (nextAt rows cols dir x) (d .drawn .stays x q), ap (cellsOf rows cols dir) (receiver-flows rows cols dir x q)))
       (λ q. omega (arith, cells-mapped x v, steps-end rows cols dir (rows * cols) x q, cells-off (receiverOf rows cols dir x) (omega (arith, receiver-stops rows cols dir x q)))) (two (flowsAt rows cols dir x))
 
   -- ---- along the order, backwards
@@ -85,7 +85,7 @@ module _ {rows cols : ℕ} {dir : List ℕ} (d : Directed rows cols dir) where
       next-known : v ≡ cellsOf rows cols dir y
       next-known =
           elim (decLt y n) [
-            | yes l ↦ (let w = order-every (o .cells) y (ap valid q ∙ pointing d .stays x (omega arith)) in
+            | yes l ↦ (let w = order-every (o .cells) y (ap valid q ∙ pointing (d .drawn) .stays x (omega arith)) in
                 let b = order-before (o .cells) (p - 1) (w .0) (omega arith) (w .1) (ap recv (sym e) ∙ sym q ∙ sym (w .2)) in
                 g ∙ ap (λ (z : ℕ). getD known z 0) (sym (w .2)) ∙ s .right (w .0) (omega arith) (w .1) ∙ ap (cellsOf rows cols dir) (w .2))
             | no f ↦ g ∙ List·getD-eq-default known 0 {n = y} (omega (arith, s .long)) ∙ sym (cells-off y (omega arith))
@@ -102,14 +102,14 @@ module _ {rows cols : ℕ} {dir : List ℕ} (d : Directed rows cols dir) where
           record {
             long = length-set known x (v + 1) ∙ s .long;
             right = right;
-            under = omega (arith, t, s .under, back-cells, greatest-ge n (cellsOf rows cols dir) x (pointing d .within x here-valid));
+            under = omega (arith, t, s .under, back-cells, greatest-ge n (cellsOf rows cols dir) x (pointing (d .drawn) .within x here-valid));
             over = (λ i a b. elim (ℕ-discrete i (p - 1)) [ yes z ↦ omega (arith, t, back-cells, ap (cellsOf rows cols dir) (e ∙ ap (λ (j : ℕ). getD order j 0) (sym z))) | no f ↦ omega (arith, t, s .over i (omega arith) b) ]);
           }
         where
           right : (i : ℕ) → p - 1 ≤ i → i < m → getD (set known x (v + 1)) (getD order i 0) 0 ≡ cellsOf rows cols dir (getD order i 0)
           right i a b =
               elim (ℕ-discrete (getD order i 0) x) [
-                | yes z ↦ ap (λ (j : ℕ). getD (set known x (v + 1)) j 0) z ∙ getD-set-same known x (v + 1) 0 (omega (arith, s .long, pointing d .within x here-valid)) ∙ back-cells ∙ ap (cellsOf rows cols dir) (sym z)
+                | yes z ↦ ap (λ (j : ℕ). getD (set known x (v + 1)) j 0) z ∙ getD-set-same known x (v + 1) 0 (omega (arith, s .long, pointing (d .drawn) .within x here-valid)) ∙ back-cells ∙ ap (cellsOf rows cols dir) (sym z)
                 | no f ↦ getD-set-other known x (getD order i 0) (v + 1) 0 f ∙ s .right i (elim (ℕ-discrete i (p - 1)) [ yes z ↦ absurd (f (ap (λ (j : ℕ). getD order j 0) z ∙ sym e)) | no u ↦ omega arith ]) b
               ]
 

@@ -55,11 +55,11 @@ module _ {rows cols : ℕ} {dir : List ℕ} (d : Directed rows cols dir) where
   source z x h =
       when-ext (eqb (recv x) z) (countAt rows cols dir x) (getD F x 0) (λ t.
       let e = eqb-true (recv x) z t in
-      let v = pointing d .from x (omega arith) in
-      sym (counted x (pointing d .within x v) ∙ when-yes (countAt rows cols dir x) v))
+      let v = pointing (d .drawn) .from x (omega arith) in
+      sym (counted x (pointing (d .drawn) .within x v) ∙ when-yes (countAt rows cols dir x) v))
 
   counts-handed : Handed _+_ sumTo (rows * cols) (mappedAt rows cols dir) (receiverOf rows cols dir) (λ x m. m) (λ z. when (mappedAt rows cols dir z) 1) (λ z. getD (countsOf rows cols dir) z 0)
-  counts-handed = record { joins = sum-joining; points = pointing d; local = (λ z h. ⊎-elim (here z h) (none z h) (two (valid z))) }
+  counts-handed = record { joins = sum-joining; points = pointing (d .drawn); local = (λ z h. ⊎-elim (here z h) (none z h) (two (valid z))) }
     where
       here : (z : ℕ) → z < n → valid z ≡ true → getD F z 0 ≡ when (valid z) 1 + sumTo n (λ x. when (eqb (recv x) z) (getD F x 0))
       here z h v =
@@ -79,7 +79,7 @@ module _ {rows cols : ℕ} {dir : List ℕ} (d : Directed rows cols dir) where
             counted z h,
             when-no (countAt rows cols dir z) v,
             when-no 1 v,
-            sum-zero n (λ x. when (eqb (recv x) z) (getD F x 0)) (λ x l. ⊎-elim (λ t. let e = eqb-true (recv x) z t in absurd (true≢false (sym (pointing d .stays x (omega arith)) ∙ ap valid e ∙ v))) (λ t. when-no (getD F x 0) t) (two (eqb (recv x) z))),
+            sum-zero n (λ x. when (eqb (recv x) z) (getD F x 0)) (λ x l. ⊎-elim (λ t. let e = eqb-true (recv x) z t in absurd (true≢false (sym (pointing (d .drawn) .stays x (omega arith)) ∙ ap valid e ∙ v))) (λ t. when-no (getD F x 0) t) (two (eqb (recv x) z))),
           )
 
   pub pass-start : (order : List ℕ) {l : List ℕ} → l ≡ tab (rows * cols) (λ x. when (mappedAt rows cols dir x) 1) → Passing rows cols dir order l 0

@@ -20,7 +20,7 @@ use Rattle.terrain.specs.Cells.{neighbour, codeOf, validAt, rimAt}
 use Rattle.terrain.specs.Flat.{farSteps, hasLower, flatAt, nearestOf, flatStepping}
 use Rattle.terrain.specs.Direction.{steepBearing}
 use Rattle.terrain.specs.InnerLevels.{openAt, startAt, steepestIn, downAt, LoweredSteps}
-use Rattle.terrain.proofs.Neighbours.{code-some, rim-open}
+use Rattle.terrain.proofs.Neighbours.{code-some, rim-open, open-rim}
 use Rattle.terrain.proofs.Flats.{flat-valid, flat-high}
 use Rattle.terrain.proofs.Directions.{steep-bearing}
 
@@ -84,6 +84,13 @@ module _ (rows cols : ℕ) (lv : List ℕ) (x : ℕ) where
       nor true b e = absurd (true≢false e)
       nor false b e = (refl, e)
 
+  no-rim : openAt rows cols lv x 8 ≡ false → rimAt rows cols lv x ≡ false
+  no-rim e = ⊎-elim (λ r. let i = rim-open rows cols lv x r in absurd (omega (arith, shut-is 8 e (i .0) (i .1), i .2))) (λ r. r) (two (rimAt rows cols lv x))
+
+  -- a valid cell is a rim cell just if one is open
+  pub open-rimmed : 0 < getD lv x 0 → openAt rows cols lv x 8 ≡ rimAt rows cols lv x
+  open-rimmed v = ⊎-elim (λ e. let i = open-is 8 e in e ∙ sym (open-rim rows cols lv x (i .0) v (i .1) (i .2))) (λ e. e ∙ sym (no-rim e)) (two (openAt rows cols lv x 8))
+
   -- so a cell with no lower neighbour is flat just if none is open
   flat-told : (eqb (downAt rows cols lv x) 0 && not (openAt rows cols lv x 8)) ≡ flatAt rows cols lv x
   unfolding downAt steepestIn flatAt
@@ -98,9 +105,6 @@ module _ (rows cols : ℕ) (lv : List ℕ) (x : ℕ) where
 
       opened : openAt rows cols lv x 8 ≡ true → (eqb (downAt rows cols lv x) 0 && not (openAt rows cols lv x 8)) ≡ flatAt rows cols lv x
       opened e = ap (λ (b : Bool). eqb (downAt rows cols lv x) 0 && not b) e ∙ none (eqb (downAt rows cols lv x) 0) ∙ sym (not-flat e)
-
-      no-rim : openAt rows cols lv x 8 ≡ false → rimAt rows cols lv x ≡ false
-      no-rim e = ⊎-elim (λ r. let i = rim-open rows cols lv x r in absurd (omega (arith, shut-is 8 e (i .0) (i .1), i .2))) (λ r. r) (two (rimAt rows cols lv x))
 
       code : (v l : Bool) → validAt lv x ≡ v → hasLower rows cols lv x ≡ l → eqb (cond v (cond l (codeOf (steepBearing rows cols lv x)) 0) 255) 0 ≡ (v && not (l || false))
       code true true p q = ne-eqb (codeOf (steepBearing rows cols lv x)) 0 (λ e. omega (arith, code-some (steepBearing rows cols lv x) (steep-bearing rows cols lv x q .0)))

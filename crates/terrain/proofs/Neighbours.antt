@@ -70,6 +70,12 @@ bearing-by-steps = each-bearing (λ k. getD bearingsBySteps (getD rowSteps k 0 *
 steps-tell : (j k : ℕ) → j < 8 → k < 8 → getD rowSteps j 0 ≡ getD rowSteps k 0 → getD colSteps j 0 ≡ getD colSteps k 0 → j ≡ k
 steps-tell j k g h e f = sym (bearing-by-steps j g) ∙ ap₂ (λ (r c : ℕ). getD bearingsBySteps (r * 3 + c) 0) e f ∙ bearing-by-steps k h
 
+-- a bearing leads to another row or another column
+steps-move : (k : ℕ) → k < 8 → getD rowSteps k 0 ≡ 1 → getD colSteps k 0 ≡ 1 → ⊥
+steps-move =
+    each-bearing (λ k. getD rowSteps k 0 ≡ 1 → getD colSteps k 0 ≡ 1 → ⊥) (λ r c. omega arith) (λ r c. omega arith) (λ r c. omega arith) (λ r c. omega arith) (λ r c. omega arith) (λ r c. omega arith)
+    (λ r c. omega arith) (λ r c. omega arith)
+
 -- ---- codes
 
 pub bearing-code : (k : ℕ) → k < 8 → bearingOf (codeOf k) ≡ k
@@ -186,6 +192,16 @@ module _ (rows cols : ℕ) where
           steps-tell j k g h
           (omega (arith, i .up, i′ .up, sym (row-of cols _ _ (omega (arith, i .left, i .right))) ∙ ap (λ (m : ℕ). m / cols) q ∙ row-of cols _ _ (omega (arith, i′ .left, i′ .right))))
           (omega (arith, i .left, i′ .left, sym (col-of cols _ _ (omega (arith, i .left, i .right))) ∙ ap (λ (m : ℕ). m % cols) q ∙ col-of cols _ _ (omega (arith, i′ .left, i′ .right))))
+
+  -- a neighbour is another cell
+  pub neighbour-apart : (x k : ℕ) → k < 8 → neighbour rows cols x k < rows * cols → neighbour rows cols x k ≡ x → ⊥
+  neighbour-apart x k h y e = ⊎-elim (λ q. absurd (omega arith)) go (neighbour-cases x k)
+    where
+      go : InGrid rows cols (x / cols + getD rowSteps k 0) (x % cols + getD colSteps k 0) (neighbour rows cols x k) → ⊥
+      go i =
+          let q = sym e ∙ i .is in
+          steps-move k h (omega (arith, i .up, ap (λ (m : ℕ). m / cols) q ∙ row-of cols _ _ (omega (arith, i .left, i .right))))
+          (omega (arith, i .left, ap (λ (m : ℕ). m % cols) q ∙ col-of cols _ _ (omega (arith, i .left, i .right))))
 
 -- ---- heights and levels
 

@@ -11,7 +11,7 @@ use lib.ListN.{length, getD}
 use lib.IntN.{ℤ}
 use borrow.Author.Tests.{ltb-true, lt-ltb}
 use Rattle.laws.specs.Sums.{when}
-use Rattle.laws.proofs.Lists.{in-list}
+use Rattle.laws.specs.Tests.{passed}
 use Rattle.laws.proofs.Tests.{two}
 use Rattle.laws.proofs.Sums.{greatest-ge, greatest-is, when-yes, when-no}
 use Rattle.terrain.specs.Cells.{noData, neighbour, Valid, Rim, levelsOf, validAt, rimAt}
@@ -19,12 +19,14 @@ use Rattle.terrain.specs.Filled.{filledLevels}
 use Rattle.terrain.specs.Flat.{flatAt, flatSteps, Walk, there, walked}
 use Rattle.terrain.specs.Trail.{Trail, Meets, steps, mappedAt, stepsIn, passesIn, longestOf}
 use Rattle.terrain.specs.InnerCells.{Ready}
-use Rattle.terrain.specs.Answers.{groundDirections}
+use Rattle.terrain.specs.Answers.{Grids, judged, directionsBy}
+use Rattle.terrain.specs.declared.Source.{Source}
 use Rattle.terrain.proofs.Neighbours.{rim-valid, rim-open, open-rim, valid-level, level-valid, level-invalid, none-level}
 use Rattle.terrain.proofs.Filling.{filled-long, filled-above, filled-some, filled-valid}
 use Rattle.terrain.proofs.Flats.{walk-least, steps-kept, steps-still, steps-small}
-use Rattle.terrain.proofs.Trails.{meets-passes, passes-meets, trail-steps, steps-le, trail-of}
-use Rattle.terrain.proofs.Drainage.{potential, mapped-valid, falls, stops-zero}
+use Rattle.terrain.proofs.Trails.{meets-passes, passes-meets, trail-steps, steps-le, trail-of, mapped-in}
+use Rattle.terrain.proofs.Receivers.{directed-falls}
+use Rattle.terrain.proofs.Answers.{Chosen, accepted-ready, accepted-chosen}
 
 -- each of two statements follows from the other
 abbrev pub Same : Type 0 → Type 0 → Type 0
@@ -33,9 +35,6 @@ Same A B = (A → B) × (B → A)
 module _ (rows cols : ℕ) (ground : List ℤ) (ready : Ready rows cols ground) where
   abbrev lv : List ℕ
   lv = filledLevels rows cols ground
-
-  abbrev dir : List ℕ
-  dir = groundDirections rows cols ground
 
   long : length lv ≡ rows * cols
   long = filled-long rows cols ground ready
@@ -51,13 +50,6 @@ module _ (rows cols : ℕ) (ground : List ℤ) (ready : Ready rows cols ground) 
   filled-same x =
       let e = filled-valid rows cols ground ready x in
       ((λ h. valid-same x .0 (sym e ∙ h)), (λ v. e ∙ valid-same x .1 v))
-
-  -- of the directions
-  pub mapped-same : (x : ℕ) → Same (mappedAt rows cols (groundDirections rows cols ground) x ≡ true) (Valid ground x)
-  unfolding groundDirections
-  mapped-same x =
-      let e = mapped-valid rows cols ground ready x in
-      ((λ h. filled-same x .0 (sym e ∙ h)), (λ v. e ∙ filled-same x .1 v))
 
   -- a rim cell of the filled heights, which the directions go by
   pub rim-same : (x : ℕ) → Same (rimAt rows cols (filledLevels rows cols ground) x ≡ true) (Rim rows cols ground x)
@@ -77,45 +69,6 @@ module _ (rows cols : ℕ) (ground : List ℤ) (ready : Ready rows cols ground) 
           shut : (y : ℕ) → getD ground y noData ≡ noData → getD lv y 0 ≡ 0
           shut y e = elim (decLt 0 (getD lv y 0)) [ yes h ↦ absurd (omega (arith, filled-some rows cols ground ready y h, none-level ready y e)) | no f ↦ omega arith ]
 
-  -- ---- trails
-
-  trail : (x : ℕ) → Valid ground x → Trail rows cols dir x
-  unfolding groundDirections
-  trail x v = trail-of rows cols dir (potential rows cols ground ready) (falls rows cols ground ready) (stops-zero rows cols ground ready) x (mapped-same x .1 v)
-
-  valid-cell : (x : ℕ) → Valid ground x → x < rows * cols
-  valid-cell x v = omega (arith, in-list lv x (ltb-true 0 (getD lv x 0) (filled-same x .1 v)), long)
-
-  -- the steps of the computation are those of the trail
-  pub steps-same : {x : ℕ} (t : Trail rows cols (groundDirections rows cols ground) x) → stepsIn rows cols (groundDirections rows cols ground) (rows * cols) x ≡ steps rows cols (groundDirections rows cols ground) t
-  unfolding groundDirections
-  steps-same t = trail-steps rows cols dir (potential rows cols ground ready) (falls rows cols ground ready) t
-
-  -- the flow count counts the trail of a cell exactly where the trail meets a cell
-  pub passes-same : {x : ℕ} (t : Trail rows cols (groundDirections rows cols ground) x) (z : ℕ) → Same (passesIn rows cols (groundDirections rows cols ground) (rows * cols) x z ≡ 1) (Meets rows cols (groundDirections rows cols ground) z t)
-  passes-same {x} t z = (
-    passes-meets rows cols dir t (rows * cols) z,
-    meets-passes rows cols dir t (rows * cols) z (omega (arith, steps-same t, steps-le rows cols dir (rows * cols) x)),
-  )
-
-  -- the longest trail is at least as long as each
-  pub longest-most : {x : ℕ} (t : Trail rows cols (groundDirections rows cols ground) x) → Valid ground x → steps rows cols (groundDirections rows cols ground) t ≤ longestOf rows cols (groundDirections rows cols ground)
-  unfolding longestOf
-  longest-most {x} t v =
-      let m = mapped-same x .1 v in
-      omega (arith, steps-same t, when-yes (stepsIn rows cols dir (rows * cols) x) m, greatest-ge (rows * cols) (λ y. when (mappedAt rows cols dir y) (stepsIn rows cols dir (rows * cols) y)) x (valid-cell x v))
-
-  -- and as long as some, where it has steps at all
-  pub longest-some : 0 < longestOf rows cols (groundDirections rows cols ground) → (x : ℕ) × Valid ground x × ((t : Trail rows cols (groundDirections rows cols ground) x) × (steps rows cols (groundDirections rows cols ground) t ≡ longestOf rows cols (groundDirections rows cols ground)))
-  unfolding longestOf
-  longest-some h =
-      let i = greatest-is (rows * cols) (λ y. when (mappedAt rows cols dir y) (stepsIn rows cols dir (rows * cols) y)) h in
-      let x = i .0 in
-      ⊎-elim
-      (λ m. let v = mapped-same x .0 m in let t = trail x v in (x, v, (t, sym (steps-same t) ∙ sym (when-yes (stepsIn rows cols dir (rows * cols) x) m) ∙ i .2)))
-      (λ m. absurd (omega (arith, i .2, when-no (stepsIn rows cols dir (rows * cols) x) m)))
-      (two (mappedAt rows cols dir x))
-
   -- ---- walks over a flat
 
   -- no walk over a flat has fewer steps
@@ -131,3 +84,57 @@ module _ (rows cols : ℕ) (ground : List ℤ) (ready : Ready rows cols ground) 
 
       other : flatAt rows cols lv x ≡ false → (w : Walk rows cols lv x) × (walked rows cols lv w ≡ getD (flatSteps rows cols lv) x 0)
       other f = let w = there x (ltb-true 0 (getD lv x 0) (filled-same x .1 v)) f in (w, omega (arith, fewest-least w))
+
+-- ---- trails along the directions of an accepted call, our own or given ones
+
+module _ (rows cols : ℕ) (source : Source) (ground : List ℤ) (g : Grids) (e : judged rows cols source ground g ≡ passed) where
+  abbrev dir : List ℕ
+  dir = directionsBy source rows cols ground (g .direction)
+
+  ready : Ready rows cols ground
+  ready = accepted-ready rows cols source ground g e
+
+  chosen : Chosen rows cols ground dir
+  chosen = accepted-chosen rows cols source ground g e
+
+  -- the number that falls along every trail: the steps that are left
+  abbrev rank : ℕ → ℕ
+  rank = stepsIn rows cols dir (rows * cols)
+
+  -- the valid cells of the directions are those of the ground
+  pub mapped-same : (x : ℕ) → Same (mappedAt rows cols (directionsBy source rows cols ground (g .direction)) x ≡ true) (Valid ground x)
+  mapped-same x =
+      let q = chosen .keeping .mapped x in
+      ((λ h. filled-same rows cols ground ready x .0 (sym q ∙ h)), (λ v. q ∙ filled-same rows cols ground ready x .1 v))
+
+  trail : (x : ℕ) → Valid ground x → Trail rows cols dir x
+  trail x v = trail-of rows cols dir rank (directed-falls (chosen .directed)) (chosen .directed .drawn .stops) x (mapped-same x .1 v)
+
+  -- the steps of the computation are those of the trail
+  pub steps-same : {x : ℕ} (t : Trail rows cols (directionsBy source rows cols ground (g .direction)) x) → stepsIn rows cols (directionsBy source rows cols ground (g .direction)) (rows * cols) x ≡ steps rows cols (directionsBy source rows cols ground (g .direction)) t
+  steps-same t = trail-steps rows cols dir rank (directed-falls (chosen .directed)) t
+
+  -- the flow count counts the trail of a cell exactly where the trail meets a cell
+  pub passes-same : {x : ℕ} (t : Trail rows cols (directionsBy source rows cols ground (g .direction)) x) (z : ℕ) → Same (passesIn rows cols (directionsBy source rows cols ground (g .direction)) (rows * cols) x z ≡ 1) (Meets rows cols (directionsBy source rows cols ground (g .direction)) z t)
+  passes-same {x} t z = (
+    passes-meets rows cols dir t (rows * cols) z,
+    meets-passes rows cols dir t (rows * cols) z (omega (arith, steps-same t, steps-le rows cols dir (rows * cols) x)),
+  )
+
+  -- the longest trail is at least as long as each
+  pub longest-most : {x : ℕ} (t : Trail rows cols (directionsBy source rows cols ground (g .direction)) x) → Valid ground x → steps rows cols (directionsBy source rows cols ground (g .direction)) t ≤ longestOf rows cols (directionsBy source rows cols ground (g .direction))
+  unfolding longestOf
+  longest-most {x} t v =
+      let m = mapped-same x .1 v in
+      omega (arith, steps-same t, when-yes (stepsIn rows cols dir (rows * cols) x) m, greatest-ge (rows * cols) (λ y. when (mappedAt rows cols dir y) (stepsIn rows cols dir (rows * cols) y)) x (mapped-in rows cols dir (chosen .directed .drawn .long) x m))
+
+  -- and as long as some, where it has steps at all
+  pub longest-some : 0 < longestOf rows cols (directionsBy source rows cols ground (g .direction)) → (x : ℕ) × Valid ground x × ((t : Trail rows cols (directionsBy source rows cols ground (g .direction)) x) × (steps rows cols (directionsBy source rows cols ground (g .direction)) t ≡ longestOf rows cols (directionsBy source rows cols ground (g .direction))))
+  unfolding longestOf
+  longest-some h =
+      let i = greatest-is (rows * cols) (λ y. when (mappedAt rows cols dir y) (stepsIn rows cols dir (rows * cols) y)) h in
+      let x = i .0 in
+      ⊎-elim
+      (λ m. let v = mapped-same x .0 m in let t = trail x v in (x, v, (t, sym (steps-same t) ∙ sym (when-yes (stepsIn rows cols dir (rows * cols) x) m) ∙ i .2)))
+      (λ m. absurd (omega (arith, i .2, when-no (stepsIn rows cols dir (rows * cols) x) m)))
+      (two (mappedAt rows cols dir x))

@@ -91,7 +91,7 @@ module _ (rows cols : ℕ) (dir : List ℕ) where
 
   -- ---- the steps of a trail
 
-  steps-none : (x : ℕ) → stepsIn rows cols dir 0 x ≡ 0
+  pub steps-none : (x : ℕ) → stepsIn rows cols dir 0 x ≡ 0
   unfolding stepsIn
   steps-none x = refl
 
@@ -100,7 +100,7 @@ module _ (rows cols : ℕ) (dir : List ℕ) where
   steps-end zero x q = refl
   steps-end (suc m) x q = ap (λ (b : Bool). cond b (stepsIn rows cols dir m (next x) + 1) 0) q
 
-  steps-next : (m x : ℕ) → flowsAt rows cols dir x ≡ true → stepsIn rows cols dir (suc m) x ≡ stepsIn rows cols dir m (nextAt rows cols dir x) + 1
+  pub steps-next : (m x : ℕ) → flowsAt rows cols dir x ≡ true → stepsIn rows cols dir (suc m) x ≡ stepsIn rows cols dir m (nextAt rows cols dir x) + 1
   unfolding stepsIn
   steps-next m x q = ap (λ (b : Bool). cond b (stepsIn rows cols dir m (next x) + 1) 0) q
 
@@ -109,7 +109,7 @@ module _ (rows cols : ℕ) (dir : List ℕ) where
   steps-le (suc m) x = ⊎-elim (λ q. omega (arith, steps-next m x q, steps-le m (next x))) (λ q. omega (arith, steps-end (suc m) x q)) (two (flows x))
 
   -- fewer steps than allowed: the trail has ended
-  steps-stay : (m x : ℕ) → stepsIn rows cols dir m x < m → stepsIn rows cols dir (suc m) x ≡ stepsIn rows cols dir m x
+  pub steps-stay : (m x : ℕ) → stepsIn rows cols dir m x < m → stepsIn rows cols dir (suc m) x ≡ stepsIn rows cols dir m x
   steps-stay zero x h = absurd (omega arith)
   steps-stay (suc m) x h =
       ⊎-elim (λ q. omega (arith, steps-next m x q, steps-next (suc m) x q, steps-stay m (next x) (omega (arith, steps-next m x q))))
@@ -136,21 +136,21 @@ module _ (rows cols : ℕ) (dir : List ℕ) where
 
   -- ---- a trail that passes a cell
 
-  passes-self : (m x z : ℕ) → x ≡ z → passesIn rows cols dir m x z ≡ 1
+  pub passes-self : (m x z : ℕ) → x ≡ z → passesIn rows cols dir m x z ≡ 1
   unfolding passesIn
   passes-self zero x z e = ap (λ (b : Bool). cond b 1 0) (eq-eqb x z e)
   passes-self (suc m) x z e = ap (λ (b : Bool). cond b 1 (cond (flows x) (passesIn rows cols dir m (next x) z) 0)) (eq-eqb x z e)
 
-  passes-next : (m x z : ℕ) → (x ≡ z → ⊥) → flows x ≡ true → passesIn rows cols dir (suc m) x z ≡ passesIn rows cols dir m (next x) z
+  pub passes-next : (m x z : ℕ) → (x ≡ z → ⊥) → flows x ≡ true → passesIn rows cols dir (suc m) x z ≡ passesIn rows cols dir m (next x) z
   unfolding passesIn
   passes-next m x z d q = ap₂ (λ (b c : Bool). cond b 1 (cond c (passesIn rows cols dir m (next x) z) 0)) (ne-eqb x z d) q
 
-  passes-end : (m x z : ℕ) → (x ≡ z → ⊥) → flows x ≡ false → passesIn rows cols dir m x z ≡ 0
+  pub passes-end : (m x z : ℕ) → (x ≡ z → ⊥) → flows x ≡ false → passesIn rows cols dir m x z ≡ 0
   unfolding passesIn
   passes-end zero x z d q = ap (λ (b : Bool). cond b 1 0) (ne-eqb x z d)
   passes-end (suc m) x z d q = ap₂ (λ (b c : Bool). cond b 1 (cond c (passesIn rows cols dir m (next x) z) 0)) (ne-eqb x z d) q
 
-  passes-none : (x z : ℕ) → (x ≡ z → ⊥) → passesIn rows cols dir 0 x z ≡ 0
+  pub passes-none : (x z : ℕ) → (x ≡ z → ⊥) → passesIn rows cols dir 0 x z ≡ 0
   unfolding passesIn
   passes-none x z d = ap (λ (b : Bool). cond b 1 0) (ne-eqb x z d)
 

@@ -7,13 +7,17 @@ use lib.ListN.{length, getD}
 use Rattle.terrain.specs.Trail.{mappedAt, flowsAt, nextAt, stepsIn}
 use Rattle.terrain.specs.InnerCells.{Sized}
 
--- a grid of codes along which every trail stays on valid cells and ends
-pub record Directed (rows cols : ℕ) (dir : List ℕ) : Type 0 where
+-- a grid of codes along which every trail stays on valid cells; one may go round
+pub record Drawn (rows cols : ℕ) (dir : List ℕ) : Type 0 where
   pub sized : Sized rows cols
   pub long : length dir ≡ rows * cols
   -- a code is that of a bearing, 0 or 255
   pub stops : (x : ℕ) → mappedAt rows cols dir x ≡ true → flowsAt rows cols dir x ≡ false → getD dir x 255 ≡ 0
   -- a valid cell points at a valid cell
   pub stays : (x : ℕ) → flowsAt rows cols dir x ≡ true → mappedAt rows cols dir (nextAt rows cols dir x) ≡ true
-  -- and is further from the end of the trail
+
+-- one along which every trail ends
+pub record Directed (rows cols : ℕ) (dir : List ℕ) : Type 0 where
+  pub drawn : Drawn rows cols dir
+  -- a cell is further from the end of its trail than the one that it points at
   pub less : (x : ℕ) → flowsAt rows cols dir x ≡ true → stepsIn rows cols dir (rows * cols) (nextAt rows cols dir x) < stepsIn rows cols dir (rows * cols) x

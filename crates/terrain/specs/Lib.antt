@@ -7,6 +7,8 @@ pub mod Trail
 pub mod Falls
 pub mod Drainage
 pub mod Downhill
+pub mod Given
+pub mod Drawing
 pub mod Answers
 pub mod InnerCells
 pub mod InnerFlood
@@ -14,4 +16,5 @@ pub mod InnerFlats
 pub mod InnerLevels
 pub mod InnerTrail
 pub mod InnerDownhill
+pub mod InnerGiven
 pub mod InnerAnswers

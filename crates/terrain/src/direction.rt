@@ -24,7 +24,7 @@ use crate::flat::FAR;
 // The code of a NoData cell, and its fall.
 pub(crate) const NO_CODE: u8 = 255;
 
-const NO_FALL: u32 = 4294967295;
+pub(crate) const NO_FALL: u32 = 4294967295;
 
 // The code of bearing k.
 pub(crate) fn code_of(k: usize) -> u8

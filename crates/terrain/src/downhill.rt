@@ -5,7 +5,7 @@ ghost use Prim.Native.Nat.{ℕ, _+_, _*_, _<_};
 ghost use lib.ListN.{length};
 ghost use lib.Dec.{eqb};
 ghost use Rattle.laws.specs.Sums.{when};
-ghost use Rattle.terrain.specs.InnerTrail.{Directed};
+ghost use Rattle.terrain.specs.InnerTrail.{Drawn, Directed};
 ghost use Rattle.terrain.specs.Downhill.{Downhill};
 ghost use Rattle.terrain.specs.InnerDownhill.{Awaiting, Peeled, Onward};
 ghost use Rattle.terrain.specs.Cells.{Shifts};
@@ -24,7 +24,7 @@ fn idle(code: u8) -> u32
 
 // Lets every valid cell wait for none, and shuts the others.
 fn start(rows: usize, columns: usize, direction: &[u8], waiting: &mut [u32])
-    requires { ⌜ Directed rows columns (now direction) × (length (now waiting) ≡ rows * columns) ⌝ }
+    requires { ⌜ Drawn rows columns (now direction) × (length (now waiting) ≡ rows * columns) ⌝ }
     ensures { λ _. ⌜ Awaiting rows columns (now (direction .entry)) (now (waiting .exit)) 0 ⌝ }
 {
     let mut x: usize = 0;
@@ -43,7 +43,7 @@ fn await_one(
     waiting: &mut [u32],
     x: usize,
 )
-    requires { ⌜ Directed rows columns (now direction) × Awaiting rows columns (now direction) (now waiting) x × (x < rows * columns)
+    requires { ⌜ Drawn rows columns (now direction) × Awaiting rows columns (now direction) (now waiting) x × (x < rows * columns)
         × Shifts columns (now shifts) ⌝ }
     ensures { λ _. ⌜ Awaiting rows columns (now (direction .entry)) (now (waiting .exit)) (x + 1) ⌝ }
 {
@@ -65,7 +65,7 @@ fn await_all(
     direction: &[u8],
     waiting: &mut [u32],
 )
-    requires { ⌜ Directed rows columns (now direction) × (length (now waiting) ≡ rows * columns) × Shifts columns (now shifts) ⌝ }
+    requires { ⌜ Drawn rows columns (now direction) × (length (now waiting) ≡ rows * columns) × Shifts columns (now shifts) ⌝ }
     ensures { λ _. ⌜ Awaiting rows columns (now (direction .entry)) (now (waiting .exit)) (rows * columns) ⌝ }
 {
     start(rows, columns, direction, waiting);
@@ -87,7 +87,7 @@ fn take(
     place: usize,
     x: usize,
 ) -> usize
-    requires { ⌜ Directed rows columns (now direction) × Peeled rows columns (now direction) (now order) (now waiting) place 0 x × (x < rows * columns)
+    requires { ⌜ Drawn rows columns (now direction) × Peeled rows columns (now direction) (now order) (now waiting) place 0 x × (x < rows * columns)
         × Shifts columns (now shifts) ⌝ }
     ensures { λ r. ⌜ ((b hand : ℕ) → Peeled rows columns (now (direction .entry)) (now (order .entry)) (now (waiting .entry)) place b x
         → Onward (rows * columns) b (now (waiting .exit)) r hand
@@ -116,7 +116,7 @@ fn follow(
     place: usize,
     start: usize,
 ) -> usize
-    requires { ⌜ Directed rows columns (now direction) × Peeled rows columns (now direction) (now order) (now waiting) place (start + 1) start
+    requires { ⌜ Drawn rows columns (now direction) × Peeled rows columns (now direction) (now order) (now waiting) place (start + 1) start
         × (start < rows * columns) × Shifts columns (now shifts) ⌝ }
     ensures { λ r. ⌜ Peeled rows columns (now (direction .entry)) (now (order .exit)) (now (waiting .exit)) r (start + 1) (rows * columns) ⌝ }
 {
@@ -146,7 +146,7 @@ fn begin(
     place: usize,
     x: usize,
 ) -> usize
-    requires { ⌜ Directed rows columns (now direction) × Peeled rows columns (now direction) (now order) (now waiting) place x (rows * columns)
+    requires { ⌜ Drawn rows columns (now direction) × Peeled rows columns (now direction) (now order) (now waiting) place x (rows * columns)
         × (x < rows * columns) × Shifts columns (now shifts) ⌝ }
     ensures { λ r. ⌜ Peeled rows columns (now (direction .entry)) (now (order .exit)) (now (waiting .exit)) r (x + 1) (rows * columns) ⌝ }
 {

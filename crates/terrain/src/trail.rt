@@ -9,7 +9,7 @@ ghost use lib.Dec.{eqb};
 ghost use Rattle.laws.specs.Lists.{tab};
 ghost use Rattle.laws.specs.Sums.{when};
 ghost use Rattle.terrain.specs.Trail.{mappedAt, countsOf, longestOf, receiverOf};
-ghost use Rattle.terrain.specs.InnerTrail.{Directed};
+ghost use Rattle.terrain.specs.InnerTrail.{Drawn, Directed};
 ghost use Rattle.terrain.specs.Downhill.{Downhill};
 ghost use Rattle.terrain.specs.Cells.{Shifts};
 use crate::cells::larger;
@@ -25,7 +25,7 @@ pub(crate) fn receiver(
     direction: &[u8],
     x: usize,
 ) -> usize
-    requires { ⌜ Directed rows columns (now direction) × (mappedAt rows columns (now direction) x ≡ true) × Shifts columns (now shifts) ⌝ }
+    requires { ⌜ Drawn rows columns (now direction) × (mappedAt rows columns (now direction) x ≡ true) × Shifts columns (now shifts) ⌝ }
     ensures { λ r. ⌜ r ≡ receiverOf rows columns (now (direction .entry)) x ⌝ }
 {
     let k = u8::trailing_zeros(direction[x]) as usize;
@@ -44,7 +44,7 @@ fn own(code: u8) -> u32
 
 // Starts every count with the cell itself.
 fn start(rows: usize, columns: usize, direction: &[u8], count: &mut [u32])
-    requires { ⌜ Directed rows columns (now direction) × (length (now count) ≡ rows * columns) ⌝ }
+    requires { ⌜ Drawn rows columns (now direction) × (length (now count) ≡ rows * columns) ⌝ }
     ensures { λ _. ⌜ now (count .exit) ≡ tab (rows * columns) (λ x. when (mappedAt rows columns (now (direction .entry)) x) 1) ⌝ }
 {
     let mut x: usize = 0;

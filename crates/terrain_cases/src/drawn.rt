@@ -3,6 +3,15 @@ use crate::land::Land;
 use crate::land::field_of;
 use text::NO_DATA;
 
+// A bowl of 7 by 9 with a level rim.
+pub(crate) const LEVEL_BOWL: [u8; 63] = *b"999999999\
+    987654329\
+    976543219\
+    965432109\
+    976543219\
+    987654329\
+    999999999";
+
 pub(crate) fn basins() {
     draw(
         b"pit",
@@ -12,18 +21,7 @@ pub(crate) fn basins() {
         524\
         555",
     );
-    draw(
-        b"bowl with a level rim",
-        7,
-        9,
-        b"999999999\
-        987654329\
-        976543219\
-        965432109\
-        976543219\
-        987654329\
-        999999999",
-    );
+    draw(b"bowl with a level rim", 7, 9, &LEVEL_BOWL);
     draw(
         b"pit within a pit, its mouth at a corner",
         7,

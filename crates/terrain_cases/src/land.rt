@@ -51,11 +51,24 @@ pub(crate) fn field_of(
 ) {
     let mut ground = [0i32; 1600];
     let end = at_most_1600(cells);
-    shape(name, land, rows, columns, picture, &mut ground[0..end]);
+    shape_field(name, land, rows, columns, picture, &mut ground[0..end]);
 }
 
-// Gives each cell its height, and maps the field. The seeds of noise are a linear congruence of 32 bits.
-fn shape(name: &[u8], land: Land, rows: usize, columns: usize, picture: &[u8], ground: &mut [i32]) {
+// Gives each cell its height, and maps the field.
+fn shape_field(
+    name: &[u8],
+    land: Land,
+    rows: usize,
+    columns: usize,
+    picture: &[u8],
+    ground: &mut [i32],
+) {
+    shape(land, columns, picture, ground);
+    field(name, rows, columns, ground);
+}
+
+// Gives each cell its height. The seeds of noise are a linear congruence of 32 bits.
+pub(crate) fn shape(land: Land, columns: usize, picture: &[u8], ground: &mut [i32]) {
     let mut seed: usize = 1;
     let mut x = 0;
     while x < ground.len() {
@@ -63,7 +76,6 @@ fn shape(name: &[u8], land: Land, rows: usize, columns: usize, picture: &[u8], g
         ground[x] = height(land, x, columns, seed, picture);
         x += 1;
     }
-    field(name, rows, columns, ground);
 }
 
 fn height(land: Land, x: usize, columns: usize, seed: usize, picture: &[u8]) -> i32 {

@@ -2,6 +2,7 @@
 // filled heights, directions and counts row by row; and what became of the workspace.
 ghost use Prim.Native.Nat.{_≤_};
 use factor::Answer;
+use factor::Source;
 use output::write;
 use output::write_height;
 use output::write_natural;
@@ -37,12 +38,11 @@ pub(crate) fn lent(
     let mut lengths = [77u64; 1600];
     let mut factors = [77u32; 1600];
     let mut workspace = [77u32; 1600];
-    write(name);
-    write_natural(rows as u64);
-    write_natural(columns as u64);
+    write_title(name, rows, columns);
     write_map(
         rows,
         columns,
+        Source::Own,
         ground,
         &mut filled[0..filled_end],
         &mut direction[0..direction_end],
@@ -59,10 +59,17 @@ pub(crate) fn at_most_1600(n: usize) -> usize
     if n < 1600 { n } else { 1600 }
 }
 
+pub(crate) fn write_title(name: &[u8], rows: usize, columns: usize) {
+    write(name);
+    write_natural(rows as u64);
+    write_natural(columns as u64);
+}
+
 // Maps the lent grids and writes all but the name.
-fn write_map(
+pub(crate) fn write_map(
     rows: usize,
     columns: usize,
+    source: Source,
     ground: &[i32],
     filled: &mut [i32],
     direction: &mut [u8],
@@ -74,6 +81,7 @@ fn write_map(
     map(
         rows,
         columns,
+        source,
         ground,
         filled,
         direction,
@@ -90,9 +98,10 @@ fn write_map(
 }
 
 // Works out the lent grids with cells of 10 m, cutoffs 0.5 and no channels, and writes the answer.
-fn map(
+pub(crate) fn map(
     rows: usize,
     columns: usize,
+    source: Source,
     ground: &[i32],
     filled: &mut [i32],
     direction: &mut [u8],
@@ -112,6 +121,7 @@ fn map(
         columns,
         1000,
         settings,
+        source,
         ground,
         filled,
         direction,
@@ -138,7 +148,7 @@ fn write_answer(answer: Answer) {
     }
 }
 
-fn write_workspace(workspace: &[u32]) {
+pub(crate) fn write_workspace(workspace: &[u32]) {
     if is_all(workspace, 0) {
         write(b"\nworkspace zeros\n");
     } else if is_all(workspace, 77) {

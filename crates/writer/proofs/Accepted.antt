@@ -1,5 +1,5 @@
--- What is known of a frame and of heights that are not refused. Assumes nothing.
-use mathlib.Core.Path.{_≡_, refl, sym, _∙_, subst}
+-- What is known of a frame, and of heights and directions, that are not refused. Assumes nothing.
+use mathlib.Core.Path.{_≡_, refl, sym, subst}
 use mathlib.Core.Bool.{true, true≢false}
 use mathlib.Core.List.{List, [], _∷_, _++_}
 use Prim.Native.Nat.{ℕ, _+_, _*_, _≤_, _<_}
@@ -15,7 +15,8 @@ use Rattle.text.specs.Right.{Sign, plain, minus, Decimals, none, point, RightNu
 use Rattle.text.proofs.Right.{is-right}
 use Rattle.text.proofs.Accepted.{size-passed, length-passed, side-passed, height-passed}
 use Rattle.writer.specs.Text.{Frame, textOf}
-use Rattle.writer.specs.Answers.{cornerTest, roomTest, frameTests, heightCells, judged}
+use Rattle.writer.specs.Answers.{cornerTest, roomTest, frameTests, heightCells, numberCells, directionCells, judged}
+use Rattle.writer.specs.Rooms.{EachBelow}
 
 -- a word of the right form
 abbrev pub NumberWord : List ℕ → Type 0
@@ -46,6 +47,12 @@ pub record HeightsAccepted (f : Frame) (hs : List ℤ) : Type 0 where
   pub frame : FrameAccepted f
   pub cells : length hs ≡ f .rows * f .columns
   pub each : EachAccepted hs
+
+-- directions are bytes, each of which is accepted, and there is one for each cell
+pub record DirectionsAccepted (f : Frame) (directions : List ℕ) : Type 0 where
+  pub frame : FrameAccepted f
+  pub cells : length directions ≡ f .rows * f .columns
+  pub each : EachBelow 256 directions
 
 corner-passed : (place : ℕ) (w : List ℕ) → cornerTest place w ≡ passed → NumberWord w
 unfolding cornerTest
@@ -99,3 +106,12 @@ module _ (f : Frame) (hs : List ℤ) (room : List ℕ) where
       let w = frame-accepted f (length hs) (p .0) in
       let each = height-passed n hs (verdict-passed (heightTest n hs) [] (p .1) .0) in
       record { frame = w .0; cells = w .1; each = λ x l. each x (subst (λ (k : ℕ). x < k) (w .1) l) }
+
+-- a call that writes directions, and is not refused
+module _ (f : Frame) (directions room : List ℕ) where
+  pub directions-accepted : judged f (directionCells directions) room ≡ passed → EachBelow 256 directions → DirectionsAccepted f directions
+  unfolding judged directionCells numberCells
+  directions-accepted e each =
+      let rest = roomTest (textOf f (directionCells directions .words)) room ∷ [] in
+      let w = frame-accepted f (length directions) (verdict-parts (frameTests f (length directions)) rest e .0) in
+      record { frame = w .0; cells = w .1; each = each }

@@ -103,13 +103,20 @@ pub decimal-some : (n : ℕ) → 0 < length (decimal n)
 decimal-some n =
     elim (decLt n 10) [ yes h ↦ omega (arith, ap length (decimal-digit n h)) | no h ↦ omega (arith, decimal-longer n (omega arith)) ]
 
--- ---- counts
+-- ---- a word of digits only
 
-pub count-form : (n : ℕ) → n < 1000000000 → countFormAt (decimal n) 0 (length (decimal n)) ≡ formed n
-unfolding countFormAt
-count-form n h =
-    let w = decimal n in
-    let text = sym (append-nil w) in
-    let ends : run digit w 0 9 ≡ length w = run-digits w w [] 0 9 text (decimal-digits n) (decimal-short 8 n h) refl ∙ zero-add (length w) in
-    rw (ends, ne-eqb (length w) 0 (λ e. omega (arith, decimal-some n)), eq-eqb (length w) (length w) refl, sub-zero (length w))
-    (ap formed (value-decimal w (length w) 0 n [] text (omega arith)))
+module _ (n : ℕ) where
+  pub decimal-ends : n < 1000000000 → run digit (decimal n) 0 9 ≡ length (decimal n)
+  decimal-ends h =
+      let w = decimal n in
+      run-digits w w [] 0 9 (sym (append-nil w)) (decimal-digits n) (decimal-short 8 n h) refl ∙ zero-add (length w)
+
+  pub decimal-value : value (decimal n) (length (decimal n)) 0 (length (decimal n)) ≡ n
+  decimal-value = let w = decimal n in value-decimal w (length w) 0 n [] (sym (append-nil w)) (omega arith)
+
+  pub count-form : n < 1000000000 → countFormAt (decimal n) 0 (length (decimal n)) ≡ formed n
+  unfolding countFormAt
+  count-form h =
+      let w = decimal n in
+      rw (decimal-ends h, ne-eqb (length w) 0 (λ e. omega (arith, decimal-some n)), eq-eqb (length w) (length w) refl, sub-zero (length w))
+      (ap formed decimal-value)

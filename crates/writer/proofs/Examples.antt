@@ -8,9 +8,9 @@ use lib.ListN.{replicate}
 use Rattle.text.specs.Bytes.{bytes}
 use Rattle.text.specs.Words.{run}
 use Rattle.text.specs.Numbers.{value, decimals}
-use Rattle.writer.specs.Words.{heightWord, countWord, factorWord}
+use Rattle.writer.specs.Words.{heightWord, countWord, factorWord, directionWord}
 use Rattle.writer.specs.Text.{Frame, frame, textOf}
-use Rattle.writer.specs.Answers.{Cells, heightCells, countCells, factorCells, answer, after}
+use Rattle.writer.specs.Answers.{Cells, heightCells, countCells, factorCells, directionCells, answer, after}
 use Rattle.writer.specs.declared.Answer.{Answer}
 use Rattle.writer.specs.declared.Answer.the-variants.{Accepted, Refused}
 
@@ -44,6 +44,10 @@ factorWords =
     (4294967294, "-9999") ∷
     (4294967295, "-9999") ∷ []
 
+-- codes of directions; NoData is 255, and any other byte is a number, be it a code or not
+unfoldable pub directionWords : List (ℕ × String)
+directionWords = (0, "0") ∷ (1, "1") ∷ (9, "9") ∷ (10, "10") ∷ (99, "99") ∷ (100, "100") ∷ (128, "128") ∷ (254, "254") ∷ (255, "-9999") ∷ []
+
 pub height-words-hold : map (λ (x : ℤ × String). heightWord (x .0)) heightWords ≡ map (λ (x : ℤ × String). bytes (x .1)) heightWords
 unfolding heightWords bytes heightWord
 height-words-hold = refl
@@ -56,6 +60,10 @@ pub factor-words-hold : map (λ (x : ℕ × String). factorWord (x .0)) factorWo
 unfolding factorWords bytes factorWord
 factor-words-hold = refl
 
+pub direction-words-hold : map (λ (x : ℕ × String). directionWord (x .0)) directionWords ≡ map (λ (x : ℕ × String). bytes (x .1)) directionWords
+unfolding directionWords bytes directionWord
+direction-words-hold = refl
+
 -- ---- calls
 
 -- what is written
@@ -63,6 +71,7 @@ pub data Grid : Type 0 where
   heights : List ℤ → Grid
   counts : List ℕ → Grid
   factors : List ℕ → Grid
+  directions : List ℕ → Grid
 
 -- a call, but for its room
 pub record Call : Type 0 where
@@ -76,6 +85,7 @@ abbrev pub cellsOf : Frame → Grid → Cells
 cellsOf f (heights hs) = heightCells f hs
 cellsOf f (counts ns) = countCells ns
 cellsOf f (factors ns) = factorCells ns
+cellsOf f (directions ns) = directionCells ns
 
 -- the text of a call
 abbrev pub written : Call → List ℕ
@@ -126,6 +136,12 @@ wholes =
       text = "ncols 3\nnrows 2\nxllcorner -12.500000\nyllcorner 0\ncellsize 10.00\nnodata_value -9999\n0.00000 0.04810 -9999\n-9999 42949.67293 1.00000\n";
       length = 131;
     } ∷
+    -- directions: off the map, east, NoData, north-east, north, and a byte that is no code
+    record {
+      call = call 2 3 1000 "-12.500000" "0" (directions (0 ∷ 1 ∷ 255 ∷ 128 ∷ 64 ∷ 200 ∷ []));
+      text = "ncols 3\nnrows 2\nxllcorner -12.500000\nyllcorner 0\ncellsize 10.00\nnodata_value -9999\n0 1 -9999\n128 64 200\n";
+      length = 104;
+    } ∷
     -- the smallest grid and cell side
     record {
       call = call 1 1 1 "0" "-0" (heights (pos 0 ∷ []));
@@ -134,7 +150,7 @@ wholes =
     } ∷ []
 
 pub wholes-hold : map (λ (x : Whole). written (x .call)) wholes ≡ map (λ (x : Whole). bytes (x .text)) wholes
-unfolding wholes bytes textOf heightCells countCells factorCells
+unfolding wholes bytes textOf heightCells countCells factorCells directionCells
 wholes-hold = refl
 
 -- with a room 3 bytes longer than the text, whose last 3 bytes stay; just as long; and 1 byte shorter, which is refused
@@ -148,7 +164,7 @@ claimedOfRooms x =
     record { answer = refused 13 0; room = stars (x .length - 1) } ∷ []
 
 pub rooms-hold : map toldOfRooms wholes ≡ map claimedOfRooms wholes
-unfolding wholes bytes run value decimals heightCells countCells factorCells answer after
+unfolding wholes bytes run value decimals heightCells countCells factorCells directionCells answer after
 rooms-hold = refl
 
 -- ---- refusals
@@ -176,15 +192,18 @@ oneWrong =
     record { call = call 2 0 1000 "0" "0" (counts []); room = 200; number = 1; place = 0 } ∷
     record { call = call 1 1025 1000 "0" "0" (heights (replicate 1025 (pos 5))); room = 9000; number = 1; place = 0 } ∷
     record { call = call 1025 1 1000 "0" "0" (factors (replicate 1025 5)); room = 9000; number = 1; place = 0 } ∷
+    record { call = call 0 0 1000 "0" "0" (directions []); room = 200; number = 1; place = 0 } ∷
     -- 2: a cell too few, a cell too many
     record { call = call 2 3 1000 "0" "0" five; room = 200; number = 2; place = 0 } ∷
     record { call = call 1 5 1000 "0" "0" six; room = 200; number = 2; place = 0 } ∷
     record { call = call 1 2 1000 "0" "0" (counts (1 ∷ [])); room = 200; number = 2; place = 0 } ∷
     record { call = call 1 2 1000 "0" "0" (factors []); room = 200; number = 2; place = 0 } ∷
+    record { call = call 1 2 1000 "0" "0" (directions (1 ∷ 2 ∷ 4 ∷ [])); room = 200; number = 2; place = 0 } ∷
     -- 3: cell side 0, and 1,000.01 m
     record { call = call 2 3 0 "0" "0" six; room = 200; number = 3; place = 0 } ∷
     record { call = call 2 3 100001 "0" "0" six; room = 200; number = 3; place = 0 } ∷
     record { call = call 1 1 0 "0" "0" (counts (1 ∷ [])); room = 200; number = 3; place = 0 } ∷
+    record { call = call 1 1 100001 "0" "0" (directions (1 ∷ [])); room = 200; number = 3; place = 0 } ∷
     -- 5: one cm above the largest height, one below the smallest, and beside NoData
     record { call = call 2 3 1000 "0" "0" (heights (pos 0 ∷ pos 1 ∷ pos 2 ∷ pos 3 ∷ pos 900001 ∷ pos 5 ∷ [])); room = 200; number = 5; place = 4 } ∷
     record { call = call 1 2 1000 "0" "0" (heights (negℤ (pos 50001) ∷ pos 0 ∷ [])); room = 200; number = 5; place = 0 } ∷
@@ -194,7 +213,8 @@ oneWrong =
     record { call = call 2 3 1000 "0" "0" six; room = 0; number = 13; place = 0 } ∷
     record { call = call 2 3 1000 "0" "0" six; room = 50; number = 13; place = 0 } ∷
     record { call = call 1 1 1000 "0" "0" (counts (1 ∷ [])); room = 0; number = 13; place = 0 } ∷
-    record { call = call 1 1 1000 "0" "0" (factors (1 ∷ [])); room = 0; number = 13; place = 0 } ∷ []
+    record { call = call 1 1 1000 "0" "0" (factors (1 ∷ [])); room = 0; number = 13; place = 0 } ∷
+    record { call = call 1 1 1000 "0" "0" (directions (1 ∷ [])); room = 0; number = 13; place = 0 } ∷ []
 
 -- two things are wrong, or more: the earlier refusal is given
 unfoldable pub severalWrong : List Case
@@ -215,6 +235,7 @@ severalWrong =
     -- 7 and 13
     record { call = call 1 1 1000 "0" ".5" (counts (1 ∷ [])); room = 0; number = 7; place = 2 } ∷
     record { call = call 1 1 1000 "0" ".5" (factors (1 ∷ [])); room = 0; number = 7; place = 2 } ∷
+    record { call = call 1 1 1000 "0" ".5" (directions (1 ∷ [])); room = 0; number = 7; place = 2 } ∷
     -- 5 twice
     record { call = call 1 3 1000 "0" "0" (heights (pos 0 ∷ pos 900001 ∷ negℤ (pos 50001) ∷ [])); room = 200; number = 5; place = 1 } ∷
     -- 5 and 13
@@ -230,11 +251,11 @@ abbrev pub claimedOfCase : Case → Told
 claimedOfCase x = record { answer = refused (x .number) (x .place); room = stars (x .room) }
 
 pub one-wrong-hold : map toldOfCase oneWrong ≡ map claimedOfCase oneWrong
-unfolding oneWrong bytes run value decimals heightCells countCells factorCells answer after
+unfolding oneWrong bytes run value decimals heightCells countCells factorCells directionCells answer after
 one-wrong-hold = refl
 
 pub several-wrong-hold : map toldOfCase severalWrong ≡ map claimedOfCase severalWrong
-unfolding severalWrong bytes run value decimals heightCells countCells factorCells answer after
+unfolding severalWrong bytes run value decimals heightCells countCells factorCells directionCells answer after
 several-wrong-hold = refl
 
 -- ---- 7: corner words of bad form
@@ -244,7 +265,7 @@ badCorners = "" ∷ "12,5" ∷ "1e5" ∷ ".5" ∷ "5." ∷ "+5" ∷ "-" ∷ " 5"
 
 -- one cell of each kind
 abbrev pub grids : List Grid
-grids = heights (pos 5 ∷ []) ∷ counts (1 ∷ []) ∷ factors (4810 ∷ []) ∷ []
+grids = heights (pos 5 ∷ []) ∷ counts (1 ∷ []) ∷ factors (4810 ∷ []) ∷ directions (64 ∷ []) ∷ []
 
 -- such a word as x, as y, and as both
 abbrev pub toldOfCorner : Grid → String → List Told
@@ -257,10 +278,10 @@ claimedOfCorner g w =
     record { answer = refused 7 1; room = stars 200 } ∷ []
 
 pub bad-corners-hold : map (λ (g : Grid). map (toldOfCorner g) badCorners) grids ≡ map (λ (g : Grid). map (claimedOfCorner g) badCorners) grids
-unfolding badCorners bytes run value decimals heightCells countCells factorCells answer after
+unfolding badCorners bytes run value decimals heightCells countCells factorCells directionCells answer after
 bad-corners-hold = refl
 
--- ---- what is not refused: the bounds, and counts and LS of any size
+-- ---- what is not refused: the bounds, and counts, LS and directions of any size
 
 -- a call, and how long its text is; the room has 200 bytes
 unfoldable pub accepted : List (Call × ℕ)
@@ -272,13 +293,16 @@ accepted =
     (call 1 1 1 "0" "0" (counts (900001 ∷ [])), 80) ∷
     (call 1 1 1 "0" "0" (factors (900001 ∷ [])), 81) ∷
     (call 1 1 1 "0" "0" (counts (4294967295 ∷ [])), 84) ∷
-    (call 1 1 1 "0" "0" (factors (4294967295 ∷ [])), 79) ∷ []
+    (call 1 1 1 "0" "0" (factors (4294967295 ∷ [])), 79) ∷
+    (call 1 1 1 "0" "0" (directions (0 ∷ [])), 75) ∷
+    (call 1 1 1 "0" "0" (directions (254 ∷ [])), 77) ∷
+    (call 1 1 1 "0" "0" (directions (255 ∷ [])), 79) ∷ []
 
 pub accepted-hold : map (λ (x : Call × ℕ). told (x .0) 200 .answer) accepted ≡ map (λ (x : Call × ℕ). Accepted (x .1)) accepted
-unfolding accepted bytes run value decimals heightCells countCells factorCells answer after
+unfolding accepted bytes run value decimals heightCells countCells factorCells directionCells answer after
 accepted-hold = refl
 
--- counts and LS have no test of their own: none of them gives 5
-pub never-five : (ns : List ℕ) → (countCells ns .tests ≡ []) × (factorCells ns .tests ≡ [])
-unfolding countCells factorCells
-never-five ns = (refl, refl)
+-- counts, LS and directions have no test of their own: none of them gives 5
+pub never-five : (ns : List ℕ) → (countCells ns .tests ≡ []) × (factorCells ns .tests ≡ []) × (directionCells ns .tests ≡ [])
+unfolding countCells factorCells directionCells
+never-five ns = (refl, refl, refl)

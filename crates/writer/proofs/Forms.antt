@@ -1,30 +1,27 @@
--- What the reader makes of the words that the writer writes: metres, NoData, and the word of a height. Assumes nothing.
+-- What number the reader finds in a word that the writer writes: metres, whole metres, and NoData. Assumes nothing.
 use mathlib.Core.Path.{_≡_, refl, sym, ap, ap₂, _∙_}
-use mathlib.Core.Bool.{Bool, true, false, cond, _&&_, _||_}
-use mathlib.Core.List.{List, [], _∷_, _++_}
+use mathlib.Core.Bool.{Bool, true, false, _&&_}
+use mathlib.Core.List.{List, [], _∷_, _++_, append-nil}
 use Prim.Native.Nat.{ℕ, suc, _+_, _-_, _*_, _/_, _%_, _<_, _≤_}
+use native.Mathlib.Nat.{sub-zero}
 use native.Mathlib.Omega.{arith}
 use borrow.Author.Tests.{le-ltb, leb-true, eq-eqb, ne-eqb}
 use lib.Dec.{leb, eqb}
 use lib.IntN.{ℤ, pos, negsuc, natAbs}
-use lib.ListN.{length, getD, drop, length-drop, List·getD-append}
+use lib.ListN.{length, getD, drop, length-drop, List·getD-append, List·getD-eq-default}
 use Rattle.laws.proofs.Tests.{and-both}
 use Rattle.text.specs.Bytes.{bytes}
 use Rattle.text.specs.Quantities.{heightIn, noDataHeight}
-use Rattle.text.specs.Ranges.{heightAccepted}
-use Rattle.text.specs.Reader.{got}
 use Rattle.text.specs.Words.{run}
 use Rattle.text.specs.Numbers.{digit, zero, value, formed, Number, decimals, wholeAndDecimals, numberAt, centimetres}
-use Rattle.text.specs.Heights.{same, height}
-use Rattle.text.proofs.Accepted.{same-equal}
 use Rattle.text.proofs.Bytes.{digit-range}
 use Rattle.text.proofs.Every.{every-each}
 use Rattle.text.proofs.InnerRuns.{run-lower}
-use Rattle.text.proofs.Pieces.{Ahead, drop-past, height-ahead, height-none-ahead}
+use Rattle.text.proofs.Pieces.{drop-past}
 use Rattle.numerals.specs.Words.{decimal, padded, fixed}
 use Rattle.numerals.proofs.Decimal.{decimal-short}
-use Rattle.writer.specs.Words.{none, metres, heightWord}
-use Rattle.writer.proofs.Digits.{byte-after, run-digits, digit-of, value-digit, value-decimal, decimal-digits, decimal-some}
+use Rattle.writer.specs.Words.{none, metres}
+use Rattle.writer.proofs.Digits.{byte-after, run-digits, digit-of, value-digit, value-decimal, decimal-digits, decimal-some, decimal-ends, decimal-value}
 
 -- ---- metres: centimetres with two decimals, which stand in a text s from the place b to its end
 
@@ -94,12 +91,11 @@ module _ (s : List ℕ) (b n : ℕ) (text : drop b s ≡ fixed 2 n) (small : n <
       rw (whole-ends, ne-eqb d b (λ e. omega (arith, decimal-some (n / 100))), point-there, long, whole-value, decimals-form (d + 1) refl minus, all)
 
 -- the first byte is a digit, and so no minus
-plain : (n : ℕ) → eqb (getD (fixed 2 n) 0 0) 45 ≡ false
-unfolding fixed
-plain n =
-    let first = List·getD-append (wholeOf n) (46 ∷ padded 2 n) 0 0 (decimal-some (n / 100)) in
-    let digital = every-each digit (wholeOf n) (decimal-digits (n / 100)) 0 (decimal-some (n / 100)) in
-    ne-eqb (getD (fixed 2 n) 0 0) 45 (λ e. omega (arith, first, digit-range (getD (wholeOf n) 0 0) digital .0))
+plain : (n : ℕ) (rest : List ℕ) → eqb (getD (decimal n ++ rest) 0 0) 45 ≡ false
+plain n rest =
+    let first = List·getD-append (decimal n) rest 0 0 (decimal-some n) in
+    let digital = every-each digit (decimal n) (decimal-digits n) 0 (decimal-some n) in
+    ne-eqb (getD (decimal n ++ rest) 0 0) 45 (λ e. omega (arith, first, digit-range (getD (decimal n) 0 0) digital .0))
 
 -- what the word of so many cm says
 abbrev pub saying : ℤ → Number
@@ -115,9 +111,26 @@ saying-is (pos n) = refl
 saying-is (negsuc n) = refl
 
 pub metres-form : (z : ℤ) → natAbs z < 100000000000 → numberAt (metres z) 0 (length (metres z)) ≡ formed (saying z)
-unfolding numberAt metres
-metres-form (pos n) h = rw (plain n) (whole-form (fixed 2 n) 0 n refl h false)
+unfolding numberAt metres fixed
+metres-form (pos n) h = rw (plain (n / 100) (46 ∷ padded 2 n)) (whole-form (fixed 2 n) 0 n refl h false)
 metres-form (negsuc n) h = whole-form (45 ∷ fixed 2 (suc n)) 1 (suc n) refl h true
+
+-- ---- whole metres: digits only
+
+pub decimal-form : (n : ℕ) → n < 1000000000 → numberAt (decimal n) 0 (length (decimal n)) ≡ formed (saying (pos (n * 100)))
+unfolding numberAt
+decimal-form n h =
+    let w = decimal n in
+    let unsigned : eqb (getD w 0 0) 45 ≡ false = ap (λ (u : List ℕ). eqb (getD u 0 0) 45) (sym (append-nil w)) ∙ plain n [] in
+    rw (
+      unsigned,
+      decimal-ends n h,
+      ne-eqb (length w) 0 (λ e. omega (arith, decimal-some n)),
+      List·getD-eq-default w 0 {n = length w} (omega arith),
+      eq-eqb (length w) (length w) refl,
+      sub-zero (length w),
+      decimal-value n,
+    )
 
 -- ---- NoData
 
@@ -125,25 +138,8 @@ pub none-form : numberAt none 0 (length none) ≡ formed (saying noDataHeight)
 unfolding numberAt decimals none bytes run value
 none-form = refl
 
--- ---- the words of heights
+-- ---- heights that are accepted
 
 pub height-small : (z : ℤ) → heightIn z ≡ true → natAbs z ≤ 900000
 height-small (pos n) e = omega (arith, leb-true n 900000 e)
 height-small (negsuc n) e = omega (arith, leb-true n 49999 (and-both (leb n 49999) true e .0))
-
--- A height that is accepted is read back from its word: NoData is no other height's word.
-module _ (z : ℤ) (ok : heightAccepted z ≡ true) {s : List ℕ} {i : ℕ} {before rest : List ℕ} where
-  pub height-back : Ahead s i before (heightWord z) rest → height noDataHeight s i ≡ got z (i + length before + length (heightWord z))
-  unfolding heightAccepted heightWord
-  height-back = go (same z noDataHeight) refl ok
-    where
-      go : (t : Bool) → same z noDataHeight ≡ t → (t || heightIn z) ≡ true → Ahead s i before (cond t none (metres z)) rest
-          → height noDataHeight s i ≡ got z (i + length before + length (cond t none (metres z)))
-      go true e u h =
-          height-none-ahead h none-form refl noDataHeight refl
-          ∙ ap (λ (x : ℤ). got x (i + length before + length none)) (sym (same-equal z noDataHeight e))
-      go false e u h =
-          let is = saying-is z in
-          height-ahead h (metres-form z (omega (arith, height-small z u))) (saying-fine z) noDataHeight
-          (ap (λ (x : ℤ). same x noDataHeight) is ∙ e) (ap heightIn is ∙ u)
-          ∙ ap (λ (x : ℤ). got x (i + length before + length (metres z))) is

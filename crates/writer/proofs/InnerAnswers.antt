@@ -15,9 +15,8 @@ use Rattle.numerals.specs.Writing.{overlay, Wrote}
 use Rattle.numerals.proofs.Writing.{wrote-as, wrote-then}
 use Rattle.writer.specs.Words.{heightWord}
 use Rattle.writer.specs.Text.{Frame, headerWords, lines, textOf}
-use Rattle.writer.specs.Answers.{roomTest, frameTests, Cells, heightCells, judged, answerOf, roomOf, answer, after}
-use Rattle.writer.specs.InnerCells.{cellsFrom, bytesOf, wordOf, numberCells}
-use Rattle.writer.specs.declared.words.Kind.{Kind}
+use Rattle.writer.specs.Answers.{roomTest, frameTests, Cells, heightCells, numberCells, judged, answerOf, roomOf, answer, after}
+use Rattle.writer.specs.InnerCells.{cellsFrom, bytesOf}
 use Rattle.writer.specs.declared.Answer.{Answer}
 use Rattle.writer.specs.declared.Answer.the-variants.{Accepted, Refused}
 use Rattle.writer.proofs.Accepted.{FrameAccepted, corner-short, frame-accepted}
@@ -121,12 +120,13 @@ module _ (f : Frame) (hs : List ℤ) (frame-is : verdict (frameTests f (length h
   unfolding heightCells
   heights-long = length-map hs heightWord
 
--- ---- counts and LS, of which any number is good
+-- ---- counts, LS and directions, of which any number is good
 
-pub numbers-pass : (kind : Kind) (numbers : List ℕ) → verdict (numberCells kind numbers .tests) ≡ passed
-unfolding numberCells
-numbers-pass kind numbers = verdict-none
+module _ (word : ℕ → List ℕ) (numbers : List ℕ) where
+  pub numbers-pass : verdict (numberCells word numbers .tests) ≡ passed
+  unfolding numberCells
+  numbers-pass = verdict-none
 
-pub numbers-long : (kind : Kind) (numbers : List ℕ) → length (numberCells kind numbers .words) ≡ numberCells kind numbers .number
-unfolding numberCells
-numbers-long kind numbers = length-map numbers (wordOf kind)
+  pub numbers-long : length (numberCells word numbers .words) ≡ numberCells word numbers .number
+  unfolding numberCells
+  numbers-long = length-map numbers word

@@ -19,7 +19,7 @@ use Rattle.factor.specs.Grid.{noDataFactor}
 use Rattle.numerals.specs.Words.{decimal, padded, fixed}
 use Rattle.numerals.specs.Writing.{overlay, Wrote}
 use Rattle.numerals.proofs.Writing.{wrote-laid, wrote-byte, wrote-then}
-use Rattle.writer.specs.Words.{none, metres, heightWord, countWord, factorWord}
+use Rattle.writer.specs.Words.{none, metres, heightWord, countWord, factorWord, directionWord}
 use Rattle.writer.specs.InnerCells.{wordOf}
 use Rattle.writer.specs.declared.words.Kind.{Kind}
 use Rattle.writer.specs.declared.words.Kind.the-variants.{Count, Factor}
@@ -74,6 +74,17 @@ module _ (z : ℤ) (f : SFits w32 z) where
     pub height-above : ltZ (toZ w32 (ofZ w32 z)) (pos 0) ≡ false → heightWord z ≡ fixed 2 n
     height-above h =
         some z (none-bits z d) ∙ above z (subst (λ (y : ℤ). ltZ y (pos 0) ≡ false) (toZ-ofZ f) h) ∙ ap (fixed 2) (sym (e ∙ ap natAbs (toZ-ofZ f)))
+
+-- ---- directions
+
+module _ (code : ℕ) where
+  pub direction-none : code ≡ 255 → directionWord code ≡ none
+  unfolding directionWord
+  direction-none e = ap directionWord e
+
+  pub direction-some : (code ≡ 255 → ⊥) → directionWord code ≡ decimal code
+  unfolding directionWord
+  direction-some d = ap (λ (b : Bool). cond b none (decimal code)) (ne-eqb code 255 d)
 
 -- ---- counts and LS
 

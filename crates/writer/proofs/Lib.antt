@@ -4,9 +4,11 @@ pub mod Examples
 pub mod Accepted
 pub mod Digits
 pub mod Forms
+pub mod WordsBack
 pub mod InnerRows
 pub mod HeightsBack
 pub mod HeaderBack
+pub mod TextBack
 pub mod ReadBack
 -- Laws of a room's size
 pub mod Rooms

@@ -17,16 +17,16 @@ use Rattle.text.specs.Numbers.{isNumber}
 use Rattle.text.specs.Ranges.{sizeAccepted, sideAccepted, allLong, firstBad, heightAccepted, sizeTest, lengthTest, sideTest, heightTest}
 use Rattle.text.proofs.Accepted.{size-is, side-is, height-passed}
 use Rattle.numerals.proofs.Decimal.{decimal-short, fixed-length}
-use Rattle.writer.specs.Words.{none, metres, heightWord}
+use Rattle.writer.specs.Words.{none, metres, heightWord, directionWord}
 use Rattle.writer.specs.Text.{Frame, frame, headerWords, lines, textOf}
-use Rattle.writer.specs.Answers.{cornerTest, frameTests, Cells, heightCells, countCells, factorCells, judged}
-use Rattle.writer.specs.Rooms.{roomFor, Words32, Holds}
-use Rattle.writer.specs.InnerCells.{bytesOf, wordOf, numberCells}
+use Rattle.writer.specs.Answers.{cornerTest, frameTests, Cells, heightCells, numberCells, countCells, factorCells, directionCells, judged}
+use Rattle.writer.specs.Rooms.{roomFor, EachBelow, Holds}
+use Rattle.writer.specs.InnerCells.{bytesOf, wordOf}
 use Rattle.writer.specs.declared.words.Kind.{Kind}
 use Rattle.writer.specs.declared.words.Kind.the-variants.{Count, Factor}
 use Rattle.writer.proofs.Accepted.{FrameAccepted, corner-short, frame-accepted}
 use Rattle.writer.proofs.Forms.{height-small}
-use Rattle.writer.proofs.InnerWords.{none-length, count-none, count-some, factor-none, factor-some}
+use Rattle.writer.proofs.InnerWords.{none-length, count-none, count-some, factor-none, factor-some, direction-none, direction-some}
 use Rattle.writer.proofs.InnerHeader.{header-length}
 use Rattle.writer.proofs.InnerAnswers.{room-passes, text-length, heights-long, numbers-long}
 
@@ -70,6 +70,13 @@ number-short Factor n h =
     elim (decLt n 4294967294) [
       | yes l ↦ omega (arith, ap length (factor-some n refl l), fixed-length 5 n, decimal-short 4 (n / 100000) (omega arith))
       | no f ↦ omega (arith, ap length (factor-none n refl (omega arith) h), none-length)
+    ]
+
+direction-short : (code : ℕ) → code < 256 → length (directionWord code) ≤ 11
+direction-short code h =
+    elim (ℕ-discrete code 255) [
+      | yes e ↦ omega (arith, ap length (direction-none code e), none-length)
+      | no d ↦ omega (arith, ap length (direction-some code d), decimal-short 2 code (omega arith))
     ]
 
 bytes-short : {A : Type 0} (w : A → List ℕ) (d : A) (cells : List A) → ((k : ℕ) → k < length cells → length (w (getD cells k d)) ≤ 11)
@@ -125,9 +132,9 @@ heights-other f hs =
     let n = f .rows * f .columns in
     verdict-other (heightTest n hs ∷ []) (test-other (not (ltb (firstBad n hs) n)) 5 (firstBad n hs) (λ e. omega arith), tt)
 
-numbers-other : (kind : Kind) (numbers : List ℕ) → Other (verdict (numberCells kind numbers .tests))
+numbers-other : (word : ℕ → List ℕ) (numbers : List ℕ) → Other (verdict (numberCells word numbers .tests))
 unfolding numberCells
-numbers-other kind numbers = verdict-other [] tt
+numbers-other word numbers = verdict-other [] tt
 
 -- a test that fails otherwise is not refused with 13
 failed-other : (t : Test) {n p : ℕ} → Other t → t ≡ failed n p → n ≡ 13 → ⊥
@@ -179,22 +186,24 @@ module _ (rows columns n : ℕ) (big : sizeAccepted rows ≡ true → sizeAccept
       fits-with f (heightCells f hs) room refl refl h (heights-long f hs p) p
       (bytes-short heightWord noDataHeight hs (λ k l. height-short (getD hs k noDataHeight) (each k (omega (arith, l, many))))))
 
-  numbers-hold : (kind : Kind) (side : ℕ) (x y numbers room : List ℕ) → Words32 numbers → n ≤ length room
-      → judged (frame rows columns side x y) (numberCells kind numbers) room ≡ failed 13 0 → ⊥
+  -- numbers below b, whose words are short
+  numbers-hold : (b : ℕ) (word : ℕ → List ℕ) → ((i : ℕ) → i < b → length (word i) ≤ 11) → (side : ℕ) (x y numbers room : List ℕ)
+      → EachBelow b numbers → n ≤ length room → judged (frame rows columns side x y) (numberCells word numbers) room ≡ failed 13 0 → ⊥
   unfolding numberCells
-  numbers-hold kind side x y numbers room w h =
+  numbers-hold b word short side x y numbers room w h =
       let f = frame rows columns side x y in
-      never-13 f (numberCells kind numbers) room (numbers-other kind numbers) (λ p q.
-      fits-with f (numberCells kind numbers) room refl refl h (numbers-long kind numbers) p
-      (bytes-short (wordOf kind) 0 numbers (λ k l. number-short kind (getD numbers k 0) (w k l))))
+      never-13 f (numberCells word numbers) room (numbers-other word numbers) (λ p q.
+      fits-with f (numberCells word numbers) room refl refl h (numbers-long word numbers) p
+      (bytes-short word 0 numbers (λ k l. short (getD numbers k 0) (w k l))))
 
   pub room-holds : Holds rows columns n
-  unfolding numberCells countCells factorCells wordOf
+  unfolding countCells factorCells directionCells wordOf
   room-holds =
       record {
         heights = heights-hold;
-        counts = numbers-hold Count;
-        factors = numbers-hold Factor;
+        counts = numbers-hold 4294967296 (wordOf Count) (number-short Count);
+        factors = numbers-hold 4294967296 (wordOf Factor) (number-short Factor);
+        directions = numbers-hold 256 directionWord direction-short;
       }
 
 -- ---- what the call finds of the shape

@@ -9,7 +9,7 @@ use Rattle.laws.specs.Tests.{Test, passed, failed, test, verdict}
 use Rattle.text.specs.Numbers.{isNumber}
 use Rattle.text.specs.Ranges.{sizeTest, lengthTest, sideTest, heightTest}
 use Rattle.numerals.specs.Writing.{overlay}
-use Rattle.writer.specs.Words.{heightWord, countWord, factorWord}
+use Rattle.writer.specs.Words.{heightWord, countWord, factorWord, directionWord}
 use Rattle.writer.specs.Text.{Frame, textOf}
 use Rattle.writer.specs.declared.Answer.{Answer}
 use Rattle.writer.specs.declared.Answer.the-variants.{Accepted, Refused}
@@ -46,13 +46,21 @@ unfolding heightTest heightWord
 heightCells f heights =
     record { number = length heights; tests = heightTest (f .rows * f .columns) heights ∷ []; words = map heightWord heights }
 
+-- numbers from 0 on, of which each is good and gets its word
+unfoldable pub numberCells : (ℕ → List ℕ) → List ℕ → Cells
+numberCells word numbers = record { number = length numbers; tests = []; words = map word numbers }
+
 unfoldable pub countCells : List ℕ → Cells
-unfolding countWord
-countCells counts = record { number = length counts; tests = []; words = map countWord counts }
+unfolding numberCells countWord
+countCells counts = numberCells countWord counts
 
 unfoldable pub factorCells : List ℕ → Cells
-unfolding factorWord
-factorCells factors = record { number = length factors; tests = []; words = map factorWord factors }
+unfolding numberCells factorWord
+factorCells factors = numberCells factorWord factors
+
+unfoldable pub directionCells : List ℕ → Cells
+unfolding numberCells directionWord
+directionCells directions = numberCells directionWord directions
 
 -- the tests in order: the first that fails decides
 unfoldable pub judged : Frame → Cells → List ℕ → Test

@@ -1,11 +1,10 @@
 -- The cells of a grid one after the other, each word with the byte after it: only inner functions cite this file. Assumes nothing.
 use mathlib.Core.Bool.{cond}
-use mathlib.Core.List.{List, [], _∷_, _++_, map}
+use mathlib.Core.List.{List, [], _∷_, _++_}
 use Prim.Native.Nat.{ℕ, _+_}
 use lib.Dec.{eqb}
 use lib.ListN.{length}
 use Rattle.writer.specs.Words.{countWord, factorWord}
-use Rattle.writer.specs.Answers.{Cells}
 use Rattle.writer.specs.declared.words.Kind.{Kind}
 use Rattle.writer.specs.declared.words.Kind.the-variants.{Count, Factor}
 
@@ -33,8 +32,3 @@ unfoldable pub wordOf : Kind → ℕ → List ℕ
 unfolding countWord factorWord
 wordOf Count n = countWord n
 wordOf Factor n = factorWord n
-
--- what a call is given to write of counts or LS
-unfoldable pub numberCells : Kind → List ℕ → Cells
-unfolding wordOf
-numberCells kind numbers = record { number = length numbers; tests = []; words = map (wordOf kind) numbers }

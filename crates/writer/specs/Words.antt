@@ -32,6 +32,11 @@ unfoldable pub countWord : ℕ → List ℕ
 unfolding none decimal
 countWord n = cond (eqb n 0) none (decimal n)
 
+-- nor have directions, which are their codes; NoData is code 255
+unfoldable pub directionWord : ℕ → List ℕ
+unfolding none decimal
+directionWord code = cond (eqb code 255) none (decimal code)
+
 -- LS has five; NoData is LS 4,294,967,295, and too long 4,294,967,294
 unfoldable pub factorWord : ℕ → List ℕ
 unfolding none fixed

@@ -6,7 +6,7 @@ ghost use Prim.Native.Nat.{_+_, _*_, _≤_};
 ghost use mathlib.Core.List.{map};
 ghost use lib.ListN.{length};
 ghost use Rattle.numerals.specs.Writing.{Wrote};
-ghost use Rattle.writer.specs.Words.{heightWord};
+ghost use Rattle.writer.specs.Words.{heightWord, directionWord};
 ghost use Rattle.writer.specs.InnerCells.{gapOf, columnAfter, cellsFrom, bytesOf, wordOf};
 use crate::words;
 use crate::words::Kind;
@@ -34,6 +34,20 @@ pub(crate) fn numbers_length(kind: Kind, numbers: &[u32]) -> usize
     let mut x = 0;
     while x < numbers.len() {
         total += words::number_length(kind, numbers[x]) + 1;
+        x += 1;
+    }
+    total
+}
+
+// How many bytes directions take, each with the byte after it.
+pub(crate) fn directions_length(directions: &[u8]) -> usize
+    requires { ⌜ length (now directions) ≤ 1048576 ⌝ }
+    ensures { λ r. ⌜ (r ≡ bytesOf (map directionWord (now (directions .entry)))) × (r ≤ 27 * length (now (directions .entry))) ⌝ }
+{
+    let mut total = 0;
+    let mut x = 0;
+    while x < directions.len() {
+        total += words::direction_length(directions[x]) + 1;
         x += 1;
     }
     total
@@ -95,6 +109,24 @@ pub(crate) fn put_numbers(
     let mut x = 0;
     while x < numbers.len() {
         let end = words::put_number(out, next, kind, numbers[x]);
+        numerals::put(out, end, gap(columns, column));
+        next = end + 1;
+        column = column_after(columns, column);
+        x += 1;
+    }
+    next
+}
+
+// All directions.
+pub(crate) fn put_directions(out: &mut [u8], at: usize, columns: usize, directions: &[u8]) -> usize
+    requires { ⌜ (1 ≤ columns) × (at + bytesOf (map directionWord (now directions)) ≤ length (now out)) ⌝ }
+    ensures { λ r. ⌜ Wrote (now (out .entry)) at (cellsFrom columns 0 (map directionWord (now (directions .entry)))) r (now (out .exit)) ⌝ }
+{
+    let mut next = at;
+    let mut column = 0;
+    let mut x = 0;
+    while x < directions.len() {
+        let end = words::put_direction(out, next, directions[x]);
         numerals::put(out, end, gap(columns, column));
         next = end + 1;
         column = column_after(columns, column);

@@ -10,9 +10,9 @@ ghost use mathlib.Core.Path.{_≡_};
 ghost use Prim.Native.Nat.{_≤_};
 ghost use lib.ListN.{length};
 ghost use Rattle.writer.specs.Text.{frame, headerWords, lines};
-ghost use Rattle.writer.specs.Answers.{heightCells, countCells, factorCells, answer, after};
+ghost use Rattle.writer.specs.Answers.{heightCells, numberCells, countCells, factorCells, directionCells, answer, after};
 ghost use Rattle.writer.specs.Rooms.{roomFor, Holds};
-ghost use Rattle.writer.specs.InnerCells.{numberCells};
+ghost use Rattle.writer.specs.InnerCells.{wordOf};
 ghost use Rattle.writer.specs.InnerWriting.{Begun};
 use judge::Judgement;
 use text::Refusal;
@@ -97,9 +97,9 @@ fn write_numbers(
     room: &mut [u8],
 ) -> Answer
     ensures answers { λ r. ⌜ r ≡ answer (frame rows columns side (now (x .entry)) (now (y .entry)))
-        (numberCells kind (now (numbers .entry))) (now (room .entry)) ⌝ }
+        (numberCells (wordOf kind) (now (numbers .entry))) (now (room .entry)) ⌝ }
     ensures leaves { λ _. ⌜ now (room .exit) ≡ after (frame rows columns side (now (x .entry)) (now (y .entry)))
-        (numberCells kind (now (numbers .entry))) (now (room .entry)) ⌝ }
+        (numberCells (wordOf kind) (now (numbers .entry))) (now (room .entry)) ⌝ }
 {
     let judgement = judge::judge(rows, columns, side, x, y, numbers.len());
     match judgement {
@@ -154,6 +154,40 @@ pub fn write_factors(
         (factorCells (now (factors .entry))) (now (room .entry)) ⌝ }
 {
     write_numbers(rows, columns, side, x, y, Kind::Factor, factors, room)
+}
+
+// Writes directions, as their codes, into the lent room.
+pub fn write_directions(
+    rows: usize,
+    columns: usize,
+    side: u32,
+    x: &[u8],
+    y: &[u8],
+    directions: &[u8],
+    room: &mut [u8],
+) -> Answer
+    ensures answers { λ r. ⌜ r ≡ answer (frame rows columns side (now (x .entry)) (now (y .entry)))
+        (directionCells (now (directions .entry))) (now (room .entry)) ⌝ }
+    ensures leaves { λ _. ⌜ now (room .exit) ≡ after (frame rows columns side (now (x .entry)) (now (y .entry)))
+        (directionCells (now (directions .entry))) (now (room .entry)) ⌝ }
+{
+    let judgement = judge::judge(rows, columns, side, x, y, directions.len());
+    match judgement {
+        Judgement::Unsound(refusal) => Answer::Refused(refusal),
+        Judgement::Sound => {
+            let length = header::length(rows, columns, side, x, y)
+                + cells::directions_length(directions);
+            let next = begin(room, length, rows, columns, side, x, y);
+            if room.len() < length {
+                return Answer::Refused(Refusal {
+                    number: 13,
+                    place: 0,
+                });
+            }
+            cells::put_directions(room, next, columns, directions);
+            Answer::Accepted { length }
+        }
+    }
 }
 
 // How many bytes a room needs for any text of a shape.

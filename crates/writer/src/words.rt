@@ -4,10 +4,13 @@ ghost use Prim.Native.Nat.{_+_, _^_, _≤_};
 ghost use lib.ListN.{length};
 ghost use Rattle.numerals.specs.Words.{fixed};
 ghost use Rattle.numerals.specs.Writing.{Wrote};
-ghost use Rattle.writer.specs.Words.{heightWord};
+ghost use Rattle.writer.specs.Words.{heightWord, directionWord};
 ghost use Rattle.writer.specs.InnerCells.{wordOf};
 use factor::TOO_LONG;
 use text::NO_DATA;
+
+// The code of a cell that is NoData.
+const NO_CODE: u8 = 255;
 
 // What a grid of numbers from 0 on holds: flow counts or LS.
 pub(crate) enum Kind {
@@ -110,4 +113,25 @@ pub(crate) fn put_number(out: &mut [u8], at: usize, kind: Kind, n: u32) -> usize
             put_hundred_thousandths(out, at, n as u64)
         }
     }
+}
+
+// How many bytes a direction's word has.
+pub(crate) fn direction_length(code: u8) -> usize
+    ensures { λ r. ⌜ (r ≡ length (directionWord code)) × (r ≤ 20) ⌝ }
+{
+    if code == NO_CODE {
+        return 5;
+    }
+    numerals::digit_count(code as u64)
+}
+
+// A direction's word.
+pub(crate) fn put_direction(out: &mut [u8], at: usize, code: u8) -> usize
+    requires { ⌜ at + length (directionWord code) ≤ length (now out) ⌝ }
+    ensures { λ r. ⌜ Wrote (now (out .entry)) at (directionWord code) r (now (out .exit)) ⌝ }
+{
+    if code == NO_CODE {
+        return at + numerals::put_all(out, at, b"-9999");
+    }
+    at + numerals::put_natural(out, at, code as u64)
 }

@@ -9,6 +9,7 @@ fn main() {
     rooms::heights();
     rooms::counts();
     rooms::factors();
+    rooms::directions();
     shapes::run();
     refusals::alone();
     refusals::of_two();

@@ -1,6 +1,7 @@
 // The refusals 1, 2, 3, 7, 5 and 13 of a write call, which are tested in that order. But for what a name says, each grid is 1 by 2
 // with cells of 10 m and corners 0, in a room of 100 bytes, and accepted: the first case is that grid.
 use crate::show::counts;
+use crate::show::directions;
 use crate::show::factors;
 use crate::show::heights;
 use text::NO_DATA;
@@ -13,6 +14,7 @@ pub(crate) fn alone() {
     corners();
     out_of_range();
     counts(b"counts, no room", 0, 1, 2, 1000, b"0", b"0", &[100, 200]);
+    directions(b"directions, no room", 0, 1, 2, 1000, b"0", b"0", &[4, 255]);
 }
 
 fn sizes() {
@@ -22,6 +24,16 @@ fn sizes() {
         100,
         1,
         1025,
+        1000,
+        b"0",
+        b"0",
+        &[1; 1025],
+    );
+    directions(
+        b"directions, rows 1025",
+        100,
+        1025,
+        1,
         1000,
         b"0",
         b"0",
@@ -50,6 +62,16 @@ fn lengths() {
         b"0",
         &[100],
     );
+    directions(
+        b"directions, one cell too few",
+        100,
+        1,
+        2,
+        1000,
+        b"0",
+        b"0",
+        &[4],
+    );
 }
 
 fn sides() {
@@ -64,6 +86,7 @@ fn sides() {
         b"0",
         &[100, 200],
     );
+    directions(b"directions, side 0", 100, 1, 2, 0, b"0", b"0", &[4, 255]);
 }
 
 fn corners() {
@@ -78,6 +101,17 @@ fn corners() {
         &[100, 200],
     );
     counts(b"counts, y empty", 100, 1, 2, 1000, b"0", b"", &[100, 200]);
+    directions(
+        b"directions, x with a blank",
+        100,
+        1,
+        2,
+        1000,
+        b"1 2",
+        b"0",
+        &[4, 255],
+    );
+    directions(b"directions, y .5", 100, 1, 2, 1000, b"0", b".5", &[4, 255]);
 }
 
 fn out_of_range() {
@@ -144,5 +178,15 @@ pub(crate) fn of_two() {
         b"0",
         b"0",
         &[100, 900001],
+    );
+    directions(
+        b"directions, 7 at y before 13",
+        10,
+        1,
+        2,
+        1000,
+        b"0",
+        b"",
+        &[4, 255],
     );
 }

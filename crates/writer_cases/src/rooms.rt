@@ -69,6 +69,28 @@ fn factors_in(name: &[u8], bytes: usize)
     );
 }
 
+// Off the map, NoData, the least and the greatest code, and a byte that is no code, among others.
+pub(crate) fn directions() {
+    directions_in(b"directions, room 3 bytes longer than the text", 107);
+    directions_in(b"directions, room as long as the text", 104);
+    directions_in(b"directions, room one byte short", 103);
+}
+
+fn directions_in(name: &[u8], bytes: usize)
+    requires { ⌜ bytes ≤ 160 ⌝ }
+{
+    show::directions(
+        name,
+        bytes,
+        2,
+        3,
+        1000,
+        b"-12.500000",
+        b"0",
+        &[0, 1, 255, 128, 64, 200],
+    );
+}
+
 pub(crate) fn for_shapes() {
     for_shape(2, 3);
     for_shape(1024, 1024);

@@ -1,5 +1,6 @@
 // Single cells, rows and columns, with the ends of the range of cell sides and corner words that are copied as they are.
 use crate::show::counts;
+use crate::show::directions;
 use crate::show::heights;
 
 pub(crate) fn run() {
@@ -32,5 +33,15 @@ pub(crate) fn run() {
         b"-123456789.123456",
         b"-000000000.000000",
         &[100, 200, 123456],
+    );
+    directions(
+        b"directions, 3 by 1, a digit, two and three",
+        90,
+        3,
+        1,
+        1000,
+        b"0",
+        b"0",
+        &[2, 32, 254],
     );
 }

@@ -63,6 +63,24 @@ pub(crate) fn factors(
     factors_in(&mut room[0..bytes], rows, columns, side, x, y, cells);
 }
 
+// Directions in a room of so many bytes.
+pub(crate) fn directions(
+    name: &[u8],
+    bytes: usize,
+    rows: usize,
+    columns: usize,
+    side: u32,
+    x: &[u8],
+    y: &[u8],
+    cells: &[u8],
+)
+    requires { ⌜ bytes ≤ 160 ⌝ }
+{
+    let mut room = [MARK; 160];
+    write(name);
+    directions_in(&mut room[0..bytes], rows, columns, side, x, y, cells);
+}
+
 fn heights_in(
     room: &mut [u8],
     rows: usize,
@@ -99,6 +117,19 @@ fn factors_in(
     cells: &[u32],
 ) {
     write_answer(writer::write_factors(rows, columns, side, x, y, cells, room));
+    write_room(room);
+}
+
+fn directions_in(
+    room: &mut [u8],
+    rows: usize,
+    columns: usize,
+    side: u32,
+    x: &[u8],
+    y: &[u8],
+    cells: &[u8],
+) {
+    write_answer(writer::write_directions(rows, columns, side, x, y, cells, room));
     write_room(room);
 }
 

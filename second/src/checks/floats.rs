@@ -1,4 +1,4 @@
-//! The comparison of grids of floats: made ones of a seed, each under some settings, to a program that writes four grids
+//! The comparison of grids of floats: made ones of a seed, each under some settings, to a program that writes five grids
 //! as texts. Every byte of them, or the refusal with its number and place, against this program's. Serves docs/RULES.md,
 //! 11 Grids of floats.
 
@@ -72,6 +72,6 @@ pub fn compare(seed: u64, grids: usize, program: &[&str]) -> io::Result<()> {
         })?;
         accepted += usize::from(same);
     }
-    println!("{grids} grids of floats, four texts of {accepted}, {} refused, no difference", grids - accepted);
+    println!("{grids} grids of floats, five texts of {accepted}, {} refused, no difference", grids - accepted);
     Ok(())
 }

@@ -60,7 +60,7 @@ fn same_grid<T: PartialEq + Debug, const N: usize>(
 }
 
 /// Compares the six grids in a folder with a ground and its map.
-fn same_grids(folder: &Path, shape: Shape, ground: &[i32], map: &Map) -> io::Result<()> {
+pub fn same_grids(folder: &Path, shape: Shape, ground: &[i32], map: &Map) -> io::Result<()> {
     same_grid(folder.join("ground.bin"), shape, ground, i32::from_le_bytes)?;
     same_grid(folder.join("filled.bin"), shape, &map.filled, i32::from_le_bytes)?;
     same_grid(folder.join("direction.bin"), shape, &map.flow.direction, u8::from_le_bytes)?;

@@ -2,6 +2,7 @@
 //! with this one.
 
 pub mod compare;
+pub mod directions;
 mod fast_ways;
 pub mod floats;
 pub mod full;

@@ -1,5 +1,6 @@
 //! The rules in a second way, over seeded fields: filled heights by thresholds, flats by a search from each cell,
-//! counts by sums, lengths by sweeps, L in words of 128 bits. Serves the self-check.
+//! counts by sums, lengths by sweeps, L in words of 128 bits, given directions by the codes that a cell may have and by
+//! peeling. Serves the self-check.
 
 use crate::rules::direction::NO_DIRECTION;
 use crate::rules::factor::slope_length_factor;
@@ -8,11 +9,13 @@ use crate::rules::float::nearest;
 use crate::rules::float_grid::read_floats;
 use crate::rules::grid::{Shape, NODATA};
 use crate::rules::length::Terrain;
-use crate::rules::map::{map, Map};
+use crate::rules::map::{map, map_given, Map};
 use crate::rules::settings::{percents, Channel, Formula, Settings};
 use crate::rules::text::{read_grid, read_header};
+use crate::rules::refusal::{refuse, Refusal};
 use crate::rules::trail::onward;
 use crate::rules::write::{room, write, Frame, Numbers};
+use crate::texts::drawings::{self, Land};
 use crate::texts::fields::{self, Field};
 use crate::texts::seed::Seed;
 use crate::texts::spelling::{text, Manner};
@@ -129,6 +132,69 @@ fn lengths_by_sweeps(shape: Shape, side: i64, map: &Map, settings: Settings) -> 
             return length;
         }
         length = swept;
+    }
+}
+
+/// The codes that a cell may have by every rule but the last.
+fn codes_of(shape: Shape, ground: &[i32], filled: &[i32], cell: usize) -> Vec<u8> {
+    if ground[cell] == NODATA {
+        return vec![NO_DIRECTION];
+    }
+    let lower = shape.neighbours(cell).filter(|&(_, next)| filled[next] != NODATA && filled[next] <= filled[cell]);
+    lower.map(|(bearing, _)| bearing.code).chain(rim(shape, ground, cell).then_some(0)).collect()
+}
+
+/// The cells on rings by peeling: of the cells that point at one, those at which no cell that is left points are taken away
+/// until there are none.
+fn rings_by_peeling(shape: Shape, given: &[u8]) -> Vec<usize> {
+    let mut left: Vec<usize> = (0..shape.cells()).filter(|&cell| onward(shape, given, cell).is_some()).collect();
+    loop {
+        let pointed: Vec<usize> = left.iter().filter_map(|&cell| onward(shape, given, cell)).collect();
+        let kept: Vec<usize> = left.iter().copied().filter(|cell| pointed.contains(cell)).collect();
+        if kept.len() == left.len() {
+            return left;
+        }
+        left = kept;
+    }
+}
+
+/// What the map call has to say to given directions of a good ground.
+fn judged_by_peeling(shape: Shape, ground: &[i32], given: &[u8]) -> Result<(), Refusal> {
+    let filled = filled_by_thresholds(shape, ground);
+    let bad = (0..shape.cells()).find(|&cell| !codes_of(shape, ground, &filled, cell).contains(&given[cell]));
+    match (bad, rings_by_peeling(shape, given).first()) {
+        (Some(cell), _) => refuse(17, cell),
+        (None, Some(&cell)) => refuse(18, cell),
+        (None, None) => Ok(()),
+    }
+}
+
+/// Both maps are the same in every grid and number.
+fn same(one: &Map, other: &Map) {
+    assert_eq!((&one.filled, &one.flow.direction), (&other.filled, &other.flow.direction));
+    assert_eq!(one.flow.steepness, other.flow.steepness);
+    assert_eq!((&one.count, &one.length, &one.factor), (&other.count, &other.length, &other.factor));
+    assert_eq!((one.valid, one.longest), (other.valid, other.longest));
+}
+
+/// A field's own directions, given back, give its map; a drawing on it is judged the same in the second way, and what
+/// follows from it holds in the second way too.
+pub fn drawing(number: usize) {
+    let mut seed = Seed::of(4, number as u64);
+    let field = drawings::field(&mut seed, number);
+    let (land, settings) = (Land::of(&field), any_settings(&mut seed));
+    let Land { shape, ground, .. } = &land;
+    let own = map(*shape, field.side, ground, settings).expect("a field is accepted");
+    let back = map_given(*shape, field.side, ground, &own.flow.direction, settings);
+    same(&own, &back.expect("the rules' own directions are accepted"));
+    let given = drawings::codes(&mut seed, number % drawings::KINDS, &land);
+    let mapped = map_given(*shape, field.side, ground, &given, settings);
+    assert_eq!(mapped.as_ref().map(|_| ()).map_err(|&refusal| refusal), judged_by_peeling(*shape, ground, &given));
+    if let Ok(map) = mapped {
+        assert_eq!((&map.flow.direction, &map.filled), (&given, &own.filled));
+        counts_by_inflows(*shape, &map);
+        longest_by_rounds(*shape, &map);
+        assert_eq!(map.length, lengths_by_sweeps(*shape, field.side, &map, settings));
     }
 }
 

@@ -7,9 +7,10 @@ use crate::rules::sheet::read_small;
 use crate::texts::hostile;
 use crate::texts::seed::Seed;
 
-/// The number of seeded fields, of those for the fast map, and of hostile texts of each kind.
+/// The number of seeded fields, of those for the fast map, of drawings, and of hostile texts of each kind.
 const FIELDS: usize = 600;
 const FAST_FIELDS: usize = 400;
+const DRAWINGS: usize = 1_200;
 const HOSTILE: usize = 300;
 
 /// Every hostile text that names its refusal gets it.
@@ -28,7 +29,9 @@ fn hostile_texts() {
 pub fn selfcheck() {
     second_ways::factors_in_words();
     (0..FIELDS).for_each(second_ways::field);
+    (0..DRAWINGS).for_each(second_ways::drawing);
     hostile_texts();
     fast_ways::agree(FAST_FIELDS);
     println!("selfcheck: {FIELDS} fields hold in a second way, {FAST_FIELDS} more by the fast map");
+    println!("selfcheck: {DRAWINGS} drawings on fields hold in a second way");
 }

@@ -1,10 +1,10 @@
-//! The comparison of texts: fields of a seed, each under some settings, to a program that writes four grids as texts;
+//! The comparison of texts: fields of a seed, each under some settings, to a program that writes five grids as texts;
 //! every byte of them against this program's. The text of the ground is read again, by this program and by that one.
 //! Serves docs/RULES.md, 10 The text that is written.
 
 use super::compare::difference_file;
 use super::second_ways::any_settings;
-use crate::rules::grid_texts::{grid_texts, NAMES};
+use crate::rules::grid_texts::{grid_texts, Texts, NAMES};
 use crate::rules::settings::Settings;
 use crate::rules::text::{read_grid, read_header, Header};
 use crate::texts::cornered;
@@ -33,7 +33,7 @@ fn bytes(file: &Path) -> io::Result<Vec<u8>> {
     std::fs::read(file).map_err(|why| io::Error::other(format!("{}: {why}", file.display())))
 }
 
-/// Runs the program on the words that name a field; it has to write four texts to a folder that was not there.
+/// Runs the program on the words that name a field; it has to write five texts to a folder that was not there.
 pub fn output(program: &[&str], settings: Settings, folder: &Path, field: &[&Path]) -> io::Result<Output> {
     if folder.exists() {
         std::fs::remove_dir_all(folder)?;
@@ -49,15 +49,20 @@ pub fn unexpected(output: &Output) -> io::Error {
     io::Error::other(format!("the program ended with {}, printed {printed:?} and said {said:?}", output.status))
 }
 
-/// The four texts that the program writes to the folder; it prints nothing.
-pub fn run(program: &[&str], settings: Settings, folder: &Path, field: &[&Path]) -> io::Result<[Vec<u8>; 4]> {
+/// The five texts that a program has written to a folder.
+pub fn written(folder: &Path) -> io::Result<Texts> {
+    let file = |name: &str| bytes(&folder.join(format!("{name}.asc")));
+    let [ground, filled, count, ls, direction] = NAMES;
+    Ok([file(ground)?, file(filled)?, file(count)?, file(ls)?, file(direction)?])
+}
+
+/// The texts that the program writes to the folder; it prints nothing.
+pub fn run(program: &[&str], settings: Settings, folder: &Path, field: &[&Path]) -> io::Result<Texts> {
     let output = output(program, settings, folder, field)?;
     if !output.status.success() || !output.stdout.is_empty() {
         return Err(unexpected(&output));
     }
-    let file = |name: &str| bytes(&folder.join(format!("{name}.asc")));
-    let [ground, filled, count, ls] = NAMES;
-    Ok([file(ground)?, file(filled)?, file(count)?, file(ls)?])
+    written(folder)
 }
 
 /// The first line in which two texts differ, with both lines.
@@ -70,8 +75,8 @@ fn difference(given: &[u8], expected: &[u8]) -> Option<String> {
     Some(format!("line {} is {:?}, expected {:?}", at + 1, given.get(at), expected.get(at)))
 }
 
-/// The four texts of the program are those that are expected.
-pub fn same_texts(given: &[Vec<u8>; 4], expected: &[Vec<u8>; 4]) -> io::Result<()> {
+/// The texts of the program are those that are expected.
+pub fn same_texts(given: &Texts, expected: &Texts) -> io::Result<()> {
     let pairs = given.iter().zip(expected).map(|(given, expected)| difference(given, expected));
     let first = NAMES.iter().zip(pairs).find_map(|(name, difference)| Some((name, difference?)));
     first.map_or(Ok(()), |(name, difference)| Err(io::Error::other(format!("{name}.asc: {difference}"))))
@@ -112,7 +117,7 @@ pub fn compare(seed: u64, fields: usize, program: &[&str]) -> io::Result<()> {
             return Err(io::Error::other(format!("case {number}, {words}: {why}; its text is in {kept}")));
         }
     }
-    println!("{fields} fields, four texts of each, no difference");
+    println!("{fields} fields, five texts of each, no difference");
     Ok(())
 }
 
@@ -121,8 +126,8 @@ mod tests {
     use super::*;
     use crate::rules::settings::Formula;
 
-    /// The four texts of each of the first fields of a seed.
-    fn first_texts() -> Vec<[Vec<u8>; 4]> {
+    /// The texts of each of the first fields of a seed.
+    fn first_texts() -> Vec<Texts> {
         let texts = |(text, settings): (Vec<u8>, Settings)| grid_texts(&text, settings).expect("a field is accepted");
         (0..150).map(|number| texts(case(1, number))).collect()
     }
@@ -149,12 +154,14 @@ mod tests {
     fn fields_have_every_kind_of_word() {
         let texts = first_texts();
         let words = |grid: usize| texts.iter().flat_map(|texts| words_of(&texts[grid])).collect::<Vec<_>>();
-        let [ground, count, ls] = [0, 2, 3].map(words);
+        let [ground, count, ls, direction] = [0, 2, 3, 4].map(words);
         let has = |words: &[String], wanted: &str| words.iter().any(|word| word == wanted);
         let begins = |words: &[String], start: &str| words.iter().any(|word| word.starts_with(start));
         assert!(["-9999", "0.00", "-500.00", "9000.00"].iter().all(|word| has(&ground, word)));
         assert!(["-0.0", "-0.1", "0.0", "-1", "1"].iter().all(|start| begins(&ground, start)));
         assert!(["-9999", "1"].iter().all(|word| has(&count, word)) && count.iter().any(|word| word.len() == 3));
+        let codes = ["-9999", "0", "1", "2", "4", "8", "16", "32", "64", "128"];
+        assert!(codes.iter().all(|word| has(&direction, word)));
         assert!(["-9999", "0.00000"].iter().all(|word| has(&ls, word)) && ls.iter().any(|word| word.len() == 8));
         assert!(ls.iter().zip(&count).any(|(ls, count)| ls == "-9999" && count != "-9999"), "a slope is too long");
     }

@@ -27,7 +27,7 @@ impl Flow {
 }
 
 /// Steepness is 2·d·d in a cardinal direction and d·d in a diagonal one.
-fn steepness(bearing: &Bearing, drop: i64) -> i64 {
+pub fn steepness(bearing: &Bearing, drop: i64) -> i64 {
     if bearing.diagonal() { drop * drop } else { 2 * drop * drop }
 }
 

@@ -1,15 +1,27 @@
-//! The four grids of a field's map that have a text, given back as texts. Serves docs/RULES.md, 10 The text that is
+//! The five grids of a field's map that have a text, given back as texts. Serves docs/RULES.md, 10 The text that is
 //! written, and 11 Grids of floats.
 
 use super::float_grid::read_floats;
-use super::map::map;
+use super::given::read_codes;
+use super::map::{map_by, Map};
 use super::refusal::Refusal;
 use super::settings::Settings;
-use super::text::{read_grid, read_header, Header};
+use super::text::{read_grid, read_header, Header, Span};
 use super::write::{room, write, Frame, Numbers};
 
 /// The names of the grids.
-pub const NAMES: [&str; 4] = ["ground", "filled", "count", "ls"];
+pub const NAMES: [&str; 5] = ["ground", "filled", "count", "ls", "direction"];
+
+/// The texts of the grids, in the order of the names.
+pub type Texts = [Vec<u8>; 5];
+
+/// A field as it was read, its corner words as they stand in the text that was read, and its map.
+pub struct Mapped<'a> {
+    pub header: Header,
+    pub corners: [&'a [u8]; 2],
+    pub ground: Vec<i32>,
+    pub map: Map,
+}
 
 fn written(frame: Frame, grid: Numbers) -> Result<Vec<u8>, Refusal> {
     let mut text = vec![0; room(frame.shape)];
@@ -18,33 +30,50 @@ fn written(frame: Frame, grid: Numbers) -> Result<Vec<u8>, Refusal> {
     Ok(text)
 }
 
-/// The texts of the grids of a text's field, in the order of the names.
-pub fn grid_texts(text: &[u8], settings: Settings) -> Result<[Vec<u8>; 4], Refusal> {
-    texts(text, |ground| read_grid(text, ground), settings)
+impl Mapped<'_> {
+    /// The texts of the grids.
+    pub fn texts(&self) -> Result<Texts, Refusal> {
+        let Mapped { header, corners, ground, map } = self;
+        let frame = Frame { shape: header.shape, side: header.side, corners: *corners };
+        Ok([
+            written(frame, Numbers::Heights(ground))?,
+            written(frame, Numbers::Heights(&map.filled))?,
+            written(frame, Numbers::Counts(&map.count))?,
+            written(frame, Numbers::Factors(&map.factor))?,
+            written(frame, Numbers::Codes(&map.flow.direction))?,
+        ])
+    }
+}
+
+/// The texts of the grids of a text's field.
+pub fn grid_texts(text: &[u8], settings: Settings) -> Result<Texts, Refusal> {
+    mapped(text, None, settings)?.texts()
 }
 
 /// The same of a header and its floats.
-pub fn float_grid_texts(header: &[u8], floats: &[u8], settings: Settings) -> Result<[Vec<u8>; 4], Refusal> {
-    texts(header, |ground| read_floats(header, floats, ground), settings)
+pub fn float_grid_texts(header: &[u8], floats: &[u8], settings: Settings) -> Result<Texts, Refusal> {
+    mapped_as(header, |ground| read_floats(header, floats, ground), None, settings)?.texts()
 }
 
-/// The texts of a ground as it is read; the corner words are copied from the text that was read.
-fn texts(
-    text: &[u8],
+/// The map of a text's field, under the directions of another text if there is one. The field is read first, then the
+/// codes, then the map call judges both.
+pub fn mapped<'a>(text: &'a [u8], codes: Option<&[u8]>, settings: Settings) -> Result<Mapped<'a>, Refusal> {
+    mapped_as(text, |ground| read_grid(text, ground), codes, settings)
+}
+
+/// The map of a ground as it is read.
+fn mapped_as<'a>(
+    text: &'a [u8],
     read: impl Fn(&mut [i32]) -> Result<Header, Refusal>,
+    codes: Option<&[u8]>,
     settings: Settings,
-) -> Result<[Vec<u8>; 4], Refusal> {
+) -> Result<Mapped<'a>, Refusal> {
     let (header, corners) = read_header(text)?;
     let mut ground = vec![0; header.shape.cells()];
     read(&mut ground)?;
-    let map = map(header.shape, header.side, &ground, settings)?;
-    let frame = Frame { shape: header.shape, side: header.side, corners: corners.map(|span| span.of(text)) };
-    Ok([
-        written(frame, Numbers::Heights(&ground))?,
-        written(frame, Numbers::Heights(&map.filled))?,
-        written(frame, Numbers::Counts(&map.count))?,
-        written(frame, Numbers::Factors(&map.factor))?,
-    ])
+    let given = codes.map(|codes| read_codes(codes, header.shape)).transpose()?;
+    let map = map_by(header.shape, header.side, &ground, given.as_deref(), settings)?;
+    Ok(Mapped { header, corners: corners.map(|span: Span| span.of(text)), ground, map })
 }
 
 #[cfg(test)]
@@ -61,7 +90,21 @@ mod tests {
             "5.00 5.00 5.00\n5.00 4.00 4.00\n5.00 5.00 5.00\n",
             "1 1 1\n1 6 9\n1 1 1\n",
             "0.39424 0.54379 0.54379\n0.54379 0.00000 0.04810\n0.39424 0.54379 0.54379\n",
+            "2 4 4\n1 1 0\n128 64 64\n",
         ];
         assert_eq!(grid_texts(pit, PRINTER), Ok(rows.map(|rows| [header, rows].concat().into_bytes())));
+    }
+    /// The pit's own directions written, read and given back; and the field's refusal before that of the codes.
+    #[test]
+    fn directions_given_back() {
+        let pit = b"ncols 3 nrows 3 xllcorner 0 yllcorner 0 cellsize 10\n5 5 5\n5 2 4\n5 5 5\n";
+        let texts = grid_texts(pit, PRINTER).expect("the pit is accepted");
+        assert_eq!(mapped(pit, Some(&texts[4]), PRINTER).and_then(|mapped| mapped.texts()), Ok(texts));
+        let refused = |text: &[u8], codes: &[u8]| {
+            mapped(text, Some(codes), PRINTER).err().map(|Refusal { number, place }| (number, place))
+        };
+        assert_eq!(refused(b"ncols 3", b""), Some((9, 7)));
+        assert_eq!(refused(pit, b""), Some((9, 0)));
+        assert_eq!(refused(pit, pit), Some((17, 0)));
     }
 }

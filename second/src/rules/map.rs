@@ -1,8 +1,10 @@
-//! The map call: from ground heights and settings to the five grids. States docs/RULES.md, 7.2 The map call.
+//! The map call: from ground heights and settings, and directions if they are given, to the five grids. States
+//! docs/RULES.md, 7.2 The map call.
 
 use super::direction::{self, Flow, NO_DIRECTION};
 use super::factor::{Factors, NO_FACTOR};
 use super::fill;
+use super::given;
 use super::grid::{Shape, HIGHEST, LARGEST_SIDE, LOWEST, MOST_ROWS, NODATA};
 use super::length::Terrain;
 use super::refusal::{self, refuse, Refusal};
@@ -50,16 +52,54 @@ fn factors(formula: Formula, side: i64, flow: &Flow, length: &[u64]) -> Vec<u32>
     (0..length.len()).map(factor).collect()
 }
 
+/// What follows from the directions, whoever drew them.
+fn downhill(shape: Shape, side: i64, percents: &Percents, filled: Vec<i32>, flow: Flow) -> Map {
+    let trails = trail::trails(shape, &flow.direction);
+    let length = Terrain { shape, side, flow: &flow, count: &trails.count, percents }.lengths();
+    let factor = factors(percents.formula, side, &flow, &length);
+    let valid = filled.iter().filter(|&&height| height != NODATA).count();
+    Map { filled, flow, count: trails.count, length, factor, valid, longest: trails.longest }
+}
+
 /// The map of a ground, or the refusal.
 pub fn map(shape: Shape, side: i64, ground: &[i32], settings: Settings) -> Result<Map, Refusal> {
     let percents = judge(shape, side, ground, settings)?;
     let filled = fill::filled(shape, ground);
     let flow = direction::flow(shape, ground, &filled);
-    let trails = trail::trails(shape, &flow.direction);
-    let length = Terrain { shape, side, flow: &flow, count: &trails.count, percents: &percents }.lengths();
-    let factor = factors(percents.formula, side, &flow, &length);
-    let valid = ground.iter().filter(|&&height| height != NODATA).count();
-    Ok(Map { filled, flow, count: trails.count, length, factor, valid, longest: trails.longest })
+    Ok(downhill(shape, side, &percents, filled, flow))
+}
+
+/// The map of a ground under given directions, or the refusal: 2 for their length too, then 17 and 18, both after 5.
+pub fn map_given(
+    shape: Shape,
+    side: i64,
+    ground: &[i32],
+    given: &[u8],
+    settings: Settings,
+) -> Result<Map, Refusal> {
+    judge_shape(shape)?;
+    if given.len() != shape.cells() {
+        return refuse(refusal::LENT, 0);
+    }
+    let percents = judge(shape, side, ground, settings)?;
+    let filled = fill::filled(shape, ground);
+    given::judge(shape, ground, &filled, given)?;
+    let flow = given::flow(shape, &filled, given);
+    Ok(downhill(shape, side, &percents, filled, flow))
+}
+
+/// The map of a ground, under given directions if there are some.
+pub fn map_by(
+    shape: Shape,
+    side: i64,
+    ground: &[i32],
+    given: Option<&[u8]>,
+    settings: Settings,
+) -> Result<Map, Refusal> {
+    match given {
+        None => map(shape, side, ground, settings),
+        Some(given) => map_given(shape, side, ground, given, settings),
+    }
 }
 
 #[cfg(test)]
@@ -178,5 +218,36 @@ mod tests {
         assert_eq!(refusal(1, 2, 1, &[0, 1_000_000], bad), Err((4, 1)));
         assert_eq!(refusal(1, 2, 1, &[NODATA, 900_001], PRINTER), Err((5, 1)));
         assert_eq!(refusal(1, 2, 1, &[NODATA, 900_000], PRINTER), Ok(()));
+    }
+
+    /// With given directions it tests 1, 2, 3, 4, 5, 17, 18 in that order.
+    #[test]
+    fn refusals_of_given_directions_in_their_order() {
+        let bad = Settings { low: 2.0, ..PRINTER };
+        let refusal = |rows, side, ground: &[i32], given: &[u8], settings| {
+            let answer = map_given(Shape { rows, columns: 3 }, side, ground, given, settings).map(|_| ());
+            answer.map_err(|Refusal { number, place }| (number, place))
+        };
+        let high = [0, 0, 900_001];
+        assert_eq!(refusal(0, 0, &[], &[3], bad), Err((1, 0)));
+        assert_eq!(refusal(1, 0, &high, &[1, 16], bad), Err((2, 0)));
+        assert_eq!(refusal(1, 0, &high[1..], &[1, 16, 3], bad), Err((2, 0)));
+        assert_eq!(refusal(1, 0, &high, &[1, 16, 3], bad), Err((3, 0)));
+        assert_eq!(refusal(1, 1, &high, &[1, 16, 3], bad), Err((4, 1)));
+        assert_eq!(refusal(1, 1, &high, &[1, 16, 3], PRINTER), Err((5, 2)));
+        assert_eq!(refusal(1, 1, &[0; 3], &[1, 16, 3], PRINTER), Err((17, 2)));
+        assert_eq!(refusal(1, 1, &[0; 3], &[1, 16, 16], PRINTER), Err((18, 0)));
+        assert_eq!(refusal(1, 1, &[0; 3], &[0, 16, 16], PRINTER), Ok(()));
+    }
+
+    /// The strip 9 8 7 5 with a bank after its second cell: both parts start afresh, and the steepness is that of the given
+    /// directions.
+    #[test]
+    fn what_follows_from_given_directions() {
+        let shape = Shape { rows: 1, columns: 4 };
+        let map = map_given(shape, 1_000, &[900, 800, 700, 500], &[1, 0, 1, 0], PRINTER).expect("it is accepted");
+        assert_eq!(map.flow.steepness, [20_000, 0, 80_000, 0]);
+        assert_eq!((map.count, map.longest, map.valid), (vec![1, 2, 1, 2], 1, 4));
+        assert_eq!(map.length, [5_000, 0, 5_000, 0]);
     }
 }

@@ -1,4 +1,5 @@
-//! The rules of docs/RULES.md read literally: the readers, the map, the sheet, the writer and the report.
+//! The rules of docs/RULES.md read literally: the readers, the map, given directions, the sheet, the writer and
+//! the report.
 
 mod big;
 pub mod direction;
@@ -6,6 +7,7 @@ pub mod factor;
 pub mod fill;
 pub mod float;
 pub mod float_grid;
+pub mod given;
 pub mod grid;
 pub mod grid_texts;
 pub mod length;

@@ -34,3 +34,5 @@ pub const ROOM: u32 = 13;
 pub const BYTES: u32 = 14;
 pub const NOT_FINITE: u32 = 15;
 pub const FULL: u32 = 16;
+pub const CODE: u32 = 17;
+pub const RING: u32 = 18;

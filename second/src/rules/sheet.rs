@@ -2,7 +2,8 @@
 
 use super::factor::{NO_FACTOR, TOO_LONG};
 use super::grid::{Shape, NODATA};
-use super::map::{map, Map};
+use super::given::read_codes;
+use super::map::{map_by, Map};
 use super::refusal::{self, refuse, Refusal};
 use super::settings::Settings;
 use super::text::{read_grid, read_header, Header};
@@ -44,17 +45,29 @@ fn cell_line(shape: Shape, ground: &[i32], map: &Map, cell: usize) -> String {
 }
 
 /// A line with rows, columns, side, valid cells and longest trail, then each cell's line.
-fn accepted(text: &[u8], settings: Settings) -> Result<String, Refusal> {
-    let (Header { shape, side, .. }, ground) = read_small(text)?;
-    let map = map(shape, side, &ground, settings)?;
+pub fn lines(header: Header, ground: &[i32], map: &Map) -> Vec<String> {
+    let Header { shape, side, .. } = header;
     let first = format!("{} {} {} {} {}\n", shape.rows, shape.columns, side, map.valid, map.longest);
-    let lines = (0..shape.cells()).map(|cell| cell_line(shape, &ground, &map, cell));
-    Ok(std::iter::once(first).chain(lines).collect())
+    let lines = (0..shape.cells()).map(|cell| cell_line(shape, ground, map, cell));
+    std::iter::once(first).chain(lines).collect()
+}
+
+/// The sheet of a text that is accepted, under the directions of another text if there is one.
+fn accepted(text: &[u8], codes: Option<&[u8]>, settings: Settings) -> Result<String, Refusal> {
+    let (header, ground) = read_small(text)?;
+    let given = codes.map(|codes| read_codes(codes, header.shape)).transpose()?;
+    let map = map_by(header.shape, header.side, &ground, given.as_deref(), settings)?;
+    Ok(lines(header, &ground, &map).concat())
 }
 
 /// The sheet under these settings; a refusal prints `refused 7 at 52` and nothing else.
 pub fn sheet(text: &[u8], settings: Settings) -> String {
-    accepted(text, settings).unwrap_or_else(|refusal| format!("{refusal}\n"))
+    sheet_by(text, None, settings)
+}
+
+/// The same under the directions of another text, if there is one.
+pub fn sheet_by(text: &[u8], codes: Option<&[u8]>, settings: Settings) -> String {
+    accepted(text, codes, settings).unwrap_or_else(|refusal| format!("{refusal}\n"))
 }
 
 #[cfg(test)]
@@ -98,6 +111,28 @@ mod tests {
             2 1 500 500 64 1 0 0\n\
             2 2 500 500 64 1 0 0\n";
         assert_eq!(sheet(PIT.as_bytes(), JOB), lines);
+    }
+
+    /// A culvert from the pit's bottom to the south: what is given decides, and a fall of 0 is steepness 0.
+    #[test]
+    fn sheet_under_given_directions() {
+        let codes = |rows: &str| format!("ncols 3 nrows 3 xllcorner 7 yllcorner 7 cellsize 1 {rows}").into_bytes();
+        let culvert = codes("0 0 0 1 1 0 0 0 0");
+        let lines = "3 3 1000 9 2\n\
+            0 0 500 500 0 1 5000 4810\n\
+            0 1 500 500 0 1 5000 4810\n\
+            0 2 500 500 0 1 5000 4810\n\
+            1 0 500 500 1 1 5000 54379\n\
+            1 1 200 400 1 2 0 0\n\
+            1 2 400 400 0 3 5000 4810\n\
+            2 0 500 500 0 1 5000 4810\n\
+            2 1 500 500 0 1 5000 4810\n\
+            2 2 500 500 0 1 5000 4810\n";
+        assert_eq!(sheet_by(PIT.as_bytes(), Some(&culvert), PRINTER), lines);
+        let uphill = codes("0 0 0 1 64 0 0 0 0");
+        assert_eq!(sheet_by(PIT.as_bytes(), Some(&uphill), PRINTER), "refused 17 at 4\n");
+        let ring = codes("0 0 0 1 1 16 0 0 0");
+        assert_eq!(sheet_by(PIT.as_bytes(), Some(&ring), PRINTER), "refused 18 at 4\n");
     }
 
     #[test]

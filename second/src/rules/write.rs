@@ -1,17 +1,19 @@
 //! The writer of text grids: the text of a grid, and the call that puts it into a lent room. States docs/RULES.md,
 //! 10 The text that is written.
 
+use super::direction::NO_DIRECTION;
 use super::factor::{NO_FACTOR, TOO_LONG};
 use super::grid::{Shape, HIGHEST, LARGEST_SIDE, LOWEST, MOST_ROWS, NODATA};
 use super::number::{judge, Form};
 use super::refusal::{self, refuse, Refusal};
 
-/// A grid that has a text: ground or filled heights in cm, flow counts, LS in hundred-thousandths.
+/// A grid that has a text: ground or filled heights in cm, flow counts, LS in hundred-thousandths, codes of directions.
 #[derive(Clone, Copy)]
 pub enum Numbers<'a> {
     Heights(&'a [i32]),
     Counts(&'a [u32]),
     Factors(&'a [u32]),
+    Codes(&'a [u8]),
 }
 
 /// What the header of a text says: rows and columns, cell side in cm, and the two corner words.
@@ -22,7 +24,7 @@ pub struct Frame<'a> {
     pub corners: [&'a [u8]; 2],
 }
 
-/// NoData (height -999,900, count 0, LS 4,294,967,295) and too long are both -9999.
+/// NoData (height -999,900, count 0, LS 4,294,967,295, code 255) and too long are both -9999.
 const NOTHING: &str = "-9999";
 
 /// Centimetres as metres with two decimals.
@@ -47,6 +49,11 @@ fn factor_word(factor: u32) -> String {
     }
 }
 
+/// Codes are written as counts are; code 0 is a word of its own.
+fn code_word(code: u8) -> String {
+    if code == NO_DIRECTION { NOTHING.to_string() } else { code.to_string() }
+}
+
 impl Numbers<'_> {
     /// The words of the cells, in row order.
     fn words(&self) -> Vec<String> {
@@ -54,6 +61,7 @@ impl Numbers<'_> {
             Numbers::Heights(grid) => grid.iter().copied().map(height_word).collect(),
             Numbers::Counts(grid) => grid.iter().copied().map(count_word).collect(),
             Numbers::Factors(grid) => grid.iter().copied().map(factor_word).collect(),
+            Numbers::Codes(grid) => grid.iter().copied().map(code_word).collect(),
         }
     }
 
@@ -61,10 +69,11 @@ impl Numbers<'_> {
         match self {
             Numbers::Heights(grid) => grid.len(),
             Numbers::Counts(grid) | Numbers::Factors(grid) => grid.len(),
+            Numbers::Codes(grid) => grid.len(),
         }
     }
 
-    /// The first height that is out of range and not NoData; counts and LS have no range.
+    /// The first height that is out of range and not NoData; counts, LS and codes have no range.
     fn first_bad(&self) -> Option<usize> {
         let Numbers::Heights(heights) = self else { return None };
         let bad = |&height: &i32| height != NODATA && !(LOWEST..=HIGHEST).contains(&i64::from(height));
@@ -131,7 +140,7 @@ pub fn write(frame: Frame, grid: Numbers, room: &mut [u8]) -> Result<usize, Refu
 
 #[cfg(test)]
 mod tests {
-    use super::Numbers::{Counts, Factors, Heights};
+    use super::Numbers::{Codes, Counts, Factors, Heights};
     use super::*;
 
     const ROW: Frame = Frame { shape: Shape { rows: 1, columns: 4 }, side: 1_000, corners: [b"-12.500000", b"007"] };
@@ -150,6 +159,7 @@ mod tests {
         let heights = [1_250, 5, -5, 0, -50_000, 900_000, -105, NODATA].map(height_word);
         assert_eq!(heights, ["12.50", "0.05", "-0.05", "0.00", "-500.00", "9000.00", "-1.05", "-9999"]);
         assert_eq!([0, 1, 1_048_576, u32::MAX].map(count_word), ["-9999", "1", "1048576", "4294967295"]);
+        assert_eq!([0, 1, 128, 3, 254, 255].map(code_word), ["0", "1", "128", "3", "254", "-9999"]);
         let factors = [0, 4_810, 54_379, 1_200_007, TOO_LONG - 1, TOO_LONG, NO_FACTOR].map(factor_word);
         assert_eq!(factors, ["0.00000", "0.04810", "0.54379", "12.00007", "42949.67293", "-9999", "-9999"]);
     }
@@ -160,6 +170,7 @@ mod tests {
         let frame = Frame { shape: Shape { rows: 2, columns: 2 }, side: 5, ..ROW };
         assert_eq!(written(frame, Heights(&[1, -1, 0, NODATA])), Ok(format!("{header}0.01 -0.01\n0.00 -9999\n")));
         assert_eq!(written(frame, Counts(&[1, 20, 0, 3])), Ok(format!("{header}1 20\n-9999 3\n")));
+        assert_eq!(written(frame, Codes(&[0, 128, 255, 2])), Ok(format!("{header}0 128\n-9999 2\n")));
         let factors = Factors(&[0, 1, 99_999, 100_000]);
         assert_eq!(written(frame, factors), Ok(format!("{header}0.00000 0.00001\n0.99999 1.00000\n")));
     }

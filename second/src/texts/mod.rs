@@ -2,6 +2,7 @@
 
 pub mod cases;
 pub mod cornered;
+pub mod drawings;
 pub mod fields;
 pub mod float_grids;
 mod gentle;

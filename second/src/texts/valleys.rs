@@ -38,7 +38,7 @@ fn field(seed: &mut Seed, before: &[Vec<u8>]) -> Vec<u8> {
 }
 
 /// The settings, once in twenty with one that is refused.
-fn spoiled(seed: &mut Seed, settings: Settings) -> Settings {
+pub fn spoiled(seed: &mut Seed, settings: Settings) -> Settings {
     match seed.below(60) {
         0 => Settings { low: 0.505, ..settings },
         1 => Settings { high: 1.01, ..settings },

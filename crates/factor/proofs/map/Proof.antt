@@ -68,7 +68,7 @@ returns c =
     let j = k .before .before in
     let s = start j in
     let a = s .args in
-    first-refuses (a .rows) (a .columns) (a .side) (a .settings) (a .ground .now) (grids s)
+    first-refuses (a .rows) (a .columns) (a .side) (a .settings) (a .source) (a .ground .now) (grids s)
     (k .judgement .given .0 .0) (sym (ap found (k .judgement .given .1)) ∙ j .judge .ensures .verdict-is)
 
 same-length-7 : tie.Need-same-length-7

@@ -28,7 +28,7 @@ abbrev grids : tie.Start → Grids
 grids s = lentAt (s .args .filled) (s .args .direction) (s .args .count) (s .args .lengths) (s .args .factors) (s .args .workspace)
 
 abbrev left : tie.After-map → terrain.Grids
-left c = let l = c .map .last .1 .1 .1 in terrain.lent (l .0) (l .1 .0) (l .1 .1 .0) (l .1 .1 .1 .0) (l .1 .1 .1 .1 .0)
+left c = let l = c .map .last .1 .1 .1 .1 in terrain.lent (l .0) (l .1 .0) (l .1 .1 .0) (l .1 .1 .1 .0) (l .1 .1 .1 .1 .0)
 
 map-requires : tie.Need-map-requires
 map-requires c κs = search needs
@@ -50,7 +50,7 @@ measure-requires c κs =
     let a = s .args in (
       a .rows,
       filledLevels (a .rows) (a .columns) (a .ground .now),
-      accepted-measuring (a .rows) (a .columns) (a .side) (s .pre .0) (a .ground .now) (grids s) (s .pre .1 .passes) (left m)
+      accepted-measuring (a .rows) (a .columns) (a .side) (s .pre .0) (a .source) (a .ground .now) (grids s) (s .pre .1 .passes) (left m)
           (sym (d .drained2 .given .1) ∙ m .map .ensures .0) (m .map .ensures .1 .0),
     )
 
@@ -78,7 +78,7 @@ returns c settings h =
     let m = drained-at (d .before .before) in
     let s = start m in
     let a = s .args in
-    terrain-refused (a .rows) (a .columns) (a .side) settings (a .ground .now) (grids s) (h .passes)
+    terrain-refused (a .rows) (a .columns) (a .side) settings (a .source) (a .ground .now) (grids s) (h .passes)
     (d .drained .given .0 .0) (sym (d .drained .given .1) ∙ m .map .ensures .0) (m .map .ensures .1 .0)
 
 same-length-6 : tie.Need-same-length-6
@@ -110,9 +110,9 @@ returns-2 c settings h =
     let lv = filledLevels (a .rows) (a .columns) (a .ground .now) in
     let q = sym (d .drained2 .given .1) ∙ m .map .ensures .0 in
     let t = m .map .ensures .1 .0 in
-    let n = accepted-measuring (a .rows) (a .columns) (a .side) settings (a .ground .now) (grids s) (h .passes) (left m) q t in
-    let long = m .map .kept .1 .1 .1 .1 .1 .1 .1 .0 ∙ first-workspace (a .rows) (a .columns) (a .side) settings (a .ground .now) (grids s) (h .passes) in
-    accepted-promised (a .rows) (a .columns) (a .side) settings (a .ground .now) (grids s) (h .passes) (left m) q t
+    let n = accepted-measuring (a .rows) (a .columns) (a .side) settings (a .source) (a .ground .now) (grids s) (h .passes) (left m) q t in
+    let long = m .map .kept .1 .1 .1 .1 .1 .1 .1 .1 .0 ∙ first-workspace (a .rows) (a .columns) (a .side) settings (a .ground .now) (grids s) (h .passes) in
+    accepted-promised (a .rows) (a .columns) (a .side) settings (a .source) (a .ground .now) (grids s) (h .passes) (left m) q t
     (h .rules-are)
     (p .measure .ensures (a .rows) lv n)
     (emptied .clear .ensures ∙ ap (λ (i : ℕ). replicate i 0) long)

@@ -14,8 +14,11 @@ mapped c =
     let b = a .before .before .before .before .before in
     b .before .before .before .before .before
 
+abbrev sourced : tie.After-map → tie.After-source-of
+sourced c = c .before .before .before .before .before .before .before
+
 abbrev made : tie.After-map → tie.After-settings-of
-made c = c .before .before .before .before .before .before .before
+made c = sourced c .before
 
 abbrev start : tie.After-settings-of → tie.Start
 start c = c .before .before .before .before .before .before
@@ -26,6 +29,9 @@ grids s = lent (now (s .args .filled)) (now (s .args .direction)) (now (s .args 
 
 settings-of-requires : tie.Need-settings-of-requires
 settings-of-requires c κs = search needs
+
+source-of-requires : tie.Need-source-of-requires
+source-of-requires c κs = search needs
 
 map-requires : tie.Need-map-requires
 map-requires c κs = search needs
@@ -56,14 +62,15 @@ returns c =
     let m = mapped c in
     let p = m .map .ensures in
     let t = made m .settings-of in
+    let q = sourced m .source-of in
     let s = start (made m) in
     let a = s .args in
     let e = c .hand-out-mapping .ensures in
-    let accepted = accepts-of (a .rows) (a .columns) (a .side) (t .result) (a .formula) (now (a .ground)) (grids s) e (p .0) in (
-      answers-of (a .rows) (a .columns) (a .side) (a .formula) (now (a .ground)) (grids s) (t .ensures) e (p .0),
+    let accepted = accepts-of (a .rows) (a .columns) (a .side) (t .result) (a .formula) (q .result) (now (a .ground)) (grids s) e (p .0) in (
+      answers-of (a .rows) (a .columns) (a .side) (a .formula) (now (a .ground)) (grids s) (t .ensures) (q .ensures) e (p .0),
       (
-        leaves-of (a .rows) (a .columns) (a .side) (a .formula) (now (a .ground)) (grids s) (t .ensures) (p .1 .0),
-        ((λ z. p .1 .1 .0 (accepted z)), ((λ z. totals-of (a .rows) (a .columns) (a .side) (t .result) (a .formula) (now (a .ground)) (grids s) e (p .0) z (p .1 .1 .1 .0 (accepted z))), (λ z. p .1 .1 .1 .1 (accepted z)))),
+        leaves-of (a .rows) (a .columns) (a .side) (a .formula) (now (a .ground)) (grids s) (t .ensures) (q .ensures) (p .1 .0),
+        ((λ z. p .1 .1 .0 (accepted z)), ((λ z. totals-of (a .rows) (a .columns) (a .side) (t .result) (a .formula) (q .result) (now (a .ground)) (grids s) e (p .0) z (p .1 .1 .1 .0 (accepted z))), (λ z. p .1 .1 .1 .1 (accepted z)))),
       ),
     )
 
@@ -72,6 +79,7 @@ lsmap-map-spec =
     tie.close
     (tie.spec
     settings-of-requires
+    source-of-requires
     map-requires
     hand-out-mapping-requires
     same-length

@@ -66,7 +66,7 @@ put-map-requires c κs =
     let s = start m in
     let a = s .args in
     let p = s .pre in
-    let k = m .map .kept .1 .1 .1 .1 .1 in (
+    let k = m .map .kept .1 .1 .1 .1 .1 .1 in (
       map-columns (a .head .rows) (a .head .columns) (a .head .side) (a .settings) (now (a .ground)) (grids s) (v .survey-of .ensures) (m .map .ensures .0) (e .if1 .left),
       record {
         few = omega (arith, p .few);
@@ -109,7 +109,7 @@ returns-2 c =
     let s = start m in
     let a = s .args in
     let put = p .put-map .ensures in
-    let l = m .map .last .1 .1 .1 .1 .1 in (
+    let l = m .map .last .1 .1 .1 .1 .1 .1 in (
       wrote-as (map-printed (a .head .rows) (a .head .columns) (a .head .side) (a .settings) (now (a .ground)) (grids s) (v .survey-of .ensures) (m .map .ensures .0) (lent (l .0) (l .1 .0) (l .1 .1 .0) (l .1 .1 .1 .0) (l .1 .1 .1 .1 .0) (l .1 .1 .1 .1 .1 .0)) (m .map .ensures .1 .0) (e .if1 .left)) (put .0),
       omega (arith, put .1, s .pre .few),
     )

@@ -23,7 +23,7 @@ walked c = c .before .before .before .before .before .before
 
 -- they are those of the grid
 right : (c : tie.After-shifts-of) → Shifts (start c .args .columns) (c .shifts-of .result)
-right c = c .shifts-of .ensures (start c .pre .0 .sized .cols-small)
+right c = c .shifts-of .ensures (start c .pre .0 .drawn .sized .cols-small)
 
 shifts-of-requires : tie.Need-shifts-of-requires
 shifts-of-requires c κs = search needs
@@ -51,7 +51,7 @@ cast-t26 : tie.Need-cast-t26
 cast-t26 c =
     let d = ordered (walked (c .before .before)) in
     let s = start (shifts d) in
-    omega (arith, downhill-few (s .pre .0) (d .descend .ensures), s .pre .0 .sized .small)
+    omega (arith, downhill-few (s .pre .0 .drawn) (d .descend .ensures), s .pre .0 .drawn .sized .small)
 
 same-length : tie.Need-same-length
 same-length c = search needs

@@ -1,6 +1,6 @@
 -- `writer::write_counts` meets its contract. Assumes nothing.
-use Rattle.writer.specs.Answers.{countCells}
-use Rattle.writer.specs.InnerCells.{wordOf, numberCells}
+use Rattle.writer.specs.Answers.{numberCells, countCells}
+use Rattle.writer.specs.InnerCells.{wordOf}
 use borrow.Author.Needs.{needs}
 use Rattle.writer.proofs.write_counts.Statement.{statement}
 use Rattle.writer.proofs.write_counts.Tie as tie

@@ -1,6 +1,6 @@
 -- `writer::write_factors` meets its contract. Assumes nothing.
-use Rattle.writer.specs.Answers.{factorCells}
-use Rattle.writer.specs.InnerCells.{wordOf, numberCells}
+use Rattle.writer.specs.Answers.{numberCells, factorCells}
+use Rattle.writer.specs.InnerCells.{wordOf}
 use borrow.Author.Needs.{needs}
 use Rattle.writer.proofs.write_factors.Statement.{statement}
 use Rattle.writer.proofs.write_factors.Tie as tie

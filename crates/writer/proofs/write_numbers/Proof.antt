@@ -4,8 +4,8 @@ use native.Mathlib.Omega.{arith}
 use lib.ListN.{length}
 use Rattle.laws.specs.Tests.{passed, verdict}
 use Rattle.writer.specs.Text.{Frame, frame}
-use Rattle.writer.specs.Answers.{Cells, frameTests}
-use Rattle.writer.specs.InnerCells.{numberCells}
+use Rattle.writer.specs.Answers.{Cells, frameTests, numberCells}
+use Rattle.writer.specs.InnerCells.{wordOf}
 use Rattle.writer.specs.InnerJudging.{found}
 use Rattle.writer.specs.declared.Answer.the-variants.{Accepted}
 use Rattle.writer.proofs.InnerAnswers.{frame-refuses, room-refuses, all-accept}
@@ -29,16 +29,16 @@ abbrev framed : tie.Start → Frame
 framed s = frame (s .args .rows) (s .args .columns) (s .args .side) (s .args .x .now) (s .args .y .now)
 
 abbrev cells : tie.Start → Cells
-cells s = numberCells (s .args .kind) (s .args .numbers .now)
+cells s = numberCells (wordOf (s .args .kind)) (s .args .numbers .now)
 
 sound : (c : tie.After-enum-told) → verdict (frameTests (framed (start c)) (length (start c .args .numbers .now))) ≡ passed
 sound c = sym (c .before .before .judge .ensures) ∙ ap found (c .enum-told .given .1)
 
 many : (c : tie.After-enum-told) → length (cells (start c) .words) ≡ cells (start c) .number
-many c = numbers-long (start c .args .kind) (start c .args .numbers .now)
+many c = numbers-long (wordOf (start c .args .kind)) (start c .args .numbers .now)
 
 good : (c : tie.After-enum-told) → verdict (cells (start c) .tests) ≡ passed
-good c = numbers-pass (start c .args .kind) (start c .args .numbers .now)
+good c = numbers-pass (wordOf (start c .args .kind)) (start c .args .numbers .now)
 
 judge-requires : tie.Need-judge-requires
 judge-requires c κs = search needs

@@ -74,7 +74,7 @@ loop-holds : tie.Need-loop-holds Inv-loop μ-loop
 loop-holds c = (refl, refl, omega arith, λ rows lv rules m w. w)
 
 mul-turn : tie.Need-mul-turn Inv-loop μ-loop
-mul-turn c = let m = start (bound (c .before .before .before)) .pre .2 in omega (arith, downhill-few (m .directed) (m .order-is), m .directed .sized .small)
+mul-turn c = let m = start (bound (c .before .before .before)) .pre .2 in omega (arith, downhill-few (m .directed .drawn) (m .order-is), m .directed .drawn .sized .small)
 
 shared-slice-read-turn : tie.Need-shared-slice-read-turn Inv-loop μ-loop
 shared-slice-read-turn c = omega (arith, start (bound (c .before .before .before .before)) .pre .2 .order-is .room)
@@ -83,7 +83,7 @@ cast-turn : tie.Need-cast-turn Inv-loop μ-loop
 cast-turn c =
     let l = c .before .before .before .before in
     let m = start (bound l) .pre .2 in
-    omega (arith, place-cell (m .directed) {p = l .loop .place} (m .order-is) (omega arith) refl, m .directed .sized .small)
+    omega (arith, place-cell (m .directed .drawn) {p = l .loop .place} (m .order-is) (omega arith) refl, m .directed .drawn .sized .small)
 
 turn-requires : tie.Need-turn-requires Inv-loop μ-loop
 turn-requires c κs =
@@ -96,7 +96,7 @@ turn-requires c κs =
     let w = l .loop .inv .3 (s .pre .0) (s .pre .1) (s .args .rules) q (walk-start m (s .args .rules) (cleared l .clear .ensures)) in (
       walk-turning q w (i .loop-test .taken) refl,
       cleared l .before .before .all .ensures,
-      cleared l .before .before .before .shifts-of .ensures (m .directed .sized .cols-small),
+      cleared l .before .before .before .shifts-of .ensures (m .directed .drawn .sized .cols-small),
     )
 
 add-place : tie.Need-add-place Inv-loop μ-loop
@@ -105,7 +105,7 @@ add-place c =
     let a = t .before .before .before .before in
     let l = a .before .before .before .before in
     let m = start (bound l) .pre .2 in
-    omega (arith, downhill-few (m .directed) (m .order-is), m .directed .sized .small)
+    omega (arith, downhill-few (m .directed .drawn) (m .order-is), m .directed .drawn .sized .small)
 
 loop-less : tie.Need-loop-less Inv-loop μ-loop
 loop-less c = search needs

@@ -57,9 +57,9 @@ returns c =
     let s = start-none t in
     let a = s .args in
     let e = c .without-formula .ensures in (
-      none-answers (a .rows) (a .columns) (a .side) (a .settings) (a .formula) (now (a .ground)) (grids s) (t .if1 .taken) (j .judge .ensures) e,
+      none-answers (a .rows) (a .columns) (a .side) (a .settings) (a .formula) (a .source) (now (a .ground)) (grids s) (t .if1 .taken) (j .judge .ensures) e,
       (
-        none-leaves (a .rows) (a .columns) (a .side) (a .settings) (a .formula) (now (a .ground)) (grids s) (t .if1 .taken) (j .judge .ensures),
+        none-leaves (a .rows) (a .columns) (a .side) (a .settings) (a .formula) (a .source) (now (a .ground)) (grids s) (t .if1 .taken) (j .judge .ensures),
         ((λ z. absurd (none-accepted (j .judge .result) e z)), ((λ z. absurd (none-accepted (j .judge .result) e z)), (λ z. absurd (none-accepted (j .judge .result) e z)))),
       ),
     )
@@ -92,8 +92,8 @@ returns-2 c =
     let s = start t in
     let a = s .args in
     let p = m .map .ensures in (
-      answer-is (a .rows) (a .columns) (a .side) (a .settings) (a .formula) (now (a .ground)) (grids s) (t .if1 .left) (p .0),
-      (after-is (a .rows) (a .columns) (a .side) (a .settings) (a .formula) (now (a .ground)) (grids s) (t .if1 .left) (p .1 .0), p .1 .1),
+      answer-is (a .rows) (a .columns) (a .side) (a .settings) (a .formula) (a .source) (now (a .ground)) (grids s) (t .if1 .left) (p .0),
+      (after-is (a .rows) (a .columns) (a .side) (a .settings) (a .formula) (a .source) (now (a .ground)) (grids s) (t .if1 .left) (p .1 .0), p .1 .1),
     )
 
 pub map-spec : {M : Type 1} → statement M

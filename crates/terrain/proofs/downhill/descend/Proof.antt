@@ -30,13 +30,13 @@ await-all-requires c κs = search needs
 loop-holds : tie.Need-loop-holds Inv-loop μ-loop
 loop-holds c =
     let a = c .before .before in
-    (await-peeled (args a .pre .0) (args a .pre .2) (a .await-all .ensures), omega arith)
+    (await-peeled (args a .pre .0 .drawn) (args a .pre .2) (a .await-all .ensures), omega arith)
 
 begin-requires : tie.Need-begin-requires Inv-loop μ-loop
 begin-requires c κs =
     let l = c .before .before .before in
     let s = args (awaited l) in
-    (s .pre .0, l .loop .inv .0, omega (arith, l .loop .inv .0 .wide), s .pre .3)
+    (s .pre .0 .drawn, l .loop .inv .0, omega (arith, l .loop .inv .0 .wide), s .pre .3)
 
 add-x : tie.Need-add-x Inv-loop μ-loop
 add-x c = search needs

@@ -46,7 +46,7 @@ same-length : tie.Need-same-length Inv-loop μ-loop
 same-length c = c .before .loop .inv .0
 
 returns : tie.Need-returns Inv-loop μ-loop
-returns c = let p = c .before .loop in let s = c .before .before .before .before in await-start (s .pre .0) (p .inv .0 ∙ s .pre .1) (λ j h. p .inv .2 j (omega (arith, p .inv .0, s .pre .1)))
+returns c = let p = c .before .loop in let s = c .before .before .before .before in await-start (s .pre .0) 4294967295 (omega arith) (p .inv .0 ∙ s .pre .1) (λ j h. p .inv .2 j (omega (arith, p .inv .0, s .pre .1)))
 
 pub start-spec : {M : Type 1} → statement M
 start-spec =

@@ -42,8 +42,8 @@ returns : tie.Need-returns
 returns c =
     let s = start (c .before) in
     let a = s .args in
-    let past : a .rows * a .columns ≤ c .before .receiver .result = omega (arith, c .if1 .taken, marked-long (s .pre .0) (s .pre .1) (s .pre .2)) in
-    λ b hand i o. taken-last (s .pre .0) i (s .pre .2) (c .before .receiver .ensures) past o
+    let past : a .rows * a .columns ≤ c .before .receiver .result = omega (arith, c .if1 .taken, marked-long (s .pre .0) 4294967295 (omega arith) (s .pre .1) (s .pre .2)) in
+    λ b hand i o. taken-last (s .pre .0) 4294967295 (omega arith) i (s .pre .2) (c .before .receiver .ensures) past o
 
 mul-waiting-2 : tie.Need-mul-waiting-2
 mul-waiting-2 c = search needs
@@ -52,10 +52,10 @@ slice-read-waiting : tie.Need-slice-read-waiting
 slice-read-waiting c = search needs
 
 sub-waiting : tie.Need-sub-waiting
-sub-waiting c = let y = c .before .before in let s = start y in taken-waits (s .pre .0) (s .pre .1) (s .pre .2) (y .receiver .ensures) (omega (arith, c .before .if1 .left, marked-long (s .pre .0) (s .pre .1) (s .pre .2)))
+sub-waiting c = let y = c .before .before in let s = start y in taken-waits (s .pre .0) 4294967295 (omega arith) (s .pre .1) (s .pre .2) (y .receiver .ensures) (omega (arith, c .before .if1 .left, marked-long (s .pre .0) 4294967295 (omega arith) (s .pre .1) (s .pre .2)))
 
 mul-waiting-3 : tie.Need-mul-waiting-3
-mul-waiting-3 c = let s = start (c .before .before) in omega (arith, c .before .if1 .left, marked-long (s .pre .0) (s .pre .1) (s .pre .2), s .pre .0 .sized .small)
+mul-waiting-3 c = let s = start (c .before .before) in omega (arith, c .before .if1 .left, marked-long (s .pre .0) 4294967295 (omega arith) (s .pre .1) (s .pre .2), s .pre .0 .sized .small)
 
 slice-write-waiting-2 : tie.Need-slice-write-waiting-2
 slice-write-waiting-2 c = search needs
@@ -70,8 +70,8 @@ returns-2 : tie.Need-returns-2
 returns-2 c =
     let y = c .before .before in
     let s = start y in
-    let in-grid : y .receiver .result < s .args .rows * s .args .columns = omega (arith, c .before .if1 .left, marked-long (s .pre .0) (s .pre .1) (s .pre .2)) in
-    λ b hand i o. taken-next (s .pre .0) i (s .pre .2) (y .receiver .ensures) in-grid refl o
+    let in-grid : y .receiver .result < s .args .rows * s .args .columns = omega (arith, c .before .if1 .left, marked-long (s .pre .0) 4294967295 (omega arith) (s .pre .1) (s .pre .2)) in
+    λ b hand i o. taken-next (s .pre .0) 4294967295 (omega arith) i (s .pre .2) (y .receiver .ensures) in-grid refl o
 
 pub take-spec : {M : Type 1} → statement M
 take-spec =

@@ -40,20 +40,20 @@ cast-x : tie.Need-cast-x Inv-loop μ-loop
 cast-x c =
     let l = c .before .before in
     let s = args (started l) in
-    omega (arith, place-cell (s .pre .0) {p = l .loop .place} (s .pre .1) (omega arith) refl, s .pre .0 .sized .small)
+    omega (arith, place-cell (s .pre .0 .drawn) {p = l .loop .place} (s .pre .1) (omega arith) refl, s .pre .0 .drawn .sized .small)
 
 receiver-requires : tie.Need-receiver-requires Inv-loop μ-loop
 receiver-requires c κs =
     let s = args (started (c .before .before)) in
-    (s .pre .0, place-valid (s .pre .0) (s .pre .1) (omega arith) refl, s .pre .3)
+    (s .pre .0 .drawn, place-valid (s .pre .0 .drawn) (s .pre .1) (omega arith) refl, s .pre .3)
 
 hand-on-requires : tie.Need-hand-on-requires Inv-loop μ-loop
 hand-on-requires c κs =
     let l = c .before .before .before .before in
     let s = args (started l) in
     let p = l .loop in (
-      omega (arith, place-cell (s .pre .0) {p = p .place} (s .pre .1) (omega arith) refl, p .inv .0 .long),
-      (λ h. omega (arith, pass-fits (s .pre .0) (s .pre .1) (p .inv .0) (omega arith) refl (c .before .receiver .ensures) (omega (arith, p .inv .0 .long)), s .pre .0 .sized .small)),
+      omega (arith, place-cell (s .pre .0 .drawn) {p = p .place} (s .pre .1) (omega arith) refl, p .inv .0 .long),
+      (λ h. omega (arith, pass-fits (s .pre .0) (s .pre .1) (p .inv .0) (omega arith) refl (c .before .receiver .ensures) (omega (arith, p .inv .0 .long)), s .pre .0 .drawn .sized .small)),
     )
 
 add-place : tie.Need-add-place Inv-loop μ-loop

@@ -34,10 +34,10 @@ cast-x : tie.Need-cast-x Inv-loop μ-loop
 cast-x c =
     let s = args (c .before .before) in
     let p = c .before .before .loop in
-    omega (arith, place-cell (s .pre .0) {p = p .place - 1} (s .pre .1) (omega arith) refl, s .pre .0 .sized .small)
+    omega (arith, place-cell (s .pre .0 .drawn) {p = p .place - 1} (s .pre .1) (omega arith) refl, s .pre .0 .drawn .sized .small)
 
 receiver-requires : tie.Need-receiver-requires Inv-loop μ-loop
-receiver-requires c κs = let s = args (c .before .before) in (s .pre .0, place-valid (s .pre .0) (s .pre .1) (omega arith) refl, s .pre .3)
+receiver-requires c κs = let s = args (c .before .before) in (s .pre .0 .drawn, place-valid (s .pre .0 .drawn) (s .pre .1) (omega arith) refl, s .pre .3)
 
 value-at-requires : tie.Need-value-at-requires Inv-loop μ-loop
 value-at-requires c κs = search needs
@@ -47,21 +47,21 @@ add-cells c =
     let l = c .before .before .before .before .before in
     let s = args l in
     let p = l .loop in
-    omega (arith, back-small (s .pre .0) (s .pre .1) (p .inv .0) (omega arith) (p .inv .1) refl (c .before .before .receiver .ensures) (c .value-at .ensures), s .pre .0 .sized .small)
+    omega (arith, back-small (s .pre .0) (s .pre .1) (p .inv .0) (omega arith) (p .inv .1) refl (c .before .before .receiver .ensures) (c .value-at .ensures), s .pre .0 .drawn .sized .small)
 
 mul-workspace : tie.Need-mul-workspace Inv-loop μ-loop
 mul-workspace c =
     let l = c .before .before .before .before .before in
     let s = args l in
     let p = l .loop in
-    omega (arith, place-cell (s .pre .0) {p = p .place - 1} (s .pre .1) (omega arith) refl, s .pre .0 .sized .small)
+    omega (arith, place-cell (s .pre .0 .drawn) {p = p .place - 1} (s .pre .1) (omega arith) refl, s .pre .0 .drawn .sized .small)
 
 slice-write-workspace : tie.Need-slice-write-workspace Inv-loop μ-loop
 slice-write-workspace c =
     let l = c .before .before .before .before .before in
     let s = args l in
     let p = l .loop in
-    omega (arith, place-cell (s .pre .0) {p = p .place - 1} (s .pre .1) (omega arith) refl, p .inv .0 .long)
+    omega (arith, place-cell (s .pre .0 .drawn) {p = p .place - 1} (s .pre .1) (omega arith) refl, p .inv .0 .long)
 
 larger-requires : tie.Need-larger-requires Inv-loop μ-loop
 larger-requires c κs = search needs

@@ -8,10 +8,10 @@ use Rattle.terrain_cases.proofs.land.shape.Statement.{statement}
 use Rattle.terrain_cases.proofs.land.shape.Tie as tie
 
 abbrev Inv-loop : tie.InvT-loop
-Inv-loop name land rows columns picture ground₀ seed₀ x₀ ground seed x = (x ≤ length ground₀) × (length ground ≡ length ground₀)
+Inv-loop land columns picture ground₀ seed₀ x₀ ground seed x = (x ≤ length ground₀) × (length ground ≡ length ground₀)
 
 abbrev μ-loop : tie.MeasureT-loop
-μ-loop name land rows columns picture ground₀ seed₀ x₀ ground seed x = length ground₀ - x
+μ-loop land columns picture ground₀ seed₀ x₀ ground seed x = length ground₀ - x
 
 loop-holds : tie.Need-loop-holds Inv-loop μ-loop
 loop-holds c = search needs
@@ -25,8 +25,8 @@ add-seed c = search needs
 height-requires : tie.Need-height-requires Inv-loop μ-loop
 height-requires c κs = search needs
 
-mul-t9 : tie.Need-mul-t9 Inv-loop μ-loop
-mul-t9 c = search needs
+mul-t7 : tie.Need-mul-t7 Inv-loop μ-loop
+mul-t7 c = search needs
 
 slice-set-from-ground : tie.Need-slice-set-from-ground Inv-loop μ-loop
 slice-set-from-ground c = search needs
@@ -39,9 +39,6 @@ loop-less c = search needs
 
 loop-again : tie.Need-loop-again Inv-loop μ-loop
 loop-again c = search needs
-
-field-requires : tie.Need-field-requires Inv-loop μ-loop
-field-requires c κs = search needs
 
 same-length : tie.Need-same-length Inv-loop μ-loop
 same-length c = search needs
@@ -59,11 +56,10 @@ shape-spec =
     mul-seed
     add-seed
     height-requires
-    mul-t9
+    mul-t7
     slice-set-from-ground
     add-x
     loop-less
     loop-again
-    field-requires
     same-length
     returns)
