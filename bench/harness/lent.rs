@@ -1,11 +1,14 @@
 //! What every side is lent, and what a side is.
 
+use std::hint::black_box;
+
 /// The settings of every measurement: the printer's, docs/RULES.md, 9 The printed sheet.
 pub const CUTOFF: f64 = 0.5;
 
 /// The grids, the workspace and the room for a text, lent to each side in turn and not cleared in between; the corner
-/// words of the text; the same field as floats, with its header; and what a side answers: the number of valid cells and
-/// the longest trail, and the bytes of the text that it wrote.
+/// words of the text; the same field as floats, with its header; the farm of each cell, once all of farm 0 and once the
+/// east half of farm 1; and what a side answers: the number of valid cells and the longest trail, and the bytes of the text
+/// that it wrote.
 #[derive(Clone, PartialEq)]
 pub struct Lent {
     pub rows: usize,
@@ -21,6 +24,8 @@ pub struct Lent {
     pub corners: [Vec<u8>; 2],
     pub header: Vec<u8>,
     pub floats: Vec<u8>,
+    pub alone: Vec<u8>,
+    pub halves: Vec<u8>,
     pub room: Vec<u8>,
     pub answer: (u32, u32),
     pub written: usize,
@@ -37,6 +42,13 @@ fn lone_header(header: &plain::Header, text: &[u8]) -> Vec<u8> {
 /// Heights in cm as the bytes of floats in metres; NoData becomes -9999.
 fn floats(heights: &[i32]) -> Vec<u8> {
     heights.iter().flat_map(|&cm| ((f64::from(cm) / 100.0) as f32).to_le_bytes()).collect()
+}
+
+/// The farm of each cell: farm 1 from a column on. Every mark is written, for memory that is only zeroed may be one page
+/// that is read again and again.
+fn marks(rows: usize, columns: usize, from: usize) -> Vec<u8> {
+    let from = black_box(from);
+    (0..rows * columns).map(|cell| u8::from(cell % columns >= from)).collect()
 }
 
 impl Lent {
@@ -63,6 +75,8 @@ impl Lent {
             corners: header.corners.map(|span| span.of(text).to_vec()),
             header: lone_header(&header, text),
             floats,
+            alone: marks(header.rows, header.columns, header.columns),
+            halves: marks(header.rows, header.columns, header.columns / 2),
             room: vec![1; plain::room(header.rows, header.columns)],
             answer: (0, 0),
             written: 0,

@@ -1,7 +1,8 @@
 //! Measurements as lines, so that those of several layouts can be put together: layout, terrain, size, the milliseconds
 //! of both sides for the map, for reading the text, for writing one, for reading floats and for a report, those of the
-//! measured side for the map under the newer formula and with our own directions given back, those of another commit's
-//! library for the map or `-`, the bytes that are read, those that are written and those of the floats, the peak.
+//! measured side for the map under the newer formula, with our own directions given back and of two farms, the second
+//! without a cell or with the east half, those of another commit's library for the map or `-`, the bytes that are read,
+//! those that are written and those of the floats, the peak.
 
 use crate::files::field;
 use crate::layout::BYTES;
@@ -36,11 +37,11 @@ pub fn print(rounds: usize, folder: &Path) -> Result<(), String> {
         for (size, rounds) in [(SMALL, MORE_ROUNDS * rounds), (LARGE, rounds)] {
             let (text, lent) = field(&folder.join(format!("{terrain}-{size}.asc")))?;
             let found = measure(rounds, &text, lent);
-            let Found { map, text, write, floats, report, newer, given, before, bytes, written, float_bytes, peak } =
-                found;
+            let Found { map, text, write, floats, report, newer, given, farms, halves, .. } = found;
+            let Found { before, bytes, written, float_bytes, peak, .. } = found;
             let pairs = [map, text, write, floats, report];
             let times = pairs.map(|pair| format!("{} {}", word(pair.measured), word(pair.plain)));
-            let own = [newer, given].map(word).join(" ");
+            let own = [newer, given, farms, halves].map(word).join(" ");
             let (times, before) = (times.join(" "), before.map_or(NONE.into(), word));
             println!("{BYTES} {terrain} {size} {times} {own} {before} {bytes} {written} {float_bytes} {peak}");
         }
@@ -51,22 +52,24 @@ pub fn print(rounds: usize, folder: &Path) -> Result<(), String> {
 /// The measurement of a line.
 pub fn parse(line: &str) -> Option<Line> {
     let words: Vec<&str> = line.split_whitespace().collect();
-    let &[layout, terrain, size, ref times @ .., newer, given, before, bytes, written, float_bytes, peak] = &words[..]
-    else {
+    let &[layout, terrain, size, ref times @ .., before, bytes, written, float_bytes, peak] = &words[..] else {
         return None;
     };
     let times: Option<Vec<f64>> = times.iter().map(|word| word.parse().ok()).collect();
-    let times = times?;
-    let pairs: Vec<Pair> = times.chunks_exact(2).map(|pair| Pair { measured: pair[0], plain: pair[1] }).collect();
-    let (&[map, text, write, floats, report], true) = (&pairs[..], times.len() == 10) else { return None };
+    let &[ref pairs @ .., newer, given, farms, halves] = &times?[..] else { return None };
+    let (&[map, text, write, floats, report], []) = pairs.as_chunks() else { return None };
+    let [map, text, write, floats, report] =
+        [map, text, write, floats, report].map(|[measured, plain]| Pair { measured, plain });
     let found = Found {
         map,
         text,
         write,
         floats,
         report,
-        newer: newer.parse().ok()?,
-        given: given.parse().ok()?,
+        newer,
+        given,
+        farms,
+        halves,
         before: if before == NONE { None } else { Some(before.parse().ok()?) },
         bytes: bytes.parse().ok()?,
         written: written.parse().ok()?,

@@ -3,7 +3,7 @@
 use crate::clock::time;
 use crate::lent::{Lent, Side};
 use crate::memory::peak;
-use crate::sides::{all, GIVEN, MEASURED, NEWER, OTHERS, PLAIN, PLAIN_NEWER, REPORTS};
+use crate::sides::{all, FARMS, GIVEN, MEASURED, NEWER, OTHERS, PLAIN, PLAIN_NEWER, REPORTS};
 use std::hint::black_box;
 
 /// Rounds of adding a map to a report for each of the others: it is short.
@@ -28,9 +28,9 @@ impl Pair {
 }
 
 /// What is found of one text: the times of mapping, reading and writing, of reading the same heights as floats, and of
-/// adding the map to a report; the map call's under the newer steepness formula, with our own directions given back, and
-/// by the library of another commit; the bytes of the text that is read, of the one that is written and of the floats; and
-/// the KiB by which the first map call raised the peak.
+/// adding the map to a report; the map call's under the newer steepness formula, with our own directions given back, of
+/// two farms, the second without a cell or with the east half, and by the library of another commit; the bytes of the text
+/// that is read, of the one that is written and of the floats; and the KiB by which the first map call raised the peak.
 #[derive(Clone, Copy)]
 pub struct Found {
     pub map: Pair,
@@ -40,6 +40,8 @@ pub struct Found {
     pub report: Pair,
     pub newer: f64,
     pub given: f64,
+    pub farms: f64,
+    pub halves: f64,
     pub before: Option<f64>,
     pub bytes: usize,
     pub written: usize,
@@ -56,6 +58,16 @@ impl Found {
     /// The measured side's map call with our own directions given back by that which finds them.
     pub fn ratio_given(&self) -> f64 {
         self.given / self.map.measured
+    }
+
+    /// The measured side's map call of two farms by that of one, where all cells are of farm 0.
+    pub fn ratio_farms(&self) -> f64 {
+        self.farms / self.map.measured
+    }
+
+    /// The same where the east half is of farm 1.
+    pub fn ratio_halves(&self) -> f64 {
+        self.halves / self.map.measured
     }
 
     /// The measured side's time for adding the map to a report by that for the map call.
@@ -78,6 +90,8 @@ impl Found {
             report: self.report.or(&other.report),
             newer: self.newer.min(other.newer),
             given: self.given.min(other.given),
+            farms: self.farms.min(other.farms),
+            halves: self.halves.min(other.halves),
             before: self.before.zip(other.before).map(|(one, other)| one.min(other)),
             bytes: self.bytes,
             written: self.written,
@@ -121,17 +135,21 @@ fn compare_newer(lent: &mut Lent) {
     assert!(*lent == other, "{} and {} must give the same grids", NEWER.name, PLAIN_NEWER.name);
 }
 
-/// With our own directions, which the lent grid holds, given back the measured side gives the same grids.
-fn compare_given(lent: &Lent) {
-    let mut other = lent.clone();
-    (GIVEN.map)(&mut other);
-    assert!(*lent == other, "{} and {} must give the same grids", MEASURED.name, GIVEN.name);
+/// With our own directions, which the lent grid holds, given back the measured side gives the same grids, and with two
+/// farms under the same settings.
+fn compare_same(lent: &Lent) {
+    for side in [&[GIVEN][..], &FARMS].concat() {
+        let mut other = lent.clone();
+        (side.map)(&mut other);
+        assert!(*lent == other, "{} and {} must give the same grids", MEASURED.name, side.name);
+    }
 }
 
-/// The measured side's times for the map call, under the newer formula and with directions given, then those of the
-/// others, all in turn. Every side leaves our own directions in the lent grid, where the call that takes them finds them.
+/// The measured side's times for the map call, under the newer formula, with directions given and of two farms, then those
+/// of the others, all in turn. Every side leaves our own directions in the lent grid, where the call that takes them finds
+/// them.
 fn map_times(rounds: usize, lent: &mut Lent) -> Vec<f64> {
-    in_turn(rounds, &[&[MEASURED, NEWER, GIVEN], OTHERS].concat(), |side| (side.map)(lent))
+    in_turn(rounds, &[&[MEASURED, NEWER, GIVEN], &FARMS[..], OTHERS].concat(), |side| (side.map)(lent))
 }
 
 /// Measures one text, in lent grids that were made for it; all sides must give the same grids and write the same bytes.
@@ -148,7 +166,7 @@ pub fn measure(rounds: usize, text: &[u8], mut lent: Lent) -> Found {
     }
     compare_floats(&lent);
     compare_reports(&lent);
-    compare_given(&lent);
+    compare_same(&lent);
     compare_newer(&mut lent);
     let reading = in_turn(rounds, &[MEASURED, PLAIN], |side| (side.read)(text, &mut lent.ground));
     let floats = |side: Side| (side.read_floats)(&lent.header, &lent.floats, &mut lent.ground);
@@ -159,14 +177,16 @@ pub fn measure(rounds: usize, text: &[u8], mut lent: Lent) -> Found {
         black_box(report(&lent));
     });
     Found {
-        map: Pair { measured: mapping[0], plain: mapping[3] },
+        map: Pair { measured: mapping[0], plain: mapping[5] },
         text: Pair { measured: reading[0], plain: reading[1] },
         write: Pair { measured: writing[0], plain: writing[1] },
         floats: Pair { measured: reading_floats[0], plain: reading_floats[1] },
         report: Pair { measured: reporting[0], plain: reporting[1] },
         newer: mapping[1],
         given: mapping[2],
-        before: mapping.get(4).copied(),
+        farms: mapping[3],
+        halves: mapping[4],
+        before: mapping.get(6).copied(),
         bytes: text.len(),
         written: lent.written,
         float_bytes: lent.floats.len(),

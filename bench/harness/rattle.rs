@@ -1,9 +1,9 @@
 //! The proved library as a side: crates/fullsize, through the declarations of the program that lends it memory, under the
-//! older steepness formula, under the newer, and by given directions; and the library of another commit, through its own
-//! declarations with other names, which the build makes.
+//! older steepness formula, under the newer, by given directions, and of two farms; and the library of another commit,
+//! through its own declarations with other names, which the build makes.
 
 #[path = "../../host/src/library.rs"]
-#[allow(dead_code, reason = "default settings, texts of other grids and joined reports are the other program's")]
+#[allow(dead_code, reason = "default settings, texts of other grids and other reports are the other program's")]
 mod library;
 
 #[cfg(before)]
@@ -16,9 +16,9 @@ use crate::lent::{Lent, Reported, Side, CUTOFF, PERCENTAGE};
 use std::mem::take;
 
 /// The side of a library that a module declares, with its map call. Cutoffs as in every measurement, no channels and the
-/// older formula, but for the settings that are named.
+/// older formula, but for the settings that are named. Where the marks of two farms are named, both have these settings.
 macro_rules! side {
-    ($name:literal, $library:ident, $map:ident $(, $setting:ident: $value:expr)*) => {{
+    ($name:literal, $library:ident, $map:ident $(of $marks:ident)? $(, $setting:ident: $value:expr)*) => {{
         use $library::{Corners, Grids, Header, Numbers, Settings};
 
         fn read(text: &[u8], heights: &mut [i32]) {
@@ -45,7 +45,13 @@ macro_rules! side {
                 workspace: take(&mut lent.workspace),
             };
             let settings = Settings { low: CUTOFF, high: CUTOFF, $($setting: $value,)* ..Settings::default() };
-            let totals = $library::$map(header(lent), settings, &lent.ground, &mut grids);
+            let totals = $library::$map(
+                header(lent),
+                settings,
+                $($library::SecondFarm { settings, marks: &lent.$marks },)?
+                &lent.ground,
+                &mut grids,
+            );
             let totals = totals.ok().expect("a terrain is accepted");
             lent.answer = (totals.valid, totals.longest);
             Grids {
@@ -73,6 +79,10 @@ pub const NEWER: Side = side!("rattle newer", library, map, formula: 1);
 
 /// By the directions that stand in the lent grid, and stay there.
 pub const GIVEN: Side = side!("rattle given", library, map_given);
+
+/// Of two farms, the second without a cell, or with the east half.
+pub const FARMS: Side = side!("rattle farms", library, map_farms of alone);
+pub const HALVES: Side = side!("rattle farms-half", library, map_farms of halves);
 
 /// Adds the map to an empty report.
 pub fn report(lent: &Lent) -> Reported {

@@ -74,6 +74,13 @@ pub const GIVEN: Side = crate::rattle::GIVEN;
 #[cfg(not(rattle))]
 pub const GIVEN: Side = PLAIN;
 
+/// The measured side's map call of two farms with the same settings, the second without a cell, or with the east half; the
+/// plain program's map call where the library is not built.
+#[cfg(rattle)]
+pub const FARMS: [Side; 2] = [crate::rattle::FARMS, crate::rattle::HALVES];
+#[cfg(not(rattle))]
+pub const FARMS: [Side; 2] = [PLAIN; 2];
+
 /// A report by the measured side, and by the plain one.
 #[cfg(rattle)]
 pub const REPORTS: [fn(&Lent) -> Reported; 2] = [crate::rattle::report, plain_report];

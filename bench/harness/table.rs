@@ -52,6 +52,8 @@ fn print_lines(lines: &[Line], terrain: &str, small: &Found, large: &Found) {
     println!("share report {terrain} {:.4}", large.share_report());
     println!("ratio newer {terrain} {:.3}", large.ratio_newer());
     println!("ratio given {terrain} {:.3}", large.ratio_given());
+    println!("ratio farms {terrain} {:.3}", large.ratio_farms());
+    println!("ratio farms-half {terrain} {:.3}", large.ratio_halves());
     if let Some(ratio) = large.ratio_before() {
         println!("ratio before {terrain} {ratio:.3}");
     }

@@ -23,8 +23,8 @@ mod trail;
 mod write;
 
 pub use floats::read_floats;
-pub use map::{map, map_given, Grids};
-pub use report::{add, join, Greatest, Report};
+pub use map::{map, map_farms, map_farms_given, map_given, Grids};
+pub use report::{add, add_farms, join, Greatest, Report};
 pub use settings::{Channel, Formula, Settings};
 pub use text::{read_grid, read_header, Header, Span};
 pub use write::{room, write_codes, write_counts, write_factors, write_heights, Frame};

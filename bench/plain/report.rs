@@ -3,7 +3,8 @@
 
 use crate::cells::Shape;
 use crate::length::channel_bound;
-use crate::settings::judge;
+use crate::map::judge_marks;
+use crate::settings::{judge, judge_farms, Rules};
 use crate::{refuse, Refusal, Settings, TOO_LONG};
 
 /// The classes of LS begin at 1, 5 and 10, in hundred-thousandths.
@@ -24,15 +25,30 @@ pub struct Report {
     pub greatest: Option<Greatest>,
 }
 
+/// The greatest count that is no channel's, of all counts there are.
+fn bound(rules: &Rules, count: &[u32]) -> u32 {
+    channel_bound(rules.threshold, count).map_or(u32::MAX, |bound| bound.min(u64::from(u32::MAX)) as u32)
+}
+
 /// Valid cells and channel cells; `bound` is the greatest count that is no channel's. Cells fit 32 bits here and below, and
 /// none takes a branch, so that the loops can work on several cells at once.
 #[inline(never)]
-fn by_counts(bound: Option<u64>, count: &[u32]) -> [u32; 2] {
-    let bound = bound.map_or(u32::MAX, |bound| bound.min(u64::from(u32::MAX)) as u32);
+fn by_counts(bound: u32, count: &[u32]) -> [u32; 2] {
     let [mut valid, mut channel] = [0; 2];
     for &count in count {
         valid += u32::from(count != 0);
         channel += u32::from(count > bound);
+    }
+    [valid, channel]
+}
+
+/// The same of two farms with a bound each.
+#[inline(never)]
+fn by_farms_counts(bounds: [u32; 2], marks: &[u8], count: &[u32]) -> [u32; 2] {
+    let [mut valid, mut channel] = [0; 2];
+    for (&mark, &count) in marks.iter().zip(count) {
+        valid += u32::from(count != 0);
+        channel += u32::from(count > if mark == 0 { bounds[0] } else { bounds[1] });
     }
     [valid, channel]
 }
@@ -61,6 +77,16 @@ fn of_map([valid, channel]: [u32; 2], factors: &[u32]) -> Report {
     Report { totals: [1, valid, channel, zero, long, sum, under_1, from_1, from_5, from_10], greatest }
 }
 
+/// Makes the tests of refusals 1 and 2; `lent` has the lengths of the grids and of the marks.
+fn judge_sizes(rows: usize, columns: usize, lent: &[usize]) -> Result<(), Refusal> {
+    let sizes = 1..=1_024;
+    if !sizes.contains(&rows) || !sizes.contains(&columns) {
+        return refuse(1, 0);
+    }
+    let cells = Shape::of(rows, columns).cells();
+    if lent.iter().any(|&length| length != cells) { refuse(2, 0) } else { Ok(()) }
+}
+
 /// Adds a map to a report; refused with 1, 2, 4 or 16, it is left as it was.
 pub fn add(
     report: &mut Report,
@@ -70,16 +96,26 @@ pub fn add(
     count: &[u32],
     factors: &[u32],
 ) -> Result<(), Refusal> {
-    let sizes = 1..=1_024;
-    if !sizes.contains(&rows) || !sizes.contains(&columns) {
-        return refuse(1, 0);
-    }
-    let cells = Shape::of(rows, columns).cells();
-    if count.len() != cells || factors.len() != cells {
-        return refuse(2, 0);
-    }
+    judge_sizes(rows, columns, &[count.len(), factors.len()])?;
     let rules = judge(settings)?;
-    join(report, &of_map(by_counts(channel_bound(rules.threshold, count), count), factors))
+    join(report, &of_map(by_counts(bound(&rules, count), count), factors))
+}
+
+/// Adds a map of two farms to a report; refused with 1, 2, 4, 19 or 16, it is left as it was.
+pub fn add_farms(
+    report: &mut Report,
+    rows: usize,
+    columns: usize,
+    settings: [Settings; 2],
+    marks: &[u8],
+    count: &[u32],
+    factors: &[u32],
+) -> Result<(), Refusal> {
+    judge_sizes(rows, columns, &[marks.len(), count.len(), factors.len()])?;
+    let rules = judge_farms(settings)?;
+    judge_marks(marks)?;
+    let bounds = [bound(&rules[0], count), bound(&rules[1], count)];
+    join(report, &of_map(by_farms_counts(bounds, marks, count), factors))
 }
 
 /// Joins a report of later maps to a first one; refused with 16, that is left as it was.

@@ -1,10 +1,13 @@
-//! A field as it was read: its text, or its header with floats beside it, and perhaps given directions; and its map.
+//! A field as it was read: its text, or its header with floats beside it, and perhaps the marks of two farms and given
+//! directions; and its map.
 
+use crate::beside::Beside;
+use crate::farms::Farms;
 use crate::faults::Judged;
 use crate::flags::{Field, Flags};
 use crate::floats::Floats;
 use crate::given::Given;
-use crate::library::{self, Corners, Grids, Header, Refusal, Settings, Totals};
+use crate::library::{self, Corners, Grids, Header, Refusal, SecondFarm, Settings};
 use crate::messages::{self, Text};
 use crate::{Map, Stop};
 
@@ -13,13 +16,20 @@ pub struct Files {
     name: String,
     text: Vec<u8>,
     floats: Option<Floats>,
+    farms: Option<Farms>,
     given: Option<Given>,
 }
 
 impl Files {
     /// Reads a text alone.
     pub fn of_text(field: &Field) -> Result<Files, Stop> {
-        Ok(Files { name: field.name(), text: crate::read(field)?, floats: None, given: None })
+        Ok(Files { name: field.name(), text: crate::read(field)?, floats: None, farms: None, given: None })
+    }
+
+    /// Reads the marks of two farms beside a field, if there are any.
+    pub fn with_farms(self, file: Option<&Field>) -> Result<Files, Stop> {
+        let farms = file.map(|file| Beside::read(file, Text::Marks).map(Farms)).transpose()?;
+        Ok(Files { farms, ..self })
     }
 
     /// Reads a field and what the flags name beside it.
@@ -27,9 +37,10 @@ impl Files {
         let alone = Files::of_text(field)?;
         let floats = |file: &Field| crate::read(file).map(|bytes| Floats { name: file.name(), bytes });
         let floats = flags.floats.as_ref().map(floats).transpose()?;
-        let given = |file: &Field| crate::read(file).map(|text| Given { name: file.name(), text });
+        let farmed = Files { floats, ..alone }.with_farms(flags.farms.as_ref())?;
+        let given = |file: &Field| Beside::read(file, Text::Codes).map(Given);
         let given = flags.directions.as_ref().map(given).transpose()?;
-        Ok(Files { floats, given, ..alone })
+        Ok(Files { given, ..farmed })
     }
 
     /// Has the library read the heights.
@@ -50,40 +61,50 @@ impl Files {
         Ok((header, corners, ground))
     }
 
-    fn of_map(&self, refusal: Refusal, header: Header) -> Stop {
-        Stop::Refused(refusal, format!("{}: {}", self.name, messages::of_map(refusal, header)))
-    }
-
-    /// Has the library read and map the field.
-    pub fn map(&self, settings: Settings) -> Result<Map<'_>, Stop> {
+    /// Has the library read and map the field, under the settings of farm 0 and of farm 1; one farm has the first.
+    pub fn map(&self, [first, second]: [Settings; 2]) -> Result<Map<'_>, Stop> {
         let (header, corners, ground) = self.ground()?;
+        let marks = self.farms.as_ref().map(|farms| farms.marks(header)).transpose()?;
+        let codes = self.given.as_ref().map(|given| given.codes(header)).transpose()?;
         let mut grids = Grids::new(ground.len());
-        let totals = match &self.given {
-            None => library::map(header, settings, &ground, &mut grids).map_err(|r| self.of_map(r, header))?,
-            Some(given) => self.map_given(given, header, settings, &ground, &mut grids)?,
+        if let Some(codes) = &codes {
+            grids.direction.copy_from_slice(codes);
+        }
+        let farm = marks.as_deref().map(|marks| SecondFarm { settings: second, marks });
+        let answer = match (farm, codes.is_some()) {
+            (None, false) => library::map(header, first, &ground, &mut grids),
+            (None, true) => library::map_given(header, first, &ground, &mut grids),
+            (Some(farm), false) => library::map_farms(header, first, farm, &ground, &mut grids),
+            (Some(farm), true) => library::map_farms_given(header, first, farm, &ground, &mut grids),
         };
-        Ok(Map { header, corners, totals, ground, grids })
+        let codes = codes.unwrap_or_default();
+        let totals = answer.map_err(|r| self.refusal(r, header, first, &ground, &codes, &mut grids))?;
+        Ok(Map { header, corners, totals, ground, grids, marks })
     }
 
-    /// Has the library map the ground by given directions. Where it refuses these, the ground was accepted, and its map by
-    /// our own directions has the filled heights that the message tells.
-    fn map_given(
+    fn of_map(&self, refusal: Refusal, header: Header) -> Stop {
+        let message = messages::of_map(refusal, header, self.farms.is_some());
+        Stop::Refused(refusal, format!("{}: {message}", self.name))
+    }
+
+    /// The refusal of a map call in words. Where it refuses given directions, ground and settings were accepted, and the
+    /// map by our own directions, of one farm too, has the filled heights that the message tells.
+    fn refusal(
         &self,
-        given: &Given,
+        refusal: Refusal,
         header: Header,
         settings: Settings,
         ground: &[i32],
+        codes: &[u8],
         grids: &mut Grids,
-    ) -> Result<Totals, Stop> {
-        let stop = |(refusal, message)| Stop::Refused(refusal, message);
-        let codes = given.codes(header).map_err(stop)?;
-        grids.direction.copy_from_slice(&codes);
-        match library::map_given(header, settings, ground, grids) {
-            Err(r) if r.number == 17 || r.number == 18 => {
-                library::map(header, settings, ground, grids).map_err(|r| self.of_map(r, header))?;
-                Err(stop(given.refusal(r, &Judged { header, codes: &codes, filled: &grids.filled })))
-            }
-            answer => answer.map_err(|r| self.of_map(r, header)),
+    ) -> Stop {
+        match (refusal.number, &self.farms, &self.given) {
+            (17 | 18, _, Some(given)) => match library::map(header, settings, ground, grids) {
+                Ok(_) => given.refusal(refusal, &Judged { header, codes, filled: &grids.filled }),
+                Err(refusal) => self.of_map(refusal, header),
+            },
+            (19, Some(farms), _) => farms.refusal(refusal, header),
+            _ => self.of_map(refusal, header),
         }
     }
 }

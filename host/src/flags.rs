@@ -2,7 +2,7 @@
 
 use crate::library::Settings;
 use crate::report_flags::{self, ReportFlags};
-use crate::settings;
+use crate::settings::Both;
 use std::ffi::OsString;
 use std::iter::Peekable;
 use std::path::PathBuf;
@@ -28,11 +28,12 @@ impl Field {
     }
 }
 
-/// What the flags ask for. With floats the field's text is a header alone. With directions these are given. Without an output the sheet goes to standard
-/// output, unless it is to be quiet.
+/// What the flags ask for. With floats the field's text is a header alone. With farms there are two, marked there. With
+/// directions these are given. Without an output the sheet goes to standard output, unless it is to be quiet.
 pub struct Flags {
-    pub settings: Settings,
+    pub settings: Both,
     pub floats: Option<Field>,
+    pub farms: Option<Field>,
     pub directions: Option<Field>,
     pub output: Option<PathBuf>,
     pub grids: Option<PathBuf>,
@@ -87,20 +88,22 @@ impl Take for Flags {
     fn take(&mut self, flag: &str, words: &mut Words) -> Result<(), String> {
         match flag {
             "--floats" => self.floats = Some(Field::of(value(flag, words)?)),
+            "--farms" => self.farms = Some(Field::of(value(flag, words)?)),
             "--directions" => self.directions = Some(Field::of(value(flag, words)?)),
             "--output" => self.output = Some(value(flag, words)?).filter(|v| v != "-").map(PathBuf::from),
             "--grids" => self.grids = Some(value(flag, words)?.into()),
             "--text" => self.text = Some(value(flag, words)?.into()),
             "--quiet" => self.quiet = true,
             "--verbose" => self.verbose = true,
-            _ => settings::take(&mut self.settings, flag, words)?,
+            _ => self.settings.take(flag, words)?,
         }
         Ok(())
     }
 
     fn asked(self, fields: Vec<OsString>) -> Result<Asked, String> {
+        self.settings.used(self.farms.is_some())?;
         let field = only(fields, self.floats.as_ref())?;
-        read_once(std::iter::once(&field).chain(&self.floats).chain(&self.directions))?;
+        read_once(std::iter::once(&field).chain(&self.floats).chain(&self.farms).chain(&self.directions))?;
         Ok(Asked::Map(field, self))
     }
 }
@@ -137,21 +140,22 @@ fn take_all(mut flags: impl Take, mut words: Words) -> Result<Asked, String> {
     flags.asked(fields)
 }
 
-/// Reads the words after the program's name; a setting that no flag gives stays as it is.
+/// Reads the words after the program's name; a setting that no flag gives stays as it is, farm 1's too.
 pub fn read(words: impl Iterator<Item = OsString>, settings: Settings) -> Result<Asked, String> {
     let mut words = self::words(words);
     if words.next_if(|word| word == "report").is_some() {
         return take_all(report_flags::none(settings), words);
     }
-    let (floats, directions, output, grids, text) = (None, None, None, None, None);
-    take_all(Flags { settings, floats, directions, output, grids, text, quiet: false, verbose: false }, words)
+    let (floats, farms, directions) = (None, None, None);
+    let (settings, output, grids, text) = (Both::of(settings), None, None, None);
+    take_all(Flags { settings, floats, farms, directions, output, grids, text, quiet: false, verbose: false }, words)
 }
 
 #[cfg(test)]
 mod tests {
     use super::*;
     use crate::settings::tests::DEFAULTS;
-    use crate::settings::{channel_text, steepness_text};
+    use crate::settings::{channel_text, line};
 
     fn asked(line: &str) -> Result<Asked, String> {
         read(line.split_whitespace().map(OsString::from), DEFAULTS)
@@ -175,8 +179,7 @@ mod tests {
     fn a_field_alone_has_the_defaults() {
         let (name, flags) = wanted("a.asc");
         assert_eq!(name, "a.asc");
-        assert_eq!((flags.settings.low, flags.settings.high), (0.7, 0.5));
-        assert_eq!((channel_text(&flags.settings).as_str(), steepness_text(&flags.settings)), ("percent:1", "older"));
+        assert_eq!(flags.settings.farms.map(|farm| line(&farm)), [line(&DEFAULTS), line(&DEFAULTS)]);
         assert_eq!((flags.output, flags.grids, flags.text), (None, None, None));
         assert_eq!((flags.floats.is_some(), flags.quiet, flags.verbose), (false, false, false));
     }
@@ -184,13 +187,14 @@ mod tests {
     #[test]
     fn each_flag_sets_its_own() {
         let (_, flags) = wanted("--low 0.29 --output out --verbose a.asc --high -0 --grids g --text t");
-        assert_eq!((flags.settings.low, flags.settings.high.to_bits()), (0.29, (-0.0f64).to_bits()));
+        let settings = flags.settings.farms[0];
+        assert_eq!((settings.low, settings.high.to_bits()), (0.29, (-0.0f64).to_bits()));
         assert_eq!((flags.output, flags.grids), (Some("out".into()), Some("g".into())));
         assert_eq!((flags.text, flags.quiet, flags.verbose), (Some("t".into()), false, true));
         assert!(wanted("--quiet a.asc").1.quiet);
-        assert_eq!(wanted("a.asc --low 0.1 --low 0.2").1.settings.low, 0.2);
-        assert_eq!(wanted("a.asc --steepness newer --steepness older").1.settings.formula, 0);
-        assert_eq!(channel_text(&wanted("--channel cells:7 a.asc").1.settings), "cells:7");
+        assert_eq!(wanted("a.asc --low 0.1 --low 0.2").1.settings.farms[0].low, 0.2);
+        assert_eq!(wanted("a.asc --steepness newer --steepness older").1.settings.farms[0].formula, 0);
+        assert_eq!(channel_text(&wanted("--channel cells:7 a.asc").1.settings.farms[0]), "cells:7");
     }
 
     #[test]
@@ -231,6 +235,24 @@ mod tests {
         }
         assert_eq!(wrong("a.asc --directions"), "--directions wants a value");
         assert_eq!(wrong("--directions d.asc"), "no FIELD.asc is named");
+    }
+
+    #[test]
+    fn farms_may_be_marked() {
+        let (name, flags) = wanted("--farms m.asc a.asc --low 0.1 --low1 0.2 --steepness1 newer");
+        assert_eq!((flags.farms.map(|farms| farms.name()), name), (Some("m.asc".into()), "a.asc".into()));
+        let first = "low 0.1, high 0.5, channel percent:1, steepness older";
+        let second = "low 0.2, high 0.5, channel percent:1, steepness newer";
+        assert_eq!(flags.settings.farms.map(|farm| line(&farm)), [first, second]);
+        assert!(wanted("a.asc").1.farms.is_none());
+        assert_eq!(wanted("--farms - --directions d.asc --floats a.flt a.hdr").0, "a.hdr");
+        for line in ["- --farms -", "--farms - --directions - a.asc", "--floats - --farms - a.hdr"] {
+            assert_eq!(wrong(line), "standard input, `-`, can be read only once");
+        }
+        assert_eq!(wrong("a.asc --farms"), "--farms wants a value");
+        assert_eq!(wrong("a.asc --low1 0.5"), "--low1: farm 1 has settings only beside --farms");
+        assert_eq!(wrong("--channel1 none"), "--channel1: farm 1 has settings only beside --farms");
+        assert_eq!(wrong("--low1 half a.asc"), "--low1: \"half\" is not a number that can be handed on");
     }
 
     #[test]

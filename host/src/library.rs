@@ -81,6 +81,44 @@ unsafe extern "C" {
         longest: &mut u32,
     ) -> u32;
 
+    fn lsmap_map_farms(
+        rows: usize,
+        columns: usize,
+        side: u32,
+        low: f64,
+        high: f64,
+        kind: u32,
+        cells: u32,
+        percentage: f64,
+        formula: u32,
+        low1: f64,
+        high1: f64,
+        kind1: u32,
+        cells1: u32,
+        percentage1: f64,
+        formula1: u32,
+        marks: *const u8,
+        marks_len: usize,
+        given: bool,
+        ground: *const i32,
+        ground_len: usize,
+        filled: *mut i32,
+        filled_len: usize,
+        direction: *mut u8,
+        direction_len: usize,
+        count: *mut u32,
+        count_len: usize,
+        lengths: *mut u64,
+        lengths_len: usize,
+        factors: *mut u32,
+        factors_len: usize,
+        workspace: *mut u32,
+        workspace_len: usize,
+        place: &mut usize,
+        valid: &mut u32,
+        longest: &mut u32,
+    ) -> u32;
+
     fn lsmap_room(rows: usize, columns: usize) -> usize;
 
     fn lsmap_write_heights(
@@ -166,6 +204,31 @@ unsafe extern "C" {
         place: &mut usize,
     ) -> u32;
 
+    fn lsmap_report_add_farms(
+        rows: usize,
+        columns: usize,
+        low: f64,
+        high: f64,
+        kind: u32,
+        cells: u32,
+        percentage: f64,
+        formula: u32,
+        low1: f64,
+        high1: f64,
+        kind1: u32,
+        cells1: u32,
+        percentage1: f64,
+        formula1: u32,
+        marks: *const u8,
+        marks_len: usize,
+        count: *const u32,
+        count_len: usize,
+        factors: *const u32,
+        factors_len: usize,
+        report: &mut [u64; 14],
+        place: &mut usize,
+    ) -> u32;
+
     fn lsmap_report_join(report: &mut [u64; 14], other: &[u64; 14], place: &mut usize) -> u32;
 }
 
@@ -202,6 +265,13 @@ pub struct Settings {
     pub cells: u32,
     pub percentage: f64,
     pub formula: u32,
+}
+
+/// What makes two farms of a map beside the settings of farm 0: those of farm 1, and the farm of each cell, 0 or 1.
+#[derive(Clone, Copy)]
+pub struct SecondFarm<'a> {
+    pub settings: Settings,
+    pub marks: &'a [u8],
 }
 
 /// The grids of a map, one value per cell in row order.
@@ -354,6 +424,51 @@ fn map_by(given: bool, h: Header, s: Settings, ground: &[i32], g: &mut Grids) ->
     answer(number, place, t)
 }
 
+/// Maps the ground of two farms into the grids, by our own directions.
+pub fn map_farms(h: Header, s: Settings, f: SecondFarm, ground: &[i32], g: &mut Grids) -> Result<Totals, Refusal> {
+    map_farms_by(false, h, s, f, ground, g)
+}
+
+/// Maps the ground of two farms into the grids, by the directions that stand there.
+pub fn map_farms_given(
+    h: Header,
+    s: Settings,
+    f: SecondFarm,
+    ground: &[i32],
+    g: &mut Grids,
+) -> Result<Totals, Refusal> {
+    map_farms_by(true, h, s, f, ground, g)
+}
+
+/// The map call for two farms, with the directions given or not.
+fn map_farms_by(
+    given: bool,
+    h: Header,
+    s: Settings,
+    SecondFarm { settings: t, marks }: SecondFarm,
+    ground: &[i32],
+    g: &mut Grids,
+) -> Result<Totals, Refusal> {
+    let (mut place, mut totals) = (0, Totals::default());
+    #[rustfmt::skip]
+    let number = unsafe {
+        lsmap_map_farms(
+            h.rows, h.columns, h.side, s.low, s.high, s.kind, s.cells, s.percentage, s.formula,
+            t.low, t.high, t.kind, t.cells, t.percentage, t.formula,
+            marks.as_ptr(), marks.len(), given,
+            ground.as_ptr(), ground.len(),
+            g.filled.as_mut_ptr(), g.filled.len(),
+            g.direction.as_mut_ptr(), g.direction.len(),
+            g.count.as_mut_ptr(), g.count.len(),
+            g.lengths.as_mut_ptr(), g.lengths.len(),
+            g.factors.as_mut_ptr(), g.factors.len(),
+            g.workspace.as_mut_ptr(), g.workspace.len(),
+            &mut place, &mut totals.valid, &mut totals.longest,
+        )
+    };
+    answer(number, place, totals)
+}
+
 /// The bytes in which every text of a shape has room.
 pub fn room(h: Header) -> usize {
     unsafe { lsmap_room(h.rows, h.columns) }
@@ -398,6 +513,28 @@ pub fn add(r: &mut Report, h: Header, s: Settings, count: &[u32], factors: &[u32
     let number = unsafe {
         lsmap_report_add(
             h.rows, h.columns, s.low, s.high, s.kind, s.cells, s.percentage, s.formula,
+            count.as_ptr(), count.len(), factors.as_ptr(), factors.len(), &mut numbers, &mut place,
+        )
+    };
+    *r = Report::of(numbers);
+    answer(number, place, ())
+}
+
+/// Adds the flow counts and LS of a map of two farms to a report.
+pub fn add_farms(
+    r: &mut Report,
+    h: Header,
+    s: Settings,
+    SecondFarm { settings: t, marks }: SecondFarm,
+    count: &[u32],
+    factors: &[u32],
+) -> Result<(), Refusal> {
+    let (mut place, mut numbers) = (0, r.numbers());
+    #[rustfmt::skip]
+    let number = unsafe {
+        lsmap_report_add_farms(
+            h.rows, h.columns, s.low, s.high, s.kind, s.cells, s.percentage, s.formula,
+            t.low, t.high, t.kind, t.cells, t.percentage, t.formula, marks.as_ptr(), marks.len(),
             count.as_ptr(), count.len(), factors.as_ptr(), factors.len(), &mut numbers, &mut place,
         )
     };

@@ -1,7 +1,9 @@
 //! lsmap: the LS factor of an Esri ASCII grid, or of a grid of floats with such a header; and a report over many grids.
 //! It reads the files, lends the memory to the proved library (crates/fullsize), and writes what the library answers. It
-//! judges nothing itself but that given directions have the field's shape.
+//! judges nothing itself but that given directions and the marks of farms have the field's shape.
 
+mod beside;
+mod farms;
 mod faults;
 mod files;
 mod flags;
@@ -37,13 +39,14 @@ const HELP: &str = include_str!("help.txt");
 /// The commit that host/build was run on.
 const VERSION: Option<&str> = option_env!("LSMAP_VERSION");
 
-/// An accepted field with its grids.
+/// An accepted field with its grids, and the farm of each cell where there are two.
 pub struct Map<'a> {
     pub header: Header,
     pub corners: Corners<'a>,
     pub totals: Totals,
     pub ground: Vec<i32>,
     pub grids: Grids,
+    pub marks: Option<Vec<u8>>,
 }
 
 /// Why there is no whole sheet or no report: a refusal with its message, of a report the message alone, something that
@@ -77,9 +80,18 @@ fn tell(message: &str) {
     let _ = writeln!(io::stderr(), "lsmap: {message}");
 }
 
-fn tell_settings(s: &Settings) {
-    let (channel, steepness) = (settings::channel_text(s), settings::steepness_text(s));
-    tell(&format!("low {}, high {}, channel {channel}, steepness {steepness}", s.low, s.high));
+/// Tells the settings, those of each farm where there are two.
+fn tell_settings(settings: &[Settings; 2], farms: bool) {
+    if !farms {
+        return tell(&settings::line(&settings[0]));
+    }
+    let lines = settings.iter().map(settings::line);
+    lines.enumerate().for_each(|(farm, line)| tell(&format!("farm {farm}: {line}")));
+}
+
+/// Tells which file marks the farms of a field.
+fn tell_farms(field: &Field, farms: &Field) {
+    tell(&format!("farms of {} marked by {}", field.name(), farms.name()));
 }
 
 /// The bytes of a file of a field, or of standard input.
@@ -117,7 +129,9 @@ fn write_grids(map: &Map, flags: &Flags) -> Result<(), String> {
 /// A file to be written that is one to be read, with its flag and what is read there.
 fn written_over(field: &Field, flags: &Flags) -> Option<(&'static str, PathBuf, &'static str)> {
     let heights = std::iter::once(field).chain(&flags.floats).map(|file| (file, "the field itself"));
-    let read: Vec<_> = heights.chain(flags.directions.iter().map(|file| (file, "the given directions"))).collect();
+    let marks = flags.farms.iter().map(|file| (file, "the farms' marks"));
+    let codes = flags.directions.iter().map(|file| (file, "the given directions"));
+    let read: Vec<_> = heights.chain(marks).chain(codes).collect();
     let output = flags.output.iter().map(|path| ("--output", path.clone()));
     let texts = flags.text.iter().flat_map(|folder| texts::paths(folder)).map(|path| ("--text", path));
     output.chain(texts).find_map(|(flag, path)| {
@@ -131,14 +145,15 @@ fn written_over(field: &Field, flags: &Flags) -> Option<(&'static str, PathBuf, 
 fn run(field: &Field, flags: &Flags) -> Result<(), Stop> {
     let start = Instant::now();
     if flags.verbose {
-        tell_settings(&flags.settings);
+        tell_settings(&flags.settings.farms, flags.farms.is_some());
+        flags.farms.iter().for_each(|farms| tell_farms(field, farms));
         flags.directions.iter().for_each(|file| tell(&format!("directions given by {}", file.name())));
     }
     if let Some((flag, path, what)) = written_over(field, flags) {
         return Err(Stop::CouldNotRun(format!("{flag}: {} is {what}", path.display())));
     }
     let files = Files::of_flags(field, flags)?;
-    let map = files.map(flags.settings)?;
+    let map = files.map(flags.settings.farms)?;
     write(&map, flags)?;
     if !flags.quiet && io::stderr().is_terminal() {
         tell(&summary::line(&map, start.elapsed().as_secs_f64()));

@@ -14,12 +14,24 @@ macro_rules! names {
 }
 
 /// What a text is: a whole grid of heights; a header alone, whose heights are floats in another file; or a whole grid of
-/// given directions.
+/// given directions, or of the farms' marks.
 #[derive(Clone, Copy)]
 pub enum Text {
     Grid,
     Header,
     Codes,
+    Marks,
+}
+
+impl Text {
+    /// What the cells have.
+    pub fn cells(self) -> &'static str {
+        match self {
+            Text::Grid | Text::Header => "heights",
+            Text::Codes => "codes",
+            Text::Marks => "marks",
+        }
+    }
 }
 
 /// What refusals 1 to 10 of the text's calls expect, as docs/RULES.md 3 has them; of 7 and 12 the word itself tells it.
@@ -53,6 +65,16 @@ fn expected_codes(number: u32) -> &'static str {
         8 => "a digit after the second decimal has to be 0",
         10 => "nothing may follow the last code",
         _ => expected(number),
+    }
+}
+
+/// The same of marks; of their decimals as of those of codes.
+fn expected_marks(number: u32) -> &'static str {
+    match number {
+        5 => "a mark is 0 or 1",
+        6 => names!("the marks"),
+        10 => "nothing may follow the last mark",
+        _ => expected_codes(number),
     }
 }
 
@@ -96,13 +118,13 @@ fn is_marked(text: &[u8]) -> bool {
     marks.iter().any(|mark| text.starts_with(mark))
 }
 
-/// What is likely behind a refusal, where its number and the bytes there tell; a cell has a height or a code.
-fn hint(text: &[u8], refusal: Refusal, header: Option<Header>, cells: &str) -> String {
+/// What is likely behind a refusal, where its number and the bytes there tell.
+fn hint(text: &[u8], refusal: Refusal, header: Option<Header>, kind: Text) -> String {
     match (refusal.number, header) {
         (6, _) if refusal.place == 0 && is_marked(text) => {
             "; the text begins with a byte order mark: save it as plain text without one".to_string()
         }
-        (9 | 10, Some(h)) => format!("; the header asks for {} rows of {} {cells}", h.rows, h.columns),
+        (9 | 10, Some(h)) => format!("; the header asks for {} rows of {} {}", h.rows, h.columns, kind.cells()),
         (9, None) if text.is_empty() => "; the text is empty".to_string(),
         _ => String::new(),
     }
@@ -115,7 +137,7 @@ fn hint_alone(text: &[u8], refusal: Refusal) -> String {
         6 if refusal.place == 0 && is_order => "; docs/FROM-GIS.md makes this header of GDAL's own".to_string(),
         6 | 10 if is_order => "; leave the line out: floats are little-endian here".to_string(),
         10 => String::new(),
-        _ => hint(text, refusal, None, "heights"),
+        _ => hint(text, refusal, None, Text::Header),
     }
 }
 
@@ -129,21 +151,34 @@ pub fn of_text(text: &[u8], refusal: Refusal, header: Option<Header>, kind: Text
     let why = match (number, kind) {
         (7, _) => Word::around(text, place).fault(),
         (12, _) => Word::around(text, place).comma(),
-        (_, Text::Grid) => format!("{}{}", expected(number), hint(text, refusal, header, "heights")),
-        (_, Text::Codes) => format!("{}{}", expected_codes(number), hint(text, refusal, header, "codes")),
+        (_, Text::Grid) => format!("{}{}", expected(number), hint(text, refusal, header, kind)),
+        (_, Text::Codes) => format!("{}{}", expected_codes(number), hint(text, refusal, header, kind)),
+        (_, Text::Marks) => format!("{}{}", expected_marks(number), hint(text, refusal, header, kind)),
         (_, Text::Header) => format!("{}{}", expected_alone(number), hint_alone(text, refusal)),
     };
     format!("refused {number} at {place} (line {line}, column {column}, {}): {why}", shown(text, refusal))
 }
 
-/// The message for a refusal of the map call, whose place is a setting or a cell.
-pub fn of_map(refusal: Refusal, header: Header) -> String {
+/// What the setting at a place of refusal 4 takes: 1, 2, 3 and 7 are those of one farm or of farm 0, the others farm 1's.
+fn setting(place: usize, farms: bool) -> String {
+    let (whose, number) = match (place, farms) {
+        (1 | 2 | 3 | 7, true) => ("farm 0's ", ""),
+        (1 | 2 | 3 | 7, false) => ("", ""),
+        _ => ("farm 1's ", "1"),
+    };
+    match place {
+        1 | 4 => format!("{whose}--low{number} is a cutoff: 0.00, 0.01 and so on up to 1.00"),
+        2 | 5 => format!("{whose}--high{number} is a cutoff: 0.00, 0.01 and so on up to 1.00"),
+        3 | 6 => format!("{whose}--channel{number} percent:P takes 0.0, 0.1 and so on up to 100.0"),
+        _ => format!("{whose}--steepness{number} takes older or newer"),
+    }
+}
+
+/// The message for a refusal of the map call, of one farm or of two, whose place is a setting or a cell.
+pub fn of_map(refusal: Refusal, header: Header, farms: bool) -> String {
     let Refusal { number, place } = refusal;
     let what = match (number, place) {
-        (4, 1) => "--low is a cutoff: 0.00, 0.01 and so on up to 1.00".to_string(),
-        (4, 2) => "--high is a cutoff: 0.00, 0.01 and so on up to 1.00".to_string(),
-        (4, 7) => "--steepness takes older or newer".to_string(),
-        (4, _) => "--channel percent:P takes 0.0, 0.1 and so on up to 100.0".to_string(),
+        (4, place) => setting(place, farms),
         (5, cell) => format!("{}: {}", cell_name(cell, header), expected(5)),
         _ => expected(number).to_string(),
     };
@@ -167,7 +202,7 @@ pub fn of_report(refusal: Refusal) -> String {
     let Refusal { number, place } = refusal;
     let what = match number {
         16 => "with it a total, the number of maps or the map of the greatest LS would no longer fit 64 bits",
-        _ => "the map's own shape or settings are not taken, which is a fault of lsmap",
+        _ => "the map's own shape, settings or marks are not taken, which is a fault of lsmap",
     };
     format!("refused {number} at {place}: {what}")
 }
@@ -270,6 +305,17 @@ mod tests {
     }
 
     #[test]
+    fn farms_have_marks() {
+        let said = |number, header| of_text(b"x", Refusal { number, place: 0 }, header, Text::Marks);
+        assert!(said(5, None).ends_with("(line 1, column 1, at `x`): a mark is 0 or 1"));
+        assert!(said(6, None).ends_with("cellsize, then nodata_value or the marks"));
+        assert!(said(8, None).ends_with("): a digit after the second decimal has to be 0"));
+        assert!(said(9, Some(ONE_ROW)).ends_with("; the header asks for 1 rows of 3 marks"));
+        assert!(said(10, None).ends_with("nothing may follow the last mark"));
+        assert!(said(3, None).ends_with("the cell side is from 0.01 to 1000 m"));
+    }
+
+    #[test]
     fn the_byte_order_of_other_headers_gets_a_hint() {
         let text = format!("{HEADER_LINE}byteorder LSBFIRST");
         for number in [6, 10] {
@@ -283,13 +329,30 @@ mod tests {
 
     #[test]
     fn settings_and_cells_are_named() {
-        let said = |number, place| of_map(Refusal { number, place }, ONE_ROW);
+        let said = |number, place| of_map(Refusal { number, place }, ONE_ROW, false);
         assert!(said(4, 1).starts_with("refused 4 at 1: --low is a cutoff"));
         assert!(said(4, 2).starts_with("refused 4 at 2: --high is a cutoff"));
         assert!(said(4, 3).starts_with("refused 4 at 3: --channel percent:P takes"));
         assert_eq!(said(4, 7), "refused 4 at 7: --steepness takes older or newer");
         assert!(said(5, 5).starts_with("refused 5 at 5: row 1, column 2: a height is"));
         assert!(said(2, 0).starts_with("refused 2 at 0: a lent grid has the wrong length"));
+    }
+
+    #[test]
+    fn the_settings_of_two_farms_are_named() {
+        let said = |place| of_map(Refusal { number: 4, place }, ONE_ROW, true);
+        for (place, words) in [
+            (1, "farm 0's --low is a cutoff: 0.00, 0.01 and so on"),
+            (2, "farm 0's --high is a cutoff"),
+            (3, "farm 0's --channel percent:P takes 0.0, 0.1 and"),
+            (4, "farm 1's --low1 is a cutoff: 0.00, 0.01 and so on"),
+            (5, "farm 1's --high1 is a cutoff"),
+            (6, "farm 1's --channel1 percent:P takes 0.0, 0.1 and"),
+            (7, "farm 0's --steepness takes older or newer"),
+            (8, "farm 1's --steepness1 takes older or newer"),
+        ] {
+            assert!(said(place).starts_with(&format!("refused 4 at {place}: {words}")), "{place}: {}", said(place));
+        }
     }
 
     #[test]
@@ -310,6 +373,6 @@ mod tests {
         assert!(
             said(16).starts_with("refused 16 at 0: with it a total, the number of maps or the map of the greatest LS")
         );
-        assert!([1, 2, 4].iter().all(|&number| said(number).ends_with("which is a fault of lsmap")));
+        assert!([1, 2, 4, 19].iter().all(|&number| said(number).ends_with("which is a fault of lsmap")));
     }
 }

@@ -2,14 +2,16 @@
 
 use crate::flags::{Asked, Field, Take, Words, read_once, text, value};
 use crate::library::Settings;
-use crate::settings;
+use crate::settings::Both;
 use std::ffi::OsString;
 use std::num::NonZero;
 use std::path::PathBuf;
 
-/// What a report's flags ask for. Without a number of jobs there are as many as the machine has processors.
+/// What a report's flags ask for. Farms are none, or the marks of each field. Without a number of jobs there are as many
+/// as the machine has processors.
 pub struct ReportFlags {
-    pub settings: Settings,
+    pub settings: Both,
+    pub farms: Vec<Field>,
     pub jobs: Option<NonZero<usize>>,
     pub joined: Vec<Field>,
     pub save: Option<PathBuf>,
@@ -19,7 +21,8 @@ pub struct ReportFlags {
 
 /// No flags, under these settings.
 pub fn none(settings: Settings) -> ReportFlags {
-    ReportFlags { settings, jobs: None, joined: Vec::new(), save: None, quiet: false, verbose: false }
+    let (settings, farms, joined) = (Both::of(settings), Vec::new(), Vec::new());
+    ReportFlags { settings, farms, jobs: None, joined, save: None, quiet: false, verbose: false }
 }
 
 /// The number of jobs that a word gives.
@@ -38,6 +41,7 @@ fn file(word: OsString) -> Result<PathBuf, String> {
 impl Take for ReportFlags {
     fn take(&mut self, flag: &str, words: &mut Words) -> Result<(), String> {
         match flag {
+            "--farms" => self.farms.push(Field::of(value(flag, words)?)),
             "--jobs" => self.jobs = Some(jobs(&text(flag, words)?)?),
             "--join" => self.joined.push(Field::of(value(flag, words)?)),
             "--save" => self.save = Some(file(value(flag, words)?)?),
@@ -52,16 +56,22 @@ impl Take for ReportFlags {
                 let why = "a report has neither a sheet nor grids to write; --save FILE writes the report";
                 return value(flag, words).and(Err(format!("{flag}: {why}")));
             }
-            _ => settings::take(&mut self.settings, flag, words)?,
+            _ => self.settings.take(flag, words)?,
         }
         Ok(())
     }
 
     fn asked(self, fields: Vec<OsString>) -> Result<Asked, String> {
         let fields: Vec<Field> = fields.into_iter().map(Field::of).collect();
-        read_once(self.joined.iter().chain(&fields))?;
+        self.settings.used(!self.farms.is_empty())?;
+        read_once(self.joined.iter().chain(&self.farms).chain(&fields))?;
         if fields.is_empty() && self.joined.is_empty() {
             return Err("no FIELD.asc is named, and no report with --join".to_string());
+        }
+        let (marks, number) = (self.farms.len(), fields.len());
+        if marks > 0 && marks != number {
+            let rule = "--farms names one MARKS.asc for each field, in their order";
+            return Err(format!("{rule}; there are {marks} for {number}"));
         }
         Ok(Asked::Report(fields, self))
     }
@@ -71,8 +81,8 @@ impl Take for ReportFlags {
 mod tests {
     use super::*;
     use crate::flags::read;
+    use crate::settings;
     use crate::settings::tests::DEFAULTS;
-    use crate::settings::{channel_text, steepness_text};
 
     fn asked(line: &str) -> Result<Asked, String> {
         read(format!("report {line}").split_whitespace().map(OsString::from), DEFAULTS)
@@ -108,11 +118,30 @@ mod tests {
         let line =
             "a.asc --low 0.2 --high 0.3 --channel cells:9 --steepness newer --jobs 3 --save s.txt --quiet --verbose";
         let (_, _, flags) = wanted(line);
-        assert_eq!((flags.settings.low, flags.settings.high), (0.2, 0.3));
-        assert_eq!((channel_text(&flags.settings), steepness_text(&flags.settings)), ("cells:9".into(), "newer"));
+        let settings = flags.settings.farms[0];
+        assert_eq!(settings::line(&settings), "low 0.2, high 0.3, channel cells:9, steepness newer");
         assert_eq!((flags.jobs.map(NonZero::get), flags.save), (Some(3), Some("s.txt".into())));
         assert!(flags.quiet && flags.verbose);
         assert_eq!(wanted("a.asc --jobs 3 --jobs 1").2.jobs.map(NonZero::get), Some(1));
+    }
+
+    #[test]
+    fn each_field_has_its_farms_or_none() {
+        let (fields, _, flags) = wanted("--farms 1.asc a.asc --farms 2.asc b.asc --high1 0.1 --join r.txt");
+        let farms: Vec<String> = flags.farms.iter().map(Field::name).collect();
+        assert_eq!((fields, farms), (vec!["a.asc".into(), "b.asc".into()], vec!["1.asc".into(), "2.asc".into()]));
+        assert_eq!(flags.settings.farms.map(|farm| farm.high), [0.5, 0.1]);
+        assert!(wanted("a.asc b.asc").2.farms.is_empty());
+        let why = |marks, fields| {
+            format!("--farms names one MARKS.asc for each field, in their order; there are {marks} for {fields}")
+        };
+        assert_eq!(wrong("--farms 1.asc a.asc b.asc"), why(1, 2));
+        assert_eq!(wrong("--farms 1.asc --farms 2.asc a.asc"), why(2, 1));
+        assert_eq!(wrong("--farms 1.asc --join r.txt"), why(1, 0));
+        assert_eq!(wrong("--farms 1.asc"), "no FIELD.asc is named, and no report with --join");
+        assert_eq!(wrong("a.asc --low1 0.5"), "--low1: farm 1 has settings only beside --farms");
+        assert_eq!(wrong("a.asc --farms"), "--farms wants a value");
+        assert_eq!(wrong("- --farms -"), "standard input, `-`, can be read only once");
     }
 
     #[test]

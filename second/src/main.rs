@@ -1,5 +1,5 @@
-//! The second program: the readers, the map, given directions, the sheet, the writer and the report of docs/RULES.md once
-//! more, literal rather than fast.
+//! The second program: the readers, the map, given directions, two farms, the sheet, the writer and the report of
+//! docs/RULES.md once more, literal rather than fast.
 
 mod checks;
 mod command;

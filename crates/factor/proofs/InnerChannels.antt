@@ -1,7 +1,7 @@
 -- Counts of channels, as the code bounds them. Assumes nothing.
 use mathlib.Core.Path.{_≡_, sym, ap, _∙_}
-use mathlib.Core.List.{List}
-use Prim.Native.Nat.{ℕ, _*_, _/_, _≤_, _<_}
+use mathlib.Core.List.{List, [], _∷_}
+use Prim.Native.Nat.{ℕ, zero, suc, _*_, _/_, _≤_, _<_}
 use native.Mathlib.Omega.{arith}
 use native.Mathlib.Decide.{decLt}
 use lib.ListN.{length, getD}
@@ -9,7 +9,9 @@ use lib.Dec.{ltb}
 use borrow.Author.Tests.{lt-ltb, le-ltb}
 use Rattle.laws.proofs.Sums.{greatest-ge}
 use Rattle.settings.specs.declared.Rules.{Rules}
+use Rattle.factor.specs.Farms.{ofFarm}
 use Rattle.factor.specs.Channel.{isChannel, largestOf, channelAt}
+use Rattle.factor.specs.InnerPass.{Bounds}
 
 -- a share of the largest count, as a whole number of cells
 pub share-test : (m c : ℕ) → ltb (m / 1000) c ≡ ltb m (1000 * c)
@@ -31,3 +33,13 @@ pub bounded : (rows cols : ℕ) (rules : Rules) (most : ℕ) (count : List ℕ) 
 unfolding channelAt
 bounded rows cols rules most count e m x h =
     m (getD count x 0) (largest-ge count x (omega arith)) ∙ ap (λ (n : ℕ). isChannel (rules .threshold) (largestOf n count) (getD count x 0)) e
+
+-- the bounds of two farms
+pub bounds-both : (first second : Rules) (largest a b : ℕ) → ((c : ℕ) → c ≤ largest → ltb a c ≡ isChannel (first .threshold) largest c) →
+    ((c : ℕ) → c ≤ largest → ltb b c ≡ isChannel (second .threshold) largest c) → Bounds first second largest (a ∷ b ∷ [])
+bounds-both first second largest a b p q = record { tells = go }
+  where
+    go : (farm c : ℕ) → farm < 2 → c ≤ largest → ltb (getD (a ∷ b ∷ []) farm 0) c ≡ isChannel (ofFarm first second farm .threshold) largest c
+    go zero c h l = p c l
+    go (suc zero) c h l = q c l
+    go (suc (suc n)) c h l = absurd (omega arith)

@@ -1,4 +1,5 @@
--- What is gathered at a cell along the order: one more than the greatest amount that its inflows bring. It is handed on from cell to cell, and the length is made of it. Assumes nothing.
+-- What is gathered at a cell along the order: one more than the greatest amount that its inflows bring. It is handed on from cell to cell, and the
+-- length is made of it. Assumes nothing.
 use mathlib.Core.Path.{_≡_, sym, ap, _∙_}
 use mathlib.Core.List.{List}
 use mathlib.Core.Logic.{⊎-elim}
@@ -26,7 +27,7 @@ use Rattle.factor.specs.Length.{broughtTo, lengthIn}
 use Rattle.factor.specs.Inner.{greatestLength, finalLength}
 use Rattle.factor.proofs.Lengths.{brought-le, most, from-is, length-local, length-small}
 
-module _ (rows cols side : ℕ) (rules : Rules) (lv dir count : List ℕ) where
+module _ (rows cols side : ℕ) (rules : ℕ → Rules) (lv dir count : List ℕ) where
   -- the length of the cell z
   abbrev pub lengthAt : ℕ → ℕ
   lengthAt z = lengthIn rows cols side rules lv dir count (rows * cols) z
@@ -34,19 +35,19 @@ module _ (rows cols side : ℕ) (rules : Rules) (lv dir count : List ℕ) where
   -- one more than the greatest amount that is brought to z; 0 for none
   unfoldable pub gatheredAt : ℕ → ℕ
   unfolding receiverOf broughtTo lengthIn
-  gatheredAt z = greatestTo (rows * cols) (λ x. when (eqb (receiverOf rows cols dir x) z) (broughtTo rows cols side rules lv dir z x (lengthAt x) + 1))
+  gatheredAt z = greatestTo (rows * cols) (λ x. when (eqb (receiverOf rows cols dir x) z) (broughtTo rows cols side (rules z) lv dir z x (lengthAt x) + 1))
 
   -- what becomes of what is gathered at z when its turn comes
   unfoldable pub finalAt : ℕ → ℕ → ℕ
   unfolding finalLength channelAt
-  finalAt z m = finalLength (channelAt rows cols rules count z) (startLength (getD dir z 255)) m
+  finalAt z m = finalLength (channelAt rows cols (rules z) count z) (startLength (getD dir z 255)) m
 
   -- one more than what x gives, when so much is gathered at x
   unfoldable pub givenBy : ℕ → ℕ → ℕ
   unfolding broughtTo finalAt receiverOf
-  givenBy x m = broughtTo rows cols side rules lv dir (receiverOf rows cols dir x) x (finalAt x m) + 1
+  givenBy x m = broughtTo rows cols side (rules (receiverOf rows cols dir x)) lv dir (receiverOf rows cols dir x) x (finalAt x m) + 1
 
-module _ {rows cols : ℕ} {dir : List ℕ} (d : Directed rows cols dir) (side : ℕ) (rules : Rules) (lv count : List ℕ) where
+module _ {rows cols : ℕ} {dir : List ℕ} (d : Directed rows cols dir) (side : ℕ) (rules : ℕ → Rules) (lv count : List ℕ) where
   abbrev n : ℕ
   n = rows * cols
 
@@ -72,7 +73,7 @@ module _ {rows cols : ℕ} {dir : List ℕ} (d : Directed rows cols dir) (side :
   given = givenBy rows cols side rules lv dir count
 
   abbrev brings : ℕ → ℕ → ℕ
-  brings z x = broughtTo rows cols side rules lv dir z x (len x)
+  brings z x = broughtTo rows cols side (rules z) lv dir z x (len x)
 
   -- by the sides of the cell
   gathered-sides : (z : ℕ) → z < n → gathered z ≡ greatestTo 8 (λ k. when (into z k) (brings z (nb z k) + 1))
@@ -91,18 +92,20 @@ module _ {rows cols : ℕ} {dir : List ℕ} (d : Directed rows cols dir) (side :
       let g : 1 ≤ gathered z = omega (arith, gathered-sides z h, one, when-yes (brings z (nb z (s .0)) + 1) (s .2)) in
       rw (le-ltb (gathered z) 1 g, e) (ap (λ (m : ℕ). m - 1) (gathered-sides z h) ∙ greatest-less 8 (into z) (λ k. brings z (nb z k))))
       (λ e.
-      let none = greatest-le 8 (λ k. when (into z k) (brings z (nb z k) + 1)) 0 (λ k i. omega (arith, when-no (brings z (nb z k) + 1) (none-at (into z) 8 k e i))) in
+      let none = greatest-le 8 (λ k. when (into z k) (brings z (nb z k) + 1)) 0
+      (λ k i. omega (arith, when-no (brings z (nb z k) + 1) (none-at (into z) 8 k e i))) in
       let g : gathered z ≡ 0 = omega (arith, gathered-sides z h, none) in
       rw (lt-ltb (gathered z) 1 (omega arith), e))
       (two (someOf (into z) 8))
 
   -- what becomes of it is the length
-  pub final-is : (z : ℕ) → mappedAt rows cols dir z ≡ true → finalAt rows cols side rules lv dir count z (gatheredAt rows cols side rules lv dir count z) ≡ lengthAt rows cols side rules lv dir count z
+  pub final-is : (z : ℕ) → mappedAt rows cols dir z ≡ true → finalAt rows cols side rules lv dir count z
+      (gatheredAt rows cols side rules lv dir count z) ≡ lengthAt rows cols side rules lv dir count z
   unfolding finalAt finalLength
   final-is z v =
       let start = startLength (getD dir z 255) in
-      ap (λ (m : ℕ). cond (channelAt rows cols rules count z) 0 m) (final-inflows z (pointing (d .drawn) .within z v))
-      ∙ sym (ap (λ (b : Bool). cond b (cond (channelAt rows cols rules count z) 0 (cond (someOf (into z) 8) (most d side rules lv count len z) start)) 0) v)
+      ap (λ (m : ℕ). cond (channelAt rows cols (rules z) count z) 0 m) (final-inflows z (pointing (d .drawn) .within z v))
+      ∙ sym (ap (λ (b : Bool). cond b (cond (channelAt rows cols (rules z) count z) 0 (cond (someOf (into z) 8) (most d side rules lv count len z) start)) 0) v)
       ∙ sym (length-local d side rules lv count z ∙ from-is d side rules lv count len z)
 
   -- NoData has no length
@@ -125,13 +128,13 @@ module _ {rows cols : ℕ} {dir : List ℕ} (d : Directed rows cols dir) (side :
       greatest-le n (λ x. when (eqb (recv x) z) (brings z x + 1)) greatestLength (λ x l. omega (arith, when-under (eqb (recv x) z) (brings z x + 1), one x))
     where
       one : (x : ℕ) → brings z x ≤ 14900000000 + 14142
-      one x = brought-le rows cols side rules lv dir z x (len x) 14900000000 (length-small d side rules lv count x)
+      one x = brought-le rows cols side (rules z) lv dir z x (len x) 14900000000 (length-small d side rules lv count x)
 
   -- what a cell gives is what it brings to the cell that it points at
   given-is : (z x : ℕ) → z < n → recv x ≡ z → brings z x + 1 ≡ given x (gathered x)
   unfolding givenBy
   given-is z x h e =
-      let whole = ap (λ (m : ℕ). broughtTo rows cols side rules lv dir (recv x) x m + 1) (final-is x (pointing (d .drawn) .from x (omega arith))) in
+      let whole = ap (λ (m : ℕ). broughtTo rows cols side (rules (recv x)) lv dir (recv x) x m + 1) (final-is x (pointing (d .drawn) .from x (omega arith))) in
       sym (whole ∙ ap (λ (y : ℕ). brings y x + 1) e)
 
   local : (z : ℕ) → z < n → gathered z ≡ greatestTo n (λ x. when (eqb (recv x) z) (given x (gathered x)))

@@ -87,7 +87,7 @@ module _ (rows cols side : ℕ) (rules : Rules) (lv dir : List ℕ) where
       amount-le (cutoffAt rows cols side rules lv dir z) (steepnessAt rows cols lv dir z) (steepnessAt rows cols lv dir x)
       (startLength (getD dir z 255)) (stepOver k) a b (step-le k) (start-le (getD dir z 255)) h
 
-module _ {rows cols : ℕ} {dir : List ℕ} (d : Directed rows cols dir) (side : ℕ) (rules : Rules) (lv count : List ℕ) where
+module _ {rows cols : ℕ} {dir : List ℕ} (d : Directed rows cols dir) (side : ℕ) (rules : ℕ → Rules) (lv count : List ℕ) where
   abbrev size : ℕ
   size = rows * cols
 
@@ -101,7 +101,7 @@ module _ {rows cols : ℕ} {dir : List ℕ} (d : Directed rows cols dir) (side :
   into = intoAt rows cols dir
 
   abbrev brings : (ℕ → ℕ) → ℕ → ℕ → ℕ
-  brings f z k = broughtTo rows cols side rules lv dir z (nb z k) (f (nb z k))
+  brings f z k = broughtTo rows cols side (rules z) lv dir z (nb z k) (f (nb z k))
 
   abbrev from : (ℕ → ℕ) → ℕ → ℕ
   from = lengthFrom rows cols side rules lv dir count
@@ -115,10 +115,11 @@ module _ {rows cols : ℕ} {dir : List ℕ} (d : Directed rows cols dir) (side :
   -- ---- the rule of a cell's length
 
   abbrev pub most : (ℕ → ℕ) → ℕ → ℕ
-  most f z = greatestTo 8 (λ k. when (intoAt rows cols dir z k) (broughtTo rows cols side rules lv dir z (neighbour rows cols z k) (f (neighbour rows cols z k))))
+  most f z = greatestTo 8 (λ k. when (intoAt rows cols dir z k)
+      (broughtTo rows cols side (rules z) lv dir z (neighbour rows cols z k) (f (neighbour rows cols z k))))
 
   abbrev lengthBy : ℕ → ℕ → ℕ
-  lengthBy z g = cond (mappedAt rows cols dir z) (cond (channelAt rows cols rules count z) 0 (cond (someOf (into z) 8) g (startLength (getD dir z 255)))) 0
+  lengthBy z g = cond (mappedAt rows cols dir z) (cond (channelAt rows cols (rules z) count z) 0 (cond (someOf (into z) 8) g (startLength (getD dir z 255)))) 0
 
   pub from-is : (f : ℕ → ℕ) (z : ℕ) → lengthFrom rows cols side rules lv dir count f z ≡ lengthBy z (most f z)
   unfolding lengthFrom
@@ -133,23 +134,24 @@ module _ {rows cols : ℕ} {dir : List ℕ} (d : Directed rows cols dir) (side :
   -- it depends on the inflows alone, and is at most one step more than a bound of theirs
   from-ext : (f g : ℕ → ℕ) (z : ℕ) → ((k : ℕ) → into z k ≡ true → f (nb z k) ≡ g (nb z k)) → from f z ≡ from g z
   from-ext f g z h =
-      from-is f z ∙ ap (lengthBy z) (greatest-ext 8 (λ k. when (into z k) (brings f z k)) (λ k. when (into z k) (brings g z k)) (λ k l. same k)) ∙ sym (from-is g z)
+      from-is f z ∙ ap (lengthBy z) (greatest-ext 8 (λ k. when (into z k) (brings f z k)) (λ k. when (into z k) (brings g z k)) (λ k l. same k))
+      ∙ sym (from-is g z)
     where
       same : (k : ℕ) → when (into z k) (brings f z k) ≡ when (into z k) (brings g z k)
-      same k = when-ext (into z k) (brings f z k) (brings g z k) (λ e. ap (broughtTo rows cols side rules lv dir z (nb z k)) (h k e))
+      same k = when-ext (into z k) (brings f z k) (brings g z k) (λ e. ap (broughtTo rows cols side (rules z) lv dir z (nb z k)) (h k e))
 
   from-le : (f : ℕ → ℕ) (z b : ℕ) → ((y : ℕ) → f y ≤ b) → from f z ≤ b + 14142
   from-le f z b h =
       omega (
         arith,
         from-is f z,
-        by-le (mappedAt rows cols dir z) (channelAt rows cols rules count z) (someOf (into z) 8) (most f z) (startLength (getD dir z 255)) (b + 14142)
+        by-le (mappedAt rows cols dir z) (channelAt rows cols (rules z) count z) (someOf (into z) 8) (most f z) (startLength (getD dir z 255)) (b + 14142)
             (greatest-le 8 (λ k. when (into z k) (brings f z k)) (b + 14142) (λ k i. omega (arith, when-under (into z k) (brings f z k), one k)))
             (omega (arith, start-le (getD dir z 255))),
       )
     where
       one : (k : ℕ) → brings f z k ≤ b + 14142
-      one k = brought-le rows cols side rules lv dir z (nb z k) (f (nb z k)) b (h (nb z k))
+      one k = brought-le rows cols side (rules z) lv dir z (nb z k) (f (nb z k)) b (h (nb z k))
 
   -- ---- the length of a cell from its inflows' lengths
 
@@ -163,11 +165,14 @@ module _ {rows cols : ℕ} {dir : List ℕ} (d : Directed rows cols dir) (side :
 
   -- as many steps as there are ranks above a cell's are enough
   length-stay : (m z : ℕ) → size - rank z ≤ m → inSteps (suc m) z ≡ inSteps m z
-  length-stay zero z h = length-more 0 z ∙ from-ext (inSteps 0) (λ y. 0) z (λ k e. absurd (omega (arith, into-above d z k e, rank-le (nb z k)))) ∙ sym (length-none z)
+  length-stay zero z h = length-more 0 z ∙ from-ext (inSteps 0) (λ y. 0) z (λ k e. absurd (omega (arith, into-above d z k e, rank-le (nb z k))))
+      ∙ sym (length-none z)
   length-stay (suc m) z h =
-      length-more (suc m) z ∙ from-ext (inSteps (suc m)) (inSteps m) z (λ k e. length-stay m (nb z k) (omega (arith, into-above d z k e, rank-le (nb z k)))) ∙ sym (length-more m z)
+      length-more (suc m) z ∙ from-ext (inSteps (suc m)) (inSteps m) z
+      (λ k e. length-stay m (nb z k) (omega (arith, into-above d z k e, rank-le (nb z k)))) ∙ sym (length-more m z)
 
-  pub length-local : (z : ℕ) → lengthIn rows cols side rules lv dir count (rows * cols) z ≡ lengthFrom rows cols side rules lv dir count (lengthIn rows cols side rules lv dir count (rows * cols)) z
+  pub length-local : (z : ℕ) → lengthIn rows cols side rules lv dir count (rows * cols) z ≡ lengthFrom rows cols side rules lv dir count
+      (lengthIn rows cols side rules lv dir count (rows * cols)) z
   length-local z = sym (length-stay size z (omega arith)) ∙ length-more size z
 
   length-le : (m z : ℕ) → inSteps m z ≤ (m + 1) * 14142
@@ -184,6 +189,7 @@ module _ {rows cols : ℕ} {dir : List ℕ} (d : Directed rows cols dir) (side :
   unfolding lengthsOf
   lengths-long = length-tab (rows * cols) _
 
-  pub lengths-at : (z : ℕ) → z < rows * cols → getD (lengthsOf rows cols side rules lv dir count) z 0 ≡ lengthIn rows cols side rules lv dir count (rows * cols) z
+  pub lengths-at : (z : ℕ) → z < rows * cols → getD (lengthsOf rows cols side rules lv dir count) z 0 ≡ lengthIn rows cols side rules lv dir count
+      (rows * cols) z
   unfolding lengthsOf
   lengths-at z h = getD-tab (rows * cols) (inSteps size) 0 z h

@@ -9,6 +9,7 @@ pub mod Lengths
 pub mod Judging
 pub mod GivenBack
 pub mod Answers
+pub mod Apart
 pub mod InnerGuesses
 pub mod InnerChannels
 pub mod InnerGathering

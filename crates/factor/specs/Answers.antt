@@ -1,5 +1,5 @@
 -- RULES 3 and 7.2 to 7.4: what the map call answers, and what each lent grid holds afterwards; and the tests 1 to 4 by themselves. Assumes nothing.
-use mathlib.Core.List.{List, [], _∷_}
+use mathlib.Core.List.{List, [], _∷_, _++_}
 use mathlib.Core.Path.{_≡_}
 use mathlib.Core.Bool.{Bool, true, false, cond}
 use Prim.Native.Nat.{ℕ, _*_}
@@ -16,12 +16,15 @@ use Rattle.terrain.specs.Filled.{filledLevels, filledOf}
 use Rattle.terrain.specs.Trail.{countsOf, longestOf}
 use Rattle.terrain.specs.Answers.{groundValids, groundDirections, sourceTests, directionsBy, leavesZeros}
 use Rattle.terrain.specs.declared.Source.{Source}
+use Rattle.factor.specs.Farms.{Farms, one, two, rulesIn, markPlaces, secondPlaces, settingsTests, markTest, markTests}
 use Rattle.factor.specs.Length.{lengthsOf}
 use Rattle.factor.specs.Grid.{factorsOf}
 use Rattle.factor.specs.declared.Answer.{Answer}
 use Rattle.factor.specs.declared.Answer.the-variants.{Accepted, Refused}
 use Rattle.factor.specs.declared.tests.Judgement.{Judgement}
 use Rattle.factor.specs.declared.tests.Judgement.the-variants.{Sound, Unsound}
+use Rattle.factor.specs.declared.tests.FarmJudgement.{FarmJudgement}
+use Rattle.factor.specs.declared.tests.FarmJudgement.the-variants as farm
 
 -- the grids that a call is lent to write
 pub record Grids : Type 0 where
@@ -55,26 +58,36 @@ abbrev pub placesOf : List ℤ → Grids → List ℕ
 placesOf ground g =
     length ground ∷ length (g .filled) ∷ length (g .direction) ∷ length (g .count) ∷ length (g .lengths) ∷ length (g .factors) ∷ length (g .workspace) ∷ []
 
--- The map call tests 1, 2, 3, 4, 5 in that order, 5 at the first bad cell in row order; then, if the lent directions are given ones, 17 and 18.
-unfoldable pub tests : ℕ → ℕ → ℕ → Settings → Source → List ℤ → Grids → List Test
-unfolding filledLevels
-tests rows cols side settings source ground g =
-    sizeTest rows cols ∷ lengthTest (rows * cols) (placesOf ground g) ∷ sideTest side ∷ settingsTest settings ∷ heightTest (rows * cols) ground
-    ∷ sourceTests source rows cols (filledLevels rows cols ground) (g .direction)
+-- the tests 1, 2, 3, 4 in that order
+unfoldable pub earlyTests : ℕ → ℕ → ℕ → Farms → List ℤ → Grids → List Test
+earlyTests rows cols side farms ground g =
+    sizeTest rows cols ∷ lengthTest (rows * cols) (markPlaces farms ++ placesOf ground g) ∷ sideTest side ∷ settingsTests farms
+
+-- the tests that are made before the heights are looked at: 19 after 4
+unfoldable pub firstTests : ℕ → ℕ → ℕ → Farms → List ℤ → Grids → List Test
+unfolding earlyTests markTest
+firstTests rows cols side farms ground g = earlyTests rows cols side farms ground g ++ markTests (rows * cols) farms
+
+-- The map call tests 1, 2, 3, 4, 19, 5 in that order, 5 at the first bad cell in row order; then, if the lent directions are given ones, 17 and 18.
+unfoldable pub tests : ℕ → ℕ → ℕ → Farms → Source → List ℤ → Grids → List Test
+unfolding firstTests filledLevels
+tests rows cols side farms source ground g =
+    firstTests rows cols side farms ground g
+    ++ (heightTest (rows * cols) ground ∷ sourceTests source rows cols (filledLevels rows cols ground) (g .direction))
 
 -- what they decide
-unfoldable pub judged : ℕ → ℕ → ℕ → Settings → Source → List ℤ → Grids → Test
+unfoldable pub judged : ℕ → ℕ → ℕ → Farms → Source → List ℤ → Grids → Test
 unfolding tests verdict
-judged rows cols side settings source ground g = verdict (tests rows cols side settings source ground g)
+judged rows cols side farms source ground g = verdict (tests rows cols side farms source ground g)
 
--- the grids of a ground for a list of directions. The workspace holds zeros after success.
-unfoldable pub mapOf : ℕ → ℕ → ℕ → Rules → List ℤ → List ℕ → Grids
+-- the grids of a ground for a list of directions, by the rules of each cell. The workspace holds zeros after success.
+unfoldable pub mapOf : ℕ → ℕ → ℕ → (ℕ → Rules) → List ℤ → List ℕ → Grids
 unfolding filledLevels filledOf countsOf lengthsOf factorsOf
 mapOf rows cols side rules ground dir =
     let lv = filledLevels rows cols ground in
     let count = countsOf rows cols dir in
     let lengths = lengthsOf rows cols side rules lv dir count in
-    lent (filledOf rows cols ground) dir count lengths (factorsOf rows cols side (rules .formula) lv dir lengths) (replicate (rows * cols) 0)
+    lent (filledOf rows cols ground) dir count lengths (factorsOf rows cols side rules lv dir lengths) (replicate (rows * cols) 0)
 
 -- The answer also gives the number of valid cells and the longest trail; a refusal has number and place
 unfoldable pub answerOf : ℕ → ℕ → List ℤ → List ℕ → Test → Answer
@@ -87,36 +100,47 @@ abbrev pub refusedGrids : ℕ → Grids → Grids
 refusedGrids number g =
     cond (leavesZeros number) (lent (g .filled) (g .direction) (g .count) (g .lengths) (g .factors) (replicate (length (g .workspace)) 0)) g
 
-unfoldable pub gridsOf : ℕ → ℕ → ℕ → Settings → List ℤ → List ℕ → Grids → Test → Grids
-unfolding rulesOf mapOf
-gridsOf rows cols side settings ground dir g passed = mapOf rows cols side (rulesOf settings) ground dir
-gridsOf rows cols side settings ground dir g (failed number place) = refusedGrids number g
+unfoldable pub gridsOf : ℕ → ℕ → ℕ → Farms → List ℤ → List ℕ → Grids → Test → Grids
+unfolding rulesIn mapOf
+gridsOf rows cols side farms ground dir g passed = mapOf rows cols side (rulesIn farms) ground dir
+gridsOf rows cols side farms ground dir g (failed number place) = refusedGrids number g
 
--- the whole of the map call, for directions of our own or given ones
-unfoldable pub answer : ℕ → ℕ → ℕ → Settings → Source → List ℤ → Grids → Answer
+-- the whole of the map call, for one farm or two, and for directions of our own or given ones
+unfoldable pub answer : ℕ → ℕ → ℕ → Farms → Source → List ℤ → Grids → Answer
 unfolding judged answerOf groundDirections
-answer rows cols side settings source ground g =
-    answerOf rows cols ground (directionsBy source rows cols ground (g .direction)) (judged rows cols side settings source ground g)
+answer rows cols side farms source ground g =
+    answerOf rows cols ground (directionsBy source rows cols ground (g .direction)) (judged rows cols side farms source ground g)
 
-unfoldable pub after : ℕ → ℕ → ℕ → Settings → Source → List ℤ → Grids → Grids
+unfoldable pub after : ℕ → ℕ → ℕ → Farms → Source → List ℤ → Grids → Grids
 unfolding judged gridsOf groundDirections
-after rows cols side settings source ground g =
-    gridsOf rows cols side settings ground (directionsBy source rows cols ground (g .direction)) g (judged rows cols side settings source ground g)
+after rows cols side farms source ground g =
+    gridsOf rows cols side farms ground (directionsBy source rows cols ground (g .direction)) g (judged rows cols side farms source ground g)
 
--- ---- the tests 1 to 4, which are made before the heights are looked at
+-- ---- the first tests by themselves
 
 -- the verdict that a case of the enum stands for
 abbrev pub found : Judgement → Test
 found (Sound rules) = passed
 found (Unsound f) = failed (f .number) (f .place)
 
-unfoldable pub firstTests : ℕ → ℕ → ℕ → Settings → List ℤ → Grids → List Test
-firstTests rows cols side settings ground g = sizeTest rows cols ∷ lengthTest (rows * cols) (placesOf ground g) ∷ sideTest side ∷ settingsTest settings ∷ []
-
 -- what is found by them; the rules are those of the settings
 pub record Judges (rows cols side : ℕ) (settings : Settings) (ground : List ℤ) (g : Grids) (r : Judgement) : Type 0 where
-  pub verdict-is : found r ≡ verdict (firstTests rows cols side settings ground g)
+  pub verdict-is : found r ≡ verdict (firstTests rows cols side (one settings) ground g)
   pub rules-are : (rules : Rules) → r ≡ Sound rules → rules ≡ rulesOf settings
+
+-- likewise for two farms
+abbrev pub foundIn : FarmJudgement → Test
+foundIn (farm.Sound first second) = passed
+foundIn (farm.Unsound f) = failed (f .number) (f .place)
+
+pub record JudgesFarms (rows cols side : ℕ) (first second : Settings) (marks : List ℕ) (ground : List ℤ) (g : Grids) (r : FarmJudgement) : Type 0 where
+  pub verdict-is : foundIn r ≡ verdict (firstTests rows cols side (two first second marks) ground g)
+  pub rules-are : (f s : Rules) → r ≡ farm.Sound f s → (f ≡ rulesOf first) × (s ≡ rulesOf second)
+
+-- what is found by the last of them, 4 for farm 1 and 19; farm 0's rules are those given
+pub record JudgesRest (first : Rules) (second : Settings) (marks : List ℕ) (r : FarmJudgement) : Type 0 where
+  pub verdict-is : foundIn r ≡ verdict (secondPlaces (settingsTest second) ∷ markTest (length marks) marks ∷ [])
+  pub rules-are : (f s : Rules) → r ≡ farm.Sound f s → (f ≡ first) × (s ≡ rulesOf second)
 
 -- ---- an answer as the paper's numbers, for the promises of the crates above
 

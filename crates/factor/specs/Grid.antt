@@ -5,6 +5,7 @@ use Prim.Native.Nat.{ℕ, _*_}
 use lib.ListN.{getD}
 use Rattle.laws.specs.Lists.{tab}
 use Rattle.settings.specs.declared.Formula.{Formula}
+use Rattle.settings.specs.declared.Rules.{Rules}
 use Rattle.terrain.specs.Trail.{mappedAt}
 use Rattle.factor.specs.Slope.{steepnessAt}
 use Rattle.factor.specs.Cell.{factorOf}
@@ -19,6 +20,7 @@ module _ (rows cols side : ℕ) (formula : Formula) (lv dir lengths : List ℕ) 
   unfolding mappedAt steepnessAt factorOf
   factorAt x = cond (mappedAt rows cols dir x) (factorOf formula side (steepnessAt rows cols lv dir x) (getD lengths x 0)) noDataFactor
 
-  unfoldable pub factorsOf : List ℕ
-  unfolding tab factorAt
-  factorsOf = tab (rows * cols) factorAt
+-- LS of every cell, by the formula of its own rules
+unfoldable pub factorsOf : ℕ → ℕ → ℕ → (ℕ → Rules) → List ℕ → List ℕ → List ℕ → List ℕ
+unfolding tab factorAt
+factorsOf rows cols side rules lv dir lengths = tab (rows * cols) (λ x. factorAt rows cols side (rules x .formula) lv dir lengths x)

@@ -7,15 +7,14 @@ use lib.Dec.{ltb, leb, eqb}
 use lib.IntN.{ℤ}
 use lib.ListN.{getD}
 use Rattle.laws.specs.Tests.{passed, verdict}
-use Rattle.settings.specs.declared.Settings.{Settings}
 use Rattle.settings.specs.declared.Rules.{Rules}
-use Rattle.settings.specs.Settings.{rulesOf}
 use Rattle.factor.specs.Inflow.{cutoffFor, stepOver, amountOf}
 use Rattle.factor.specs.LengthFactor.{greatestMm, reached}
 use Rattle.terrain.specs.Filled.{top}
 use Rattle.terrain.specs.Drainage.{Trails, Totals, Surface}
 use Rattle.terrain.specs.Answers.{groundValids}
 use Rattle.terrain.specs.declared.Source.{Source}
+use Rattle.factor.specs.Farms.{Farms, rulesIn}
 use Rattle.factor.specs.Answers.{Grids, firstTests, answer, after, accepts, told}
 use Rattle.factor.specs.declared.Answer.{Answer}
 
@@ -69,20 +68,20 @@ unfoldable pub broughtBy : ℕ → Rules → ℕ → ℕ → ℕ → ℕ → ℕ
 unfolding cutoffFor amountOf stepOver
 broughtBy side rules k p q start len = amountOf (cutoffFor (rules .low) (rules .high) side q) q p start (stepOver k) len
 
--- ---- the map call after the tests 1 to 4
+-- ---- the map call after the first tests
 
-module _ (rows cols side : ℕ) (settings : Settings) where
-  -- they are passed, and the rules are those of the settings
-  pub record Passing (rules : Rules) (ground : List ℤ) (g : Grids) : Type 0 where
-    pub passes : verdict (firstTests rows cols side settings ground g) ≡ passed
-    pub rules-are : rules ≡ rulesOf settings
+module _ (rows cols side : ℕ) (farms : Farms) where
+  -- they are passed, and each cell's rules are those of its farm's settings
+  pub record Passing (rules : ℕ → Rules) (ground : List ℤ) (g : Grids) : Type 0 where
+    pub passes : verdict (firstTests rows cols side farms ground g) ≡ passed
+    pub rules-are : rules ≡ rulesIn farms
 
   -- the promise of the map call, for lent grids g, an answer, and the grids h that it leaves
   module _ (source : Source) (ground : List ℤ) (g : Grids) where
     abbrev pub Promised : Answer → Grids → Type 0
     Promised a h =
-        (a ≡ answer rows cols side settings source ground g)
-        × ((h ≡ after rows cols side settings source ground g)
+        (a ≡ answer rows cols side farms source ground g)
+        × ((h ≡ after rows cols side farms source ground g)
         × ((accepts a ≡ true → Trails rows cols ground (h .filled) (h .direction))
         × ((accepts a ≡ true → Totals rows cols ground (h .direction) (h .count) (told a .valids))
         × (accepts a ≡ true → Surface rows cols ground (h .filled)))))

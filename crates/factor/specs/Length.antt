@@ -26,15 +26,15 @@ module _ (rows cols side : ℕ) (rules : Rules) (lv dir : List ℕ) where
       amountOf (cutoffAt z) (steepnessAt rows cols lv dir z) (steepnessAt rows cols lv dir x)
       (startLength (getD dir z 255)) (stepOver (bearingOf (getD dir x 255))) len
 
-module _ (rows cols side : ℕ) (rules : Rules) (lv dir count : List ℕ) where
-  -- the length of z by the lengths f of its inflows: The greatest amount is the length. A channel and a NoData cell have 0.
+module _ (rows cols side : ℕ) (rules : ℕ → Rules) (lv dir count : List ℕ) where
+  -- the length of z, by its own rules and the lengths f of its inflows: The greatest amount is the length. A channel and a NoData cell have 0.
   unfoldable pub lengthFrom : (ℕ → ℕ) → ℕ → ℕ
   unfolding mappedAt channelAt someOf neighbour intoAt greatestTo when broughtTo startLength
   lengthFrom f z =
       cond (mappedAt rows cols dir z)
-      (cond (channelAt rows cols rules count z) 0
+      (cond (channelAt rows cols (rules z) count z) 0
       (cond (someOf (intoAt rows cols dir z) 8)
-      (greatestTo 8 (λ k. let x = neighbour rows cols z k in when (intoAt rows cols dir z k) (broughtTo rows cols side rules lv dir z x (f x))))
+      (greatestTo 8 (λ k. let x = neighbour rows cols z k in when (intoAt rows cols dir z k) (broughtTo rows cols side (rules z) lv dir z x (f x))))
       (startLength (getD dir z 255))))
       0
 

@@ -3,3 +3,4 @@ pub mod Inland
 pub mod Rules
 pub mod Formulas
 pub mod Drawn
+pub mod Shared

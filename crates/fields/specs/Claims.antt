@@ -11,11 +11,13 @@ use Rattle.settings.specs.declared.Settings.{Settings}
 use Rattle.settings.specs.declared.Rules.{Rules}
 use Rattle.settings.specs.Settings.{quotient}
 use Rattle.terrain.specs.Answers.{groundDirections}
+use Rattle.terrain.specs.declared.Source.{Source}
 use Rattle.terrain.specs.declared.Source.the-variants.{Own, Given}
 use Rattle.factor.specs.Exponent.{exponentOf}
 use Rattle.factor.specs.LengthFactor.{lengthFactor}
 use Rattle.factor.specs.Steepness.{sineOf, steepnessFactor}
 use Rattle.factor.specs.Cell.{factorOf}
+use Rattle.factor.specs.Farms.{Farms, one, two}
 use Rattle.factor.specs.Answers.{Grids, mapOf, answer, after}
 use Rattle.factor.specs.declared.Answer.the-variants.{Accepted, Refused}
 
@@ -47,6 +49,12 @@ pub data Claim : Type 0 where
   -- or, with these directions given, this map; or number and place, and zeros in the workspace
   drawn : ℕ → ℕ → ℕ → Settings → List ℤ → List ℕ → Maps → Claim
   drawnWrong : ℕ → ℕ → ℕ → Settings → List ℤ → List ℕ → ℕ → ℕ → Claim
+  -- or, for two farms and with these marks, this map; or number and place
+  shared : ℕ → ℕ → ℕ → Settings → Settings → List ℕ → List ℤ → Maps → Claim
+  sharedWrong : ℕ → ℕ → ℕ → Settings → Settings → List ℕ → List ℤ → ℕ → ℕ → Claim
+  -- likewise with these directions given; at a refusal the last number is what the workspace, lent with 7 in every place, then holds
+  sharedDrawn : ℕ → ℕ → ℕ → Settings → Settings → List ℕ → List ℤ → List ℕ → Maps → Claim
+  sharedDrawnWrong : ℕ → ℕ → ℕ → Settings → Settings → List ℕ → List ℤ → List ℕ → ℕ → ℕ → ℕ → Claim
   -- or number and place
   refusedAt : ℕ → ℕ → ℕ → Settings → List ℤ → ℕ → ℕ → Claim
   -- or, with the rules of accepted settings, these lengths
@@ -60,29 +68,58 @@ pub data Claim : Type 0 where
   -- a cell side and a steepness give the sine u, and by each formula S
   steep : (side q u older newer : ℕ) → Claim
 
--- n places of each grid, as they are lent
-abbrev pub lent : ℕ → Grids
-lent n =
-    record { filled = replicate n (pos 7); direction = replicate n 7; count = replicate n 7; lengths = replicate n 7; factors = replicate n 7; workspace = replicate n 7 }
+-- n places of each grid as they are lent, with these directions, and the workspace with one number in every place
+abbrev pub lentWith : ℕ → List ℕ → ℕ → Grids
+lentWith n directions held =
+    record {
+      filled = replicate n (pos 7);
+      direction = directions;
+      count = replicate n 7;
+      lengths = replicate n 7;
+      factors = replicate n 7;
+      workspace = replicate n held;
+    }
 
--- the same with given directions in their grid, and with another workspace
-abbrev pub lentWith : List ℕ → List ℕ → ℕ → Grids
-lentWith given workspace n =
-    record { filled = replicate n (pos 7); direction = given; count = replicate n 7; lengths = replicate n 7; factors = replicate n 7; workspace = workspace }
+-- the same where no directions are given
+abbrev pub lent : ℕ → Grids
+lent n = lentWith n (replicate n 7) 7
+
+-- a call with these lent grids gives this map
+module _ (rows cols side : ℕ) (farms : Farms) (source : Source) (ground : List ℤ) (g : Grids) where
+  abbrev Gives : Maps → Type 0
+  Gives m =
+      (answer rows cols side farms source ground g ≡ Accepted (m .valids) (m .longest))
+      × (after rows cols side farms source ground g
+      ≡ record {
+        filled = m .filled;
+        direction = m .direction;
+        count = m .count;
+        lengths = m .lengths;
+        factors = m .factors;
+        workspace = replicate (rows * cols) 0;
+      })
+
+  -- or this number and place, and leaves the grids h
+  abbrev Refuses : ℕ → ℕ → Grids → Type 0
+  Refuses number place h =
+      (answer rows cols side farms source ground g ≡ Refused (record { number = number; place = place }))
+      × (after rows cols side farms source ground g ≡ h)
 
 abbrev pub Holds : Claim → Type 0
-Holds (mapped rows cols side given ground m) =
-    (answer rows cols side given Own ground (lent (rows * cols)) ≡ Accepted (m .valids) (m .longest))
-    × (after rows cols side given Own ground (lent (rows * cols)) ≡ record { filled = m .filled; direction = m .direction; count = m .count; lengths = m .lengths; factors = m .factors; workspace = replicate (rows * cols) 0 })
-Holds (drawn rows cols side settings ground given m) =
-    (answer rows cols side settings Given ground (lentWith given (replicate (rows * cols) 7) (rows * cols)) ≡ Accepted (m .valids) (m .longest))
-    × (after rows cols side settings Given ground (lentWith given (replicate (rows * cols) 7) (rows * cols)) ≡ record { filled = m .filled; direction = m .direction; count = m .count; lengths = m .lengths; factors = m .factors; workspace = replicate (rows * cols) 0 })
-Holds (drawnWrong rows cols side settings ground given number place) =
-    (answer rows cols side settings Given ground (lentWith given (replicate (rows * cols) 7) (rows * cols)) ≡ Refused (record { number = number; place = place }))
-    × (after rows cols side settings Given ground (lentWith given (replicate (rows * cols) 7) (rows * cols)) ≡ lentWith given (replicate (rows * cols) 0) (rows * cols))
-Holds (refusedAt rows cols side given ground number place) =
-    (answer rows cols side given Own ground (lent 2) ≡ Refused (record { number = number; place = place })) × (after rows cols side given Own ground (lent 2) ≡ lent 2)
-Holds (measured rows cols side rules ground lengths) = (let dir = groundDirections rows cols ground in mapOf rows cols side rules ground dir .lengths) ≡ lengths
+Holds (mapped rows cols side given ground m) = Gives rows cols side (one given) Own ground (lent (rows * cols)) m
+Holds (drawn rows cols side given ground dir m) = Gives rows cols side (one given) Given ground (lentWith (rows * cols) dir 7) m
+Holds (drawnWrong rows cols side given ground dir number place) =
+    Refuses rows cols side (one given) Given ground (lentWith (rows * cols) dir 7) number place (lentWith (rows * cols) dir 0)
+Holds (shared rows cols side first second marks ground m) = Gives rows cols side (two first second marks) Own ground (lent (rows * cols)) m
+Holds (sharedWrong rows cols side first second marks ground number place) =
+    Refuses rows cols side (two first second marks) Own ground (lent (rows * cols)) number place (lent (rows * cols))
+Holds (sharedDrawn rows cols side first second marks ground dir m) =
+    Gives rows cols side (two first second marks) Given ground (lentWith (rows * cols) dir 7) m
+Holds (sharedDrawnWrong rows cols side first second marks ground dir number place held) =
+    Refuses rows cols side (two first second marks) Given ground (lentWith (rows * cols) dir 7) number place (lentWith (rows * cols) dir held)
+Holds (refusedAt rows cols side given ground number place) = Refuses rows cols side (one given) Own ground (lent 2) number place (lent 2)
+Holds (measured rows cols side rules ground lengths) =
+    (let dir = groundDirections rows cols ground in mapOf rows cols side (λ x. rules) ground dir .lengths) ≡ lengths
 Holds (reaches k mm t) = lengthFactor k mm ≡ t
 Holds (east drop k) = exponentOf 1000 (2 * (drop * drop)) ≡ k
 Holds (factored q length ls) = factorOf Older 1000 q length ≡ ls

@@ -1,5 +1,6 @@
 -- Settings as plain numbers, for a caller that has no enum. RULES 7.3: the channel rule is a percentage of the largest flow count, a
 -- number of cells, or none; the steepness formula is the older or the newer one. Assumes nothing.
+use mathlib.Core.List.{List, [], _∷_}
 use Prim.Native.Nat.{ℕ}
 use mathlib.Core.Bool.{Bool, true, false, cond}
 use lib.Dec.{eqb, leb}
@@ -41,9 +42,16 @@ channelOf kind cells percentage = cond (eqb kind 0) NoChannel (cond (eqb kind 1)
 unfoldable pub formulaOf : ℕ → Formula
 formulaOf n = cond (eqb n 0) Older Newer
 
--- 4: a setting not accepted; place 7, the formula, is judged after the channel rule's place 3
-unfoldable pub formulaTest : ℕ → Test
-formulaTest n = test (leb n 1) 4 7
+-- 4: a setting not accepted; the formula's place, 7 or for farm 1 8, is judged after the other settings
+unfoldable pub formulaTest : ℕ → ℕ → Test
+formulaTest place n = test (leb n 1) 4 place
+
+-- the tests of the formula's number of one farm, and of each of two
+abbrev pub oneFormula : ℕ → List Test
+oneFormula n = formulaTest 7 n ∷ []
+
+abbrev pub twoFormulas : ℕ → ℕ → List Test
+twoFormulas n m = formulaTest 7 n ∷ formulaTest 8 m ∷ []
 
 -- whose directions a map takes: given ones, or our own
 abbrev pub sourceOf : Bool → Source

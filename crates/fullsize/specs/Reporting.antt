@@ -6,18 +6,18 @@ use lib.ListN.{getD}
 use lib.Dec.{eqb}
 use denote.Ref.{now}
 use Rattle.laws.specs.Slices.{Lent}
-use Rattle.laws.specs.Tests.{verdict}
+use Rattle.laws.specs.Tests.{Test, verdict}
 use Rattle.report.specs.declared.Greatest.{Greatest}
 use Rattle.report.specs.declared.Greatest.the-variants.{Nothing, Found}
 use Rattle.report.specs.declared.Report.{Report}
 use Rattle.report.specs.declared.Answer.{Answer}
 use Rattle.report.specs.declared.Answer.the-variants.{Accepted, Refused}
 use Rattle.report.specs.declared.Reported.{Reported}
-use Rattle.report.specs.Maps.{Map}
+use Rattle.factor.specs.Farms.{markTests}
+use Rattle.report.specs.Maps.{Map, cellsOf}
 use Rattle.report.specs.Reports.{reportOf}
 use Rattle.report.specs.Joins.{joined}
-use Rattle.report.specs.Answers.{mapTests, fitTest, outcomeOf}
-use Rattle.fullsize.specs.Crossing.{formulaTest}
+use Rattle.report.specs.Answers.{earlyTests, fitTest, outcomeOf}
 
 -- ---- a report as numbers
 
@@ -77,10 +77,10 @@ reportingFor given r = reportingOf given (r .answer) (r .report)
 abbrev pub reportingAfter : ℕ → Lent ℕ → Lent (List ℕ) → Reporting
 reportingAfter number place numbers = reporting number (now (place .exit)) (now (numbers .exit))
 
--- ---- an addition, with the number of the formula judged after the other settings and before 16
+-- ---- an addition, with the numbers of the formulas judged after the other settings and before the marks and 16
 
-unfoldable pub addedBy : Report → Map → ℕ → Reported
-unfolding joined reportOf mapTests formulaTest fitTest verdict outcomeOf
-addedBy report m formula =
+unfoldable pub addedBy : Report → Map → List Test → Reported
+unfolding joined reportOf earlyTests fitTest verdict outcomeOf
+addedBy report m formulas =
     let next = joined report (reportOf (m ∷ [])) in
-    outcomeOf report next (verdict (mapTests m ++ (formulaTest formula ∷ fitTest next ∷ [])))
+    outcomeOf report next (verdict (earlyTests m ++ (formulas ++ (markTests (cellsOf m) (m .farms) ++ (fitTest next ∷ [])))))

@@ -2,6 +2,7 @@
 // the percentage, of which the kind says which one counts, and the steepness formula (0 older, 1 newer). Whether directions are given.
 ghost use mathlib.Core.Path.{_≡_};
 ghost use Rattle.fullsize.specs.Crossing.{numbersOf, channelOf, formulaOf, formulaNumber, settingsOf, sourceOf};
+ghost use Rattle.fullsize.specs.InnerMapping.{formulaPlace};
 ghost use Rattle.fullsize.specs.Lent.{numbersAfter};
 use factor::Source;
 use settings::Channel;
@@ -41,6 +42,19 @@ fn formula_number(formula: Formula) -> u32
         Formula::Older => 0,
         Formula::Newer => 1,
     }
+}
+
+// The place of the first of two numbers that is no formula; 0 where both are one.
+pub(crate) fn formula_place(formula: u32, second: u32) -> usize
+    ensures { λ r. ⌜ r ≡ formulaPlace formula second ⌝ }
+{
+    if 1 < formula {
+        return 7;
+    }
+    if 1 < second {
+        return 8;
+    }
+    0
 }
 
 // Whose directions a map takes.

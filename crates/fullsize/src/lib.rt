@@ -5,6 +5,7 @@
 // `requires`: a caller owes only what no call can see, that each pointer with its length is memory of its own.
 mod answers;
 mod crossing;
+mod farms;
 mod mapping;
 mod reports;
 
@@ -14,13 +15,14 @@ ghost use Rattle.text.specs.Answers.{headerAnswer, cornersAnswer, gridAnswer};
 ghost use Rattle.floats.specs.Answers.{floatsAnswer};
 ghost use Rattle.settings.specs.Settings.{defaultSettings};
 ghost use Rattle.terrain.specs.Drainage.{Trails, Totals, Surface};
+ghost use Rattle.factor.specs.Farms.{one, two};
 ghost use Rattle.factor.specs.Answers.{told, lentBefore, lentAfter};
 ghost use Rattle.writer.specs.Text.{frame};
 ghost use Rattle.writer.specs.Answers.{heightCells, countCells, factorCells, directionCells};
 ghost use Rattle.writer.specs.Answers as W;
 ghost use Rattle.writer.specs.Rooms.{roomFor, Holds};
 ghost use Rattle.fullsize.specs.Outcomes.{gridReading};
-ghost use Rattle.fullsize.specs.Crossing.{numbersOf, settingsOf, sourceOf};
+ghost use Rattle.fullsize.specs.Crossing.{numbersOf, settingsOf, sourceOf, oneFormula, twoFormulas};
 ghost use Rattle.fullsize.specs.Mapping.{answerBy, afterBy};
 ghost use Rattle.report.specs.Maps.{mapOf};
 ghost use Rattle.report.specs.Reports.{reportOf};
@@ -133,10 +135,10 @@ pub extern "C" fn lsmap_map(
     longest: &mut u32,
 ) -> u32
     ensures answers { λ r. ⌜ mappingAfter r place valid longest
-        ≡ told (answerBy rows columns side (settingsOf low high kind cells percentage formula) formula (sourceOf given) (now (ground .entry))
+        ≡ told (answerBy rows columns side (one (settingsOf low high kind cells percentage formula)) (oneFormula formula) (sourceOf given) (now (ground .entry))
         (lentBefore filled direction count lengths factors workspace)) ⌝ }
     ensures leaves { λ _. ⌜ lentAfter filled direction count lengths factors workspace
-        ≡ afterBy rows columns side (settingsOf low high kind cells percentage formula) formula (sourceOf given) (now (ground .entry))
+        ≡ afterBy rows columns side (one (settingsOf low high kind cells percentage formula)) (oneFormula formula) (sourceOf given) (now (ground .entry))
         (lentBefore filled direction count lengths factors workspace) ⌝ }
     ensures trails { λ r. ⌜ (r ≡ 0 → Trails rows columns (now (ground .entry)) (now (filled .exit)) (now (direction .exit))) ⌝ }
     ensures totals { λ r. ⌜ (r ≡ 0 →
@@ -151,6 +153,77 @@ pub extern "C" fn lsmap_map(
         side,
         settings,
         formula,
+        source,
+        ground,
+        filled,
+        direction,
+        count,
+        lengths,
+        factors,
+        workspace,
+    );
+    answers::hand_out_mapping(answer, place, valid, longest)
+}
+
+// Maps a ground for two farms into the lent grids: `factor::map_farms`, with each farm's settings as six numbers, those of farm 1
+// after those of farm 0, and a mark for each cell.
+#[no_mangle]
+pub extern "C" fn lsmap_map_farms(
+    rows: usize,
+    columns: usize,
+    side: u32,
+    low: f64,
+    high: f64,
+    kind: u32,
+    cells: u32,
+    percentage: f64,
+    formula: u32,
+    low1: f64,
+    high1: f64,
+    kind1: u32,
+    cells1: u32,
+    percentage1: f64,
+    formula1: u32,
+    marks: &[u8],
+    given: bool,
+    ground: &[i32],
+    filled: &mut [i32],
+    direction: &mut [u8],
+    count: &mut [u32],
+    lengths: &mut [u64],
+    factors: &mut [u32],
+    workspace: &mut [u32],
+    place: &mut usize,
+    valid: &mut u32,
+    longest: &mut u32,
+) -> u32
+    ensures answers { λ r. ⌜ mappingAfter r place valid longest
+        ≡ told (answerBy rows columns side
+        (two (settingsOf low high kind cells percentage formula) (settingsOf low1 high1 kind1 cells1 percentage1 formula1) (now (marks .entry)))
+        (twoFormulas formula formula1) (sourceOf given) (now (ground .entry))
+        (lentBefore filled direction count lengths factors workspace)) ⌝ }
+    ensures leaves { λ _. ⌜ lentAfter filled direction count lengths factors workspace
+        ≡ afterBy rows columns side
+        (two (settingsOf low high kind cells percentage formula) (settingsOf low1 high1 kind1 cells1 percentage1 formula1) (now (marks .entry)))
+        (twoFormulas formula formula1) (sourceOf given) (now (ground .entry))
+        (lentBefore filled direction count lengths factors workspace) ⌝ }
+    ensures trails { λ r. ⌜ (r ≡ 0 → Trails rows columns (now (ground .entry)) (now (filled .exit)) (now (direction .exit))) ⌝ }
+    ensures totals { λ r. ⌜ (r ≡ 0 →
+        Totals rows columns (now (ground .entry)) (now (direction .exit)) (now (count .exit)) (now (valid .exit))) ⌝ }
+    ensures surface { λ r. ⌜ (r ≡ 0 → Surface rows columns (now (ground .entry)) (now (filled .exit))) ⌝ }
+{
+    let settings = crossing::settings_of(low, high, kind, cells, percentage, formula);
+    let second = crossing::settings_of(low1, high1, kind1, cells1, percentage1, formula1);
+    let source = crossing::source_of(given);
+    let answer = farms::map(
+        rows,
+        columns,
+        side,
+        settings,
+        second,
+        formula,
+        formula1,
+        marks,
         source,
         ground,
         filled,
@@ -295,11 +368,58 @@ pub extern "C" fn lsmap_report_add(
 ) -> u32
     ensures { λ r. ⌜ reportingAfter r place report
         ≡ reportingFor (now (report .entry)) (addedBy (reportFrom (now (report .entry)))
-        (mapOf rows columns (settingsOf low high kind cells percentage formula) (now (count .entry)) (now (factors .entry))) formula) ⌝ }
+        (mapOf rows columns (one (settingsOf low high kind cells percentage formula)) (now (count .entry)) (now (factors .entry))) (oneFormula formula)) ⌝ }
 {
     let settings = crossing::settings_of(low, high, kind, cells, percentage, formula);
     let before = reports::report_of(report);
     let reported = reports::add(before, rows, columns, settings, formula, count, factors);
+    reports::hand_out_reported(reported, report, place)
+}
+
+// Adds a map of two farms to the report: `report::add_farms`, with each farm's settings as six numbers and a mark for each cell.
+#[no_mangle]
+pub extern "C" fn lsmap_report_add_farms(
+    rows: usize,
+    columns: usize,
+    low: f64,
+    high: f64,
+    kind: u32,
+    cells: u32,
+    percentage: f64,
+    formula: u32,
+    low1: f64,
+    high1: f64,
+    kind1: u32,
+    cells1: u32,
+    percentage1: f64,
+    formula1: u32,
+    marks: &[u8],
+    count: &[u32],
+    factors: &[u32],
+    report: &mut [u64; 14],
+    place: &mut usize,
+) -> u32
+    ensures { λ r. ⌜ reportingAfter r place report
+        ≡ reportingFor (now (report .entry)) (addedBy (reportFrom (now (report .entry)))
+        (mapOf rows columns
+        (two (settingsOf low high kind cells percentage formula) (settingsOf low1 high1 kind1 cells1 percentage1 formula1) (now (marks .entry)))
+        (now (count .entry)) (now (factors .entry))) (twoFormulas formula formula1)) ⌝ }
+{
+    let settings = crossing::settings_of(low, high, kind, cells, percentage, formula);
+    let second = crossing::settings_of(low1, high1, kind1, cells1, percentage1, formula1);
+    let before = reports::report_of(report);
+    let reported = farms::add(
+        before,
+        rows,
+        columns,
+        settings,
+        second,
+        formula,
+        formula1,
+        marks,
+        count,
+        factors,
+    );
     reports::hand_out_reported(reported, report, place)
 }
 

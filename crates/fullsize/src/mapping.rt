@@ -4,6 +4,8 @@ ghost use mathlib.Core.Path.{_≡_};
 ghost use mathlib.Core.Bool.{true};
 ghost use Rattle.terrain.specs.Drainage.{Trails, Totals, Surface};
 ghost use Rattle.factor.specs.Answers.{told, accepts, lentBefore, lentAfter};
+ghost use Rattle.factor.specs.Farms.{one};
+ghost use Rattle.fullsize.specs.Crossing.{oneFormula};
 ghost use Rattle.fullsize.specs.Mapping.{answerBy, afterBy};
 ghost use Rattle.fullsize.specs.InnerMapping.{withoutFormula};
 use factor::Answer;
@@ -41,9 +43,11 @@ pub(crate) fn map(
     factors: &mut [u32],
     workspace: &mut [u32],
 ) -> Answer
-    ensures answers { λ r. ⌜ r ≡ answerBy rows columns side settings formula source (now (ground .entry)) (lentBefore filled direction count lengths factors workspace) ⌝ }
+    ensures answers { λ r. ⌜ r ≡ answerBy rows columns side (one settings) (oneFormula formula) source (now (ground .entry))
+        (lentBefore filled direction count lengths factors workspace) ⌝ }
     ensures leaves { λ _. ⌜ lentAfter filled direction count lengths factors workspace
-        ≡ afterBy rows columns side settings formula source (now (ground .entry)) (lentBefore filled direction count lengths factors workspace) ⌝ }
+        ≡ afterBy rows columns side (one settings) (oneFormula formula) source (now (ground .entry))
+        (lentBefore filled direction count lengths factors workspace) ⌝ }
     ensures trails { λ r. ⌜ (accepts r ≡ true → Trails rows columns (now (ground .entry)) (now (filled .exit)) (now (direction .exit))) ⌝ }
     ensures totals { λ r. ⌜ (accepts r ≡ true →
         Totals rows columns (now (ground .entry)) (now (direction .exit)) (now (count .exit)) (told r .valids)) ⌝ }

@@ -1,7 +1,9 @@
 // A report as fourteen numbers: the ten totals in the order of the rules, then 0 for no greatest or 1, the greatest LS, its map and its cell; and an
 // addition with the formula as a number. RULES 12.4.
 ghost use mathlib.Core.Path.{_≡_};
+ghost use Rattle.factor.specs.Farms.{one};
 ghost use Rattle.report.specs.Maps.{mapOf};
+ghost use Rattle.fullsize.specs.Crossing.{oneFormula};
 ghost use Rattle.fullsize.specs.Reporting.{greatestFrom, greatestNumbers, reportFrom, numbersFrom, reportingFor, reportingAfter, addedBy};
 ghost use Rattle.fullsize.specs.InnerMapping.{withoutFormulaFor};
 use report::Answer;
@@ -128,7 +130,7 @@ pub(crate) fn add(
     count: &[u32],
     factors: &[u32],
 ) -> Reported
-    ensures { λ r. ⌜ r ≡ addedBy report (mapOf rows columns settings (now (count .entry)) (now (factors .entry))) formula ⌝ }
+    ensures { λ r. ⌜ r ≡ addedBy report (mapOf rows columns (one settings) (now (count .entry)) (now (factors .entry))) (oneFormula formula) ⌝ }
 {
     if 1 < formula {
         let judgement = report::judge(rows, columns, settings, count, factors);

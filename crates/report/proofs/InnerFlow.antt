@@ -1,18 +1,36 @@
 -- Laws of the channel rule, as the code bounds it. Assumes nothing.
 use mathlib.Core.Path.{_≡_, sym, ap, _∙_}
-use mathlib.Core.List.{List}
-use Prim.Native.Nat.{ℕ, _≤_, _<_, min}
+use mathlib.Core.List.{List, [], _∷_}
+use mathlib.Core.Bool.{Bool}
+use Prim.Native.Nat.{ℕ, zero, suc, _+_, _≤_, _<_, min}
 use native.Mathlib.Omega.{arith}
 use native.Mathlib.Decide.{decLt}
 use lib.ListN.{length, getD}
 use lib.Dec.{ltb}
 use borrow.Author.Tests.{lt-ltb, le-ltb}
-use Rattle.laws.proofs.Sums.{greatest-ge}
+use Rattle.laws.specs.Sums.{when}
+use Rattle.laws.proofs.Sums.{greatest-ge, sum-none, sum-more, sum-ones, sum-ext, when-under}
+use Rattle.settings.specs.declared.Rules.{Rules}
 use Rattle.settings.specs.declared.Threshold.{Threshold}
 use Rattle.settings.specs.declared.Threshold.the-variants.{Over, Never}
+use Rattle.factor.specs.Farms.{farmAt, ofFarm, Marked}
 use Rattle.factor.specs.Channel.{isChannel, largestOf}
-use Rattle.report.specs.InnerCells.{countTo, above, Numbers32, Bounding}
+use Rattle.report.specs.InnerCells.{countTo, cellsTo, above, aboveIn, Numbers32, Bounding, Bound}
 use Rattle.report.proofs.InnerCells.{count-ext}
+
+-- cells that pass a test, one by one
+module _ (test : ℕ → Bool) where
+  pub cells-none : cellsTo test 0 ≡ 0
+  unfolding cellsTo
+  cells-none = sum-none (λ x. when (test x) 1)
+
+  pub cells-more : (n : ℕ) → cellsTo test (n + 1) ≡ cellsTo test n + when (test n) 1
+  unfolding cellsTo
+  cells-more n = sum-more n (λ x. when (test x) 1)
+
+  pub cells-few : (n : ℕ) → cellsTo test n ≤ n
+  unfolding cellsTo
+  cells-few n = sum-ones n (λ x. when (test x) 1) (λ x h. when-under (test x) 1)
 
 -- the largest count stands for itself
 pub bounding-largest : (t : Threshold) (count : List ℕ) {r : ℕ} → r ≡ largestOf (length count) count → Bounding t count r
@@ -37,10 +55,29 @@ capped-bound b c h =
       | no d ↦ le-ltb (min b 4294967295) c (omega arith) ∙ sym (le-ltb b c (omega arith))
     ]
 
--- the channels are the counts above the bound
-pub channels-counted : (t : Threshold) (count : List ℕ) (r b : ℕ) → Numbers32 count → Bounding t count r →
-    ((c : ℕ) → c ≤ r → ltb b c ≡ isChannel t r c) →
-    countTo (above (min b 4294967295)) count (length count) ≡ countTo (isChannel t (largestOf (length count) count)) count (length count)
-channels-counted t count r b small bounding m =
-    count-ext (above (min b 4294967295)) (isChannel t (largestOf (length count) count)) count (length count)
-    (λ x h. let c = getD count x 0 in capped-bound b c (small x) ∙ m c (bounding .most x h) ∙ bounding .same c)
+-- so the counts above the capped bound are those of channels
+pub bound-is : (t : Threshold) (count : List ℕ) (r b : ℕ) → Numbers32 count → Bounding t count r → ((c : ℕ) → c ≤ r → ltb b c ≡ isChannel t r c) →
+    Bound t count (min b 4294967295)
+bound-is t count r b small bounding m =
+    record { tells = λ x h. let c = getD count x 0 in capped-bound b c (small x) ∙ m c (bounding .most x h) ∙ bounding .same c }
+
+pub channels-counted : (t : Threshold) (count : List ℕ) (b : ℕ) → Bound t count b →
+    countTo (above b) count (length count) ≡ countTo (isChannel t (largestOf (length count) count)) count (length count)
+channels-counted t count b bound = count-ext (above b) (isChannel t (largestOf (length count) count)) count (length count) (λ x h. bound .tells x h)
+
+-- and of two farms
+pub channels-shared : (f s : Rules) (marks count : List ℕ) (a b : ℕ) → Marked (length count) marks → Bound (f .threshold) count a →
+    Bound (s .threshold) count b →
+    cellsTo (aboveIn (a ∷ b ∷ []) marks count) (length count)
+    ≡ cellsTo (λ x. isChannel (ofFarm f s (farmAt marks x) .threshold) (largestOf (length count) count) (getD count x 0)) (length count)
+unfolding cellsTo
+channels-shared f s marks count a b k p q =
+    sum-ext (length count) (λ x. when (aboveIn (a ∷ b ∷ []) marks count x) 1)
+    (λ x. when (isChannel (ofFarm f s (farmAt marks x) .threshold) (largestOf (length count) count) (getD count x 0)) 1)
+    (λ x h. ap (λ (t : Bool). when t 1) (go (farmAt marks x) x h (k .few x)))
+  where
+    go : (farm x : ℕ) → x < length count → farm < 2 →
+        ltb (getD (a ∷ b ∷ []) farm 0) (getD count x 0) ≡ isChannel (ofFarm f s farm .threshold) (largestOf (length count) count) (getD count x 0)
+    go zero x h l = p .tells x h
+    go (suc zero) x h l = q .tells x h
+    go (suc (suc n)) x h l = absurd (omega arith)

@@ -3,20 +3,22 @@ use mathlib.Core.Path.{_≡_, refl, sym, ap, _∙_}
 use mathlib.Core.List.{List, [], _∷_}
 use mathlib.Core.Bool.{Bool}
 use mathlib.Core.Logic.{inr}
-use Prim.Native.Nat.{ℕ, _+_, _-_, _≤_, _<_}
+use Prim.Native.Nat.{ℕ, _+_, _-_, _*_, _≤_, _<_}
 use native.Mathlib.Omega.{arith}
 use native.Mathlib.Decide.{decLt}
 use lib.ListN.{getD}
 use borrow.Author.Tests.{lt-ltb, le-ltb}
 use Rattle.laws.specs.Sums.{sumTo, when}
 use Rattle.laws.proofs.Sums.{when-yes, when-no}
+use Rattle.settings.specs.declared.Settings.{Settings}
 use Rattle.settings.specs.declared.Rules.{Rules}
 use Rattle.settings.specs.Settings.{rulesOf}
+use Rattle.factor.specs.Farms.{one, two, farmAt, ofFarm, rulesIn}
 use Rattle.factor.specs.Cell.{tooLong}
 use Rattle.factor.specs.Channel.{isChannel, largestOf, channelAt}
-use Rattle.report.specs.Maps.{Map, cellsOf, validAt, channelIn, isFactor, isZero, isLong, isBetween, isFrom, factorAt, factorIs}
+use Rattle.report.specs.Maps.{Map, mapOf, cellsOf, validAt, channelIn, isFactor, isZero, isLong, isBetween, isFrom, factorAt, factorIs}
 use Rattle.report.specs.Reports.{over, cellsWith, sumOf, rankOf, greatestOf, reportOf}
-use Rattle.report.specs.InnerCells.{countTo, factorsTo, below, isWet, Numbers32, Leading, FirstIn, Tallied}
+use Rattle.report.specs.InnerCells.{countTo, cellsTo, factorsTo, below, isWet, Numbers32, Leading, FirstIn, Tallied}
 use Rattle.report.specs.declared.Greatest.{Greatest}
 use Rattle.report.specs.declared.Greatest.the-variants.{Nothing, Found}
 use Rattle.report.specs.declared.lead.Lead.{Lead}
@@ -129,33 +131,42 @@ module _ (m : Map) (n : ℕ) (cells : cellsOf m ≡ n) where
   unfolding cellsWith countTo
   counted p = sym (over-one m (cellsWith (factorIs p)) ∙ ap (λ (k : ℕ). sumTo k (λ x. when (p (factorAt m x)) 1)) cells)
 
-  valid-is : countTo isWet (m .count) n ≡ over (m ∷ []) (cellsWith validAt)
+  pub valid-is : countTo isWet (m .count) n ≡ over (m ∷ []) (cellsWith validAt)
   unfolding cellsWith countTo validAt
   valid-is = sym (over-one m (cellsWith validAt) ∙ ap (λ (k : ℕ). sumTo k (λ x. when (validAt m x) 1)) cells)
-
-  channel-is : (rules : Rules) → rules ≡ rulesOf (m .settings) →
-      countTo (isChannel (rules .threshold) (largestOf n (m .count))) (m .count) n ≡ over (m ∷ []) (cellsWith channelIn)
-  unfolding cellsWith countTo channelIn channelAt
-  channel-is rules e = rw (e, ← cells) (sym (over-one m (cellsWith channelIn)))
 
   sum-is : factorsTo (m .factors) n ≡ over (m ∷ []) sumOf
   unfolding sumOf factorsTo
   sum-is = sym (over-one m sumOf ∙ ap (λ (k : ℕ). sumTo k (λ x. when (isFactor (factorAt m x)) (factorAt m x))) cells)
 
   -- what the code puts together
-  pub single-is : (rules : Rules) (t : Tally) {valid channel long sum : ℕ} {greatest : Greatest} →
-      rules ≡ rulesOf (m .settings) → Numbers32 (m .factors) → Tallied (m .factors) n t →
-      valid ≡ countTo isWet (m .count) n → channel ≡ countTo (isChannel (rules .threshold) (largestOf n (m .count))) (m .count) n →
+  pub single-is : (t : Tally) {valid channel long sum : ℕ} {greatest : Greatest} →
+      Numbers32 (m .factors) → Tallied (m .factors) n t →
+      valid ≡ over (m ∷ []) (cellsWith validAt) → channel ≡ over (m ∷ []) (cellsWith channelIn) →
       long ≡ countTo isLong (m .factors) n → sum ≡ factorsTo (m .factors) n → greatest ≡ greatestOf (m ∷ []) →
       sheet 1 valid channel (t .zero) long sum (t .under1) (t .under5 - t .under1) (t .under10 - t .under5) (t .known - t .under10) greatest
       ≡ reportOf (m ∷ [])
   unfolding reportOf
-  single-is rules t e small tallied va ch lo su gr =
+  single-is t small tallied va ch lo su gr =
       let l = m .factors in
-      report-same refl (va ∙ valid-is) (ch ∙ channel-is rules e)
+      report-same refl va ch
       (tallied .zero ∙ count-ext (below 1) isZero l n (λ x h. zero-is (getD l x 0)) ∙ counted isZero) (lo ∙ counted isLong) (su ∙ sum-is)
       (tallied .under1 ∙ count-ext (below 100000) (isBetween 0 100000) l n (λ x h. sym (under-is 100000 (getD l x 0) (omega arith)))
       ∙ counted (isBetween 0 100000))
       (omega (arith, class-1 l n t tallied, counted (isBetween 100000 500000)))
       (omega (arith, class-5 l n t tallied, counted (isBetween 500000 1000000)))
       (omega (arith, class-10 l n t tallied small, counted (isFrom 1000000))) gr
+
+-- ---- channel cells
+
+module _ (rows columns : ℕ) (count factors : List ℕ) (n : ℕ) (cells : rows * columns ≡ n) where
+  pub channels-one : (s : Settings) (rules : Rules) → rules ≡ rulesOf s →
+      countTo (isChannel (rules .threshold) (largestOf n count)) count n ≡ over (mapOf rows columns (one s) count factors ∷ []) (cellsWith channelIn)
+  unfolding cellsWith countTo channelIn channelAt rulesIn
+  channels-one s rules e = rw (e, ← cells) (sym (over-one (mapOf rows columns (one s) count factors) (cellsWith channelIn)))
+
+  pub channels-two : (s t : Settings) (marks : List ℕ) (f g : Rules) → f ≡ rulesOf s → g ≡ rulesOf t →
+      cellsTo (λ x. isChannel (ofFarm f g (farmAt marks x) .threshold) (largestOf n count) (getD count x 0)) n
+      ≡ over (mapOf rows columns (two s t marks) count factors ∷ []) (cellsWith channelIn)
+  unfolding cellsWith cellsTo channelIn channelAt rulesIn
+  channels-two s t marks f g e h = rw (e, h, ← cells) (sym (over-one (mapOf rows columns (two s t marks) count factors) (cellsWith channelIn)))

@@ -1,11 +1,17 @@
 -- RULES 12.4 and 12.5: what the calls of a report answer, and the report that they give back; the laws of Additions say what it is of a list. Assumes nothing.
 use mathlib.Core.List.{List, [], _∷_, _++_}
 use Prim.Native.Nat.{ℕ}
+use mathlib.Core.Path.{_≡_}
 use lib.ListN.{length}
 use Rattle.laws.specs.Tests.{Test, passed, failed, test, verdict}
 use Rattle.text.specs.Ranges.{sizeTest, lengthTest}
+use Rattle.settings.specs.declared.Settings.{Settings}
 use Rattle.settings.specs.declared.Rules.{Rules}
 use Rattle.settings.specs.Settings.{rulesOf, settingsTest}
+use Rattle.factor.specs.Farms.{markPlaces, settingsTests, markTest, markTests}
+use Rattle.factor.specs.Answers.{foundIn}
+use Rattle.factor.specs.declared.tests.FarmJudgement.{FarmJudgement}
+use Rattle.factor.specs.declared.tests.FarmJudgement.the-variants as farm
 use Rattle.report.specs.Maps.{Map, cellsOf}
 use Rattle.report.specs.Reports.{reportOf}
 use Rattle.report.specs.Joins.{joined, fits}
@@ -16,13 +22,17 @@ use Rattle.report.specs.declared.tests.Judgement.{Judgement}
 use Rattle.report.specs.declared.tests.Judgement.the-variants.{Sound, Unsound}
 
 -- 1, 2 and 4 as the map call has them
-unfoldable pub mapTests : Map → List Test
+unfoldable pub earlyTests : Map → List Test
 unfolding sizeTest lengthTest settingsTest
-mapTests m =
+earlyTests m =
     sizeTest (m .rows) (m .columns)
-    ∷ lengthTest (cellsOf m) (length (m .count) ∷ length (m .factors) ∷ [])
-    ∷ settingsTest (m .settings)
-    ∷ []
+    ∷ lengthTest (cellsOf m) (markPlaces (m .farms) ++ (length (m .count) ∷ length (m .factors) ∷ []))
+    ∷ settingsTests (m .farms)
+
+-- the same, and then 19
+unfoldable pub mapTests : Map → List Test
+unfolding earlyTests markTest
+mapTests m = earlyTests m ++ markTests (cellsOf m) (m .farms)
 
 -- 16: a total, the number of maps or the greatest's map would no longer fit 64 bits
 unfoldable pub fitTest : Report → Test
@@ -54,6 +64,11 @@ abbrev pub judgementFor : Rules → Test → Judgement
 judgementFor rules passed = Sound rules
 judgementFor rules (failed number place) = unsoundWith number place
 
-unfoldable pub judgementOf : Map → Judgement
+unfoldable pub judgementOf : Settings → Map → Judgement
 unfolding rulesOf mapTests verdict
-judgementOf m = judgementFor (rulesOf (m .settings)) (verdict (mapTests m))
+judgementOf settings m = judgementFor (rulesOf settings) (verdict (mapTests m))
+
+-- what is found of a map of two farms; the rules are those of their settings
+pub record JudgesFarms (first second : Settings) (m : Map) (r : FarmJudgement) : Type 0 where
+  pub verdict-is : foundIn r ≡ verdict (mapTests m)
+  pub rules-are : (f s : Rules) → r ≡ farm.Sound f s → (f ≡ rulesOf first) × (s ≡ rulesOf second)

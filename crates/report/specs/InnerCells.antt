@@ -7,6 +7,7 @@ use lib.ListN.{length, getD}
 use lib.Dec.{ltb, eqb}
 use Rattle.laws.specs.Sums.{sumTo, greatestTo, when}
 use Rattle.settings.specs.declared.Threshold.{Threshold}
+use Rattle.factor.specs.Farms.{farmAt}
 use Rattle.factor.specs.Channel.{isChannel, largestOf}
 use Rattle.factor.specs.Cell.{tooLong}
 use Rattle.factor.specs.Grid.{noDataFactor}
@@ -46,6 +47,19 @@ abbrev pub Numbers32 : List ℕ → Type 0
 Numbers32 l = (x : ℕ) → getD l x 0 < 4294967296
 
 -- ---- flow counts
+
+-- how many of the first n cells pass a test
+unfoldable pub cellsTo : (ℕ → Bool) → ℕ → ℕ
+unfolding sumTo when
+cellsTo test n = sumTo n (λ x. when (test x) 1)
+
+-- the counts above a bound are those of channels
+pub record Bound (threshold : Threshold) (count : List ℕ) (bound : ℕ) : Type 0 where
+  pub tells : (x : ℕ) → x < length count → ltb bound (getD count x 0) ≡ isChannel threshold (largestOf (length count) count) (getD count x 0)
+
+-- the cell x has a count above the bound of its farm
+abbrev pub aboveIn : List ℕ → List ℕ → List ℕ → ℕ → Bool
+aboveIn bounds marks count x = ltb (getD bounds (farmAt marks x) 0) (getD count x 0)
 
 -- r stands for the largest count: no count is above it, and the channel rule decides by it as by the largest
 pub record Bounding (threshold : Threshold) (count : List ℕ) (r : ℕ) : Type 0 where

@@ -4,23 +4,22 @@ use mathlib.Core.Bool.{Bool, not, _&&_, _||_}
 use Prim.Native.Nat.{ℕ, _*_}
 use lib.ListN.{getD}
 use lib.Dec.{ltb, leb, eqb}
-use Rattle.settings.specs.declared.Settings.{Settings}
-use Rattle.settings.specs.Settings.{rulesOf}
+use Rattle.factor.specs.Farms.{Farms, rulesIn}
 use Rattle.factor.specs.Channel.{channelAt}
 use Rattle.factor.specs.Cell.{tooLong}
 use Rattle.factor.specs.Grid.{noDataFactor}
 
--- shape, settings, flow counts and LS
+-- shape, the settings of its one farm or of its two farms with the marks, flow counts and LS
 pub record Map : Type 0 where
   pub rows : ℕ
   pub columns : ℕ
-  pub settings : Settings
+  pub farms : Farms
   pub count : List ℕ
   pub factors : List ℕ
 
-abbrev pub mapOf : ℕ → ℕ → Settings → List ℕ → List ℕ → Map
-mapOf rows columns settings count factors =
-    record { rows = rows; columns = columns; settings = settings; count = count; factors = factors }
+abbrev pub mapOf : ℕ → ℕ → Farms → List ℕ → List ℕ → Map
+mapOf rows columns farms count factors =
+    record { rows = rows; columns = columns; farms = farms; count = count; factors = factors }
 
 abbrev pub cellsOf : Map → ℕ
 cellsOf m = m .rows * m .columns
@@ -31,10 +30,10 @@ cellsOf m = m .rows * m .columns
 unfoldable pub validAt : Map → ℕ → Bool
 validAt m x = not (eqb (getD (m .count) x 0) 0)
 
--- a channel, as the map call has it; the largest flow count is the largest of the counts given
+-- a channel, as the map call has it: by the rule of the cell's own farm; the largest flow count is the largest of the counts given, over both farms
 unfoldable pub channelIn : Map → ℕ → Bool
-unfolding rulesOf channelAt
-channelIn m x = channelAt (m .rows) (m .columns) (rulesOf (m .settings)) (m .count) x
+unfolding rulesIn channelAt
+channelIn m x = channelAt (m .rows) (m .columns) (rulesIn (m .farms) x) (m .count) x
 
 -- ---- by the LS alone
 

@@ -16,3 +16,10 @@ pub(crate) fn larger(a: u32, b: u32) -> u32
 {
     if a < b { b } else { a }
 }
+
+// A mark as an index.
+pub(crate) fn wide(mark: u8) -> usize
+    ensures { λ r. ⌜ r ≡ mark ⌝ }
+{
+    mark as usize
+}

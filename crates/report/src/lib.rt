@@ -13,12 +13,15 @@ mod tests;
 
 pub use tests::Judgement;
 pub use tests::judge;
+pub use tests::judge_farms;
 ghost use mathlib.Core.Path.{_≡_};
 ghost use mathlib.Core.List.{[]};
+ghost use Rattle.factor.specs.Farms.{one, two};
 ghost use Rattle.report.specs.Maps.{mapOf};
 ghost use Rattle.report.specs.Reports.{reportOf};
 ghost use Rattle.report.specs.Answers.{afterAdd, afterJoin};
 ghost use Rattle.report.specs.InnerJoins.{refusedWith};
+use factor::FarmJudgement;
 use joins::Kept;
 use settings::Settings;
 use text::Refusal;
@@ -120,11 +123,34 @@ pub fn add(
     count: &[u32],
     factors: &[u32],
 ) -> Reported
-    ensures { λ r. ⌜ r ≡ afterAdd report (mapOf rows columns settings (now (count .entry)) (now (factors .entry))) ⌝ }
+    ensures { λ r. ⌜ r ≡ afterAdd report (mapOf rows columns (one settings) (now (count .entry)) (now (factors .entry))) ⌝ }
 {
     let judgement = judge(rows, columns, settings, count, factors);
     match judgement {
         Judgement::Unsound(refusal) => refused(refusal, report),
         Judgement::Sound(rules) => join(report, single::report_of(rules, count, factors)),
+    }
+}
+
+// Adds a map of two farms, each cell having named farm 0 or 1, to a report.
+pub fn add_farms(
+    report: Report,
+    rows: usize,
+    columns: usize,
+    first: Settings,
+    second: Settings,
+    marks: &[u8],
+    count: &[u32],
+    factors: &[u32],
+) -> Reported
+    ensures { λ r. ⌜ r ≡ afterAdd report (mapOf rows columns (two first second (now (marks .entry))) (now (count .entry)) (now (factors .entry))) ⌝ }
+{
+    let judgement = judge_farms(rows, columns, first, second, marks, count, factors);
+    match judgement {
+        FarmJudgement::Unsound(refusal) => refused(refusal, report),
+        FarmJudgement::Sound { first, second } => join(
+            report,
+            single::report_in(first, second, marks, count, factors),
+        ),
     }
 }

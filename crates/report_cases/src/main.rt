@@ -1,5 +1,6 @@
 // Runs the calls of `report` on small maps and reports, and writes what they answer and the report that they give back, for RULES 12. What
 // must be written, the file `stdout`, is worked out from those.
+mod farms;
 mod joins;
 mod lists;
 mod make;
@@ -13,4 +14,6 @@ fn main() {
     joins::edges();
     refusals::run();
     refusals::full();
+    farms::channels();
+    farms::refusals();
 }

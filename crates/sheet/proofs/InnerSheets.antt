@@ -16,7 +16,8 @@ use Rattle.text.specs.Ranges.{sizeTest, lengthTest, sideTest, heightTest}
 use Rattle.text.proofs.Accepted.{size-is, size-passed}
 use Rattle.terrain.specs.Answers.{groundDirections}
 use Rattle.terrain.specs.declared.Source.the-variants.{Own}
-use Rattle.factor.specs.Answers.{Grids, placesOf, tests, judged, answerOf, answer, after, told, accepts}
+use Rattle.factor.specs.Farms.{one}
+use Rattle.factor.specs.Answers.{Grids, placesOf, earlyTests, firstTests, tests, judged, answerOf, answer, after, told, accepts}
 use Rattle.factor.specs.declared.Answer.{Answer}
 use Rattle.factor.proofs.Judging.{number-some}
 use Rattle.sheet.specs.Lines.{refusalLine, gridsOf, mapLines}
@@ -42,46 +43,56 @@ refused-as number place lines en ep h = ap₂ refusalLine en ep ∙ sym (lines-n
 -- ---- the map call
 
 module _ (rows columns side : ℕ) (settings : Settings) (ground : List ℤ) (g : Grids) where
-  passed-size : judged rows columns side settings Own ground g ≡ passed → sizeTest rows columns ≡ passed
-  unfolding judged tests
-  passed-size j = verdict-passed (sizeTest rows columns) (lengthTest (rows * columns) (placesOf ground g) ∷ sideTest side ∷ settingsTest settings ∷ heightTest (rows * columns) ground ∷ []) j .0
+  passed-size : judged rows columns side (one settings) Own ground g ≡ passed → sizeTest rows columns ≡ passed
+  unfolding judged tests firstTests earlyTests
+  passed-size j = verdict-passed (sizeTest rows columns) (lengthTest (rows * columns)
+      (placesOf ground g) ∷ sideTest side ∷ settingsTest settings ∷ heightTest (rows * columns) ground ∷ []) j .0
 
   -- a map that is accepted has columns
-  accepted-columns : accepts (answer rows columns side settings Own ground g) ≡ true → 0 < columns
+  accepted-columns : accepts (answer rows columns side (one settings) Own ground g) ≡ true → 0 < columns
   unfolding answer answerOf
-  accepted-columns = go (judged rows columns side settings Own ground g) refl
+  accepted-columns = go (judged rows columns side (one settings) Own ground g) refl
     where
-      go : (t : Test) → judged rows columns side settings Own ground g ≡ t → accepts (answerOf rows columns ground (groundDirections rows columns ground) t) ≡ true → 0 < columns
+      go : (t : Test) → judged rows columns side (one settings) Own ground g ≡ t →
+          accepts (answerOf rows columns ground (groundDirections rows columns ground) t) ≡ true → 0 < columns
       go passed j y = omega (arith, size-is columns (size-passed rows columns (passed-size j) .1) .0)
       go (failed number place) j y = absurd (true≢false (sym y))
 
-module _ (rows columns side : ℕ) (settings : Settings) (ground : List ℤ) (g : Grids) {s : Survey} {a : Answer} (es : s ≡ surveyNumbers (told a)) (ea : a ≡ answer rows columns side settings Own ground g) where
-  e : s ≡ surveyNumbers (told (answer rows columns side settings Own ground g))
+module _ (rows columns side : ℕ) (settings : Settings) (ground : List ℤ) (g : Grids) {s : Survey} {a : Answer} (es : s ≡ surveyNumbers (told a))
+    (ea : a ≡ answer rows columns side (one settings) Own ground g) where
+  e : s ≡ surveyNumbers (told (answer rows columns side (one settings) Own ground g))
   e = es ∙ ap (λ (x : Answer). surveyNumbers (told x)) ea
 
   pub map-refused : (s .number ≡ 0 → ⊥) → refusalLine (s .number) (s .place) ≡ mapSheet rows columns side settings ground g
   unfolding mapSheet
   map-refused h = refused-as _ _ _ (ap (λ (x : Survey). x .number) e) (ap (λ (x : Survey). x .place) e) h
 
-  pub map-printed : (m : Grids) → m ≡ after rows columns side settings Own ground g → s .number ≡ 0 → mapLines (record { rows = rows; columns = columns; side = side; valid = s .valid; longest = s .longest }) (gridsOf ground (m .filled) (m .direction) (m .count) (m .lengths) (m .factors)) ≡ mapSheet rows columns side settings ground g
+  pub map-printed : (m : Grids) → m ≡ after rows columns side (one settings) Own ground g → s .number ≡ 0 →
+      mapLines (record { rows = rows; columns = columns; side = side; valid = s .valid; longest = s .longest })
+      (gridsOf ground (m .filled) (m .direction) (m .count) (m .lengths) (m .factors)) ≡ mapSheet rows columns side settings ground g
   unfolding mapSheet
   map-printed m f h =
-      ap₂ (λ (x : Survey) (m : Grids). mapLines (record { rows = rows; columns = columns; side = side; valid = x .valid; longest = x .longest }) (gridsOf ground (m .filled) (m .direction) (m .count) (m .lengths) (m .factors))) e f
-      ∙ sym (lines-yes _ (told (answer rows columns side settings Own ground g) .place) _ (sym (ap (λ (x : Survey). x .number) e) ∙ h))
+      ap₂ (λ (x : Survey) (m : Grids). mapLines (record { rows = rows; columns = columns; side = side; valid = x .valid; longest = x .longest })
+      (gridsOf ground (m .filled) (m .direction) (m .count) (m .lengths) (m .factors))) e f
+      ∙ sym (lines-yes _ (told (answer rows columns side (one settings) Own ground g) .place) _ (sym (ap (λ (x : Survey). x .number) e) ∙ h))
 
   pub map-columns : s .number ≡ 0 → 0 < columns
-  map-columns h = accepted-columns rows columns side settings ground g (number-some rows columns side settings ground g Own (sym (ap (λ (x : Survey). x .number) e) ∙ h))
+  map-columns h = accepted-columns rows columns side settings ground g
+      (number-some rows columns side (one settings) ground g Own (sym (ap (λ (x : Survey). x .number) e) ∙ h))
 
 -- ---- the reader call
 
-module _ (rows columns side : ℕ) (settings : Settings) (text : List ℕ) (heights : List ℤ) (g : Grids) (s : Head) (e : s ≡ headNumbers (gridAnswer heights text .answer)) where
+module _ (rows columns side : ℕ) (settings : Settings) (text : List ℕ) (heights : List ℤ) (g : Grids) (s : Head)
+    (e : s ≡ headNumbers (gridAnswer heights text .answer)) where
   pub grid-refused : (s .number ≡ 0 → ⊥) → refusalLine (s .number) (s .place) ≡ gridSheet rows columns side settings text heights g
   unfolding gridSheet
   grid-refused h = refused-as _ _ _ (ap (λ (x : Head). x .number) e) (ap (λ (x : Head). x .place) e) h
 
-  pub grid-printed : (ground : List ℤ) → ground ≡ gridAnswer heights text .heights → s .number ≡ 0 → mapSheet rows columns side settings ground g ≡ gridSheet rows columns side settings text heights g
+  pub grid-printed : (ground : List ℤ) → ground ≡ gridAnswer heights text .heights → s .number ≡ 0 →
+      mapSheet rows columns side settings ground g ≡ gridSheet rows columns side settings text heights g
   unfolding gridSheet
-  grid-printed ground f h = ap (λ (l : List ℤ). mapSheet rows columns side settings l g) f ∙ sym (lines-yes _ (gridAnswer heights text .answer .place) _ (sym (ap (λ (x : Head). x .number) e) ∙ h))
+  grid-printed ground f h = ap (λ (l : List ℤ). mapSheet rows columns side settings l g) f
+      ∙ sym (lines-yes _ (gridAnswer heights text .answer .place) _ (sym (ap (λ (x : Head). x .number) e) ∙ h))
 
 -- ---- the number of cells, the header and the text's length
 
@@ -97,7 +108,8 @@ module _ (rows columns side : ℕ) (settings : Settings) (text : List ℕ) where
   unfolding headSheet
   cells-many h = ap bySize (lt-ltb 2048 (rows * columns) h)
 
-  cells-few : rows * columns ≤ 2048 → headSheet rows columns side settings text ≡ gridSheet rows columns side settings text (replicate (rows * columns) (pos 0)) (zeros (rows * columns))
+  cells-few : rows * columns ≤ 2048 → headSheet rows columns side settings text ≡ gridSheet rows columns side settings text
+      (replicate (rows * columns) (pos 0)) (zeros (rows * columns))
   unfolding headSheet
   cells-few h = ap bySize (le-ltb 2048 (rows * columns) h)
 
@@ -128,7 +140,8 @@ module _ (settings : Settings) (text : List ℕ) where
       pub head-large : 2048 < s .rows * s .columns → refusalLine 11 0 ≡ sheetOf text settings
       head-large h = sym (head-is ∙ lines-yes _ _ _ good ∙ cells-many (s .rows) (s .columns) (s .side) settings text h)
 
-      pub head-printed : s .rows * s .columns ≤ 2048 → gridSheet (s .rows) (s .columns) (s .side) settings text (replicate (s .rows * s .columns) (pos 0)) (zeros (s .rows * s .columns)) ≡ sheetOf text settings
+      pub head-printed : s .rows * s .columns ≤ 2048 → gridSheet (s .rows) (s .columns) (s .side) settings text
+          (replicate (s .rows * s .columns) (pos 0)) (zeros (s .rows * s .columns)) ≡ sheetOf text settings
       head-printed h = sym (head-is ∙ lines-yes _ _ _ good ∙ cells-few (s .rows) (s .columns) (s .side) settings text h)
 
 -- ---- parts of arrays of one value

@@ -8,6 +8,7 @@ use lib.ListN.{length, replicate}
 use Rattle.settings.specs.declared.Settings.{Settings}
 use Rattle.text.specs.Answers.{headerAnswer, gridAnswer}
 use Rattle.terrain.specs.declared.Source.the-variants.{Own}
+use Rattle.factor.specs.Farms.{one}
 use Rattle.factor.specs.Answers.{Grids, lent, answer, after, told}
 use Rattle.sheet.specs.Lines.{refusalLine, gridsOf, mapLines}
 
@@ -20,8 +21,8 @@ linesOr number place lines = elim (eqb number 0) [ true ↦ lines | false ↦ re
 unfoldable pub mapSheet : ℕ → ℕ → ℕ → Settings → List ℤ → Grids → List ℕ
 unfolding linesOr mapLines answer after
 mapSheet rows columns side settings ground g =
-    let a = told (answer rows columns side settings Own ground g) in
-    let m = after rows columns side settings Own ground g in
+    let a = told (answer rows columns side (one settings) Own ground g) in
+    let m = after rows columns side (one settings) Own ground g in
     linesOr (a .number) (a .place)
     (mapLines (record { rows = rows; columns = columns; side = side; valid = a .valids; longest = a .longest })
     (gridsOf ground (m .filled) (m .direction) (m .count) (m .lengths) (m .factors)))

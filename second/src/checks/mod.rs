@@ -3,10 +3,15 @@
 
 pub mod compare;
 pub mod directions;
+pub mod farms;
 mod fast_ways;
 pub mod floats;
 pub mod full;
+mod maps;
 pub mod reports;
 mod second_ways;
 pub mod selfcheck;
 pub mod texts;
+
+#[cfg(test)]
+pub use second_ways::any_settings;

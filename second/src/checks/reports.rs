@@ -4,6 +4,7 @@
 
 use super::second_ways::any_settings;
 use super::texts::{unexpected, words};
+use crate::rules::farms::Asked;
 use crate::rules::refusal::Refusal;
 use crate::rules::report::{add, join, mapped, report, Mapped, Report};
 use crate::texts::seed::Seed;
@@ -141,7 +142,7 @@ fn stored(folder: &Path, valley: &Valley) -> io::Result<Vec<Vec<Given>>> {
     let field = |number: usize, index: usize, text: &[u8]| {
         let path = folder.join(format!("{number}-{index}.asc"));
         std::fs::write(&path, text)?;
-        Ok(Given { path, map: mapped(text, valley.settings) })
+        Ok(Given { path, map: mapped(text, Asked::One(valley.settings)) })
     };
     let part = |(number, part): (usize, &Vec<Vec<u8>>)| {
         part.iter().enumerate().map(|(index, text)| field(number, index, text)).collect()

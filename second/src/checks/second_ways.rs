@@ -1,22 +1,24 @@
 //! The rules in a second way, over seeded fields: filled heights by thresholds, flats by a search from each cell,
 //! counts by sums, lengths by sweeps, L in words of 128 bits, given directions by the codes that a cell may have and by
-//! peeling. Serves the self-check.
+//! peeling, two farms by maps of each alone. Serves the self-check.
 
 use crate::rules::direction::NO_DIRECTION;
-use crate::rules::factor::slope_length_factor;
+use crate::rules::factor::{slope_length_factor, Factors};
+use crate::rules::farms::Farms;
 use crate::rules::fill::rim;
 use crate::rules::float::nearest;
 use crate::rules::float_grid::read_floats;
 use crate::rules::grid::{Shape, NODATA};
 use crate::rules::length::Terrain;
-use crate::rules::map::{map, map_given, Map};
-use crate::rules::settings::{percents, Channel, Formula, Settings};
+use crate::rules::map::{map, map_by, map_given, Map};
+use crate::rules::settings::{Channel, Formula, Settings};
 use crate::rules::text::{read_grid, read_header};
 use crate::rules::refusal::{refuse, Refusal};
 use crate::rules::trail::onward;
 use crate::rules::write::{room, write, Frame, Numbers};
 use crate::texts::drawings::{self, Land};
 use crate::texts::fields::{self, Field};
+use crate::texts::neighbours;
 use crate::texts::seed::Seed;
 use crate::texts::spelling::{text, Manner};
 
@@ -120,9 +122,9 @@ fn longest_by_rounds(shape: Shape, map: &Map) {
 }
 
 /// Lengths by sweeps from zeros until nothing changes.
-fn lengths_by_sweeps(shape: Shape, side: i64, map: &Map, settings: Settings) -> Vec<u64> {
-    let percents = percents(settings).expect("accepted before");
-    let terrain = Terrain { shape, side, flow: &map.flow, count: &map.count, percents: &percents };
+fn lengths_by_sweeps(shape: Shape, side: i64, map: &Map, farms: &Farms) -> Vec<u64> {
+    let farms = &farms.accepted().expect("accepted before");
+    let terrain = Terrain { shape, side, flow: &map.flow, count: &map.count, farms };
     let largest = terrain.largest();
     let mut length = vec![0; shape.cells()];
     loop {
@@ -194,7 +196,80 @@ pub fn drawing(number: usize) {
         assert_eq!((&map.flow.direction, &map.filled), (&given, &own.filled));
         counts_by_inflows(*shape, &map);
         longest_by_rounds(*shape, &map);
-        assert_eq!(map.length, lengths_by_sweeps(*shape, field.side, &map, settings));
+        assert_eq!(map.length, lengths_by_sweeps(*shape, field.side, &map, &Farms::One(settings)));
+    }
+}
+
+/// The cells that a cell of a farm lies on a trail into: those that the trails of its cells pass.
+fn reached_from(shape: Shape, map: &Map, marks: &[u8], farm: u8) -> Vec<bool> {
+    let mut reached = vec![false; shape.cells()];
+    for start in (0..shape.cells()).filter(|&cell| map.count[cell] > 0 && marks[cell] == farm) {
+        let mut at = Some(start);
+        while let Some(cell) = at {
+            reached[cell] = true;
+            at = onward(shape, &map.flow.direction, cell);
+        }
+    }
+    reached
+}
+
+/// Each cell of a map of two farms is, by the lengths of its inflows, that of a map of its farm alone.
+fn cells_by_their_farms(shape: Shape, side: i64, map: &Map, marks: &[u8], settings: [Settings; 2]) {
+    let mut factors = Factors::default();
+    for (farm, settings) in settings.into_iter().enumerate() {
+        let alone = Farms::One(settings);
+        let farms = &alone.accepted().expect("accepted before");
+        let terrain = Terrain { shape, side, flow: &map.flow, count: &map.count, farms };
+        let own = |cell: &usize| map.count[*cell] > 0 && usize::from(marks[*cell]) == farm;
+        for cell in (0..shape.cells()).filter(own) {
+            assert_eq!(map.length[cell], terrain.measured(&map.length, terrain.largest(), cell));
+            let factor = factors.factor(settings.formula, map.length[cell], map.flow.steepness[cell], side);
+            assert_eq!(map.factor[cell], factor);
+        }
+    }
+}
+
+/// What came up in the fields of two farms: cells that keep length and LS since the farm that changes its settings has no
+/// cell on a trail into them, and cells that another farm's change moves.
+#[derive(Default)]
+pub struct Kept {
+    pub kept: usize,
+    pub moved: usize,
+}
+
+/// Two farms on a field, under its own directions or a drawing that is accepted. Filled heights, directions, counts and the
+/// longest trail are those of one farm. All marks 0 are farm 0's map and all marks 1 farm 1's. When one farm changes its
+/// settings, cells of the other keep length and LS, unless a cell of the first lies on a trail into them.
+pub fn farms(number: usize, seen: &mut Kept) {
+    let mut seed = Seed::of(5, number as u64);
+    let field = drawings::field(&mut seed, number);
+    let (land, any) = (Land::of(&field), [any_settings(&mut seed), any_settings(&mut seed)]);
+    let (shape, side, ground) = (land.shape, field.side, &land.ground);
+    let settings = neighbours::with_channels(&mut seed, any);
+    let drawn = seed.once_in(3).then(|| drawings::codes(&mut seed, number % 3, &land));
+    let mapped = |marks: &[u8], settings| {
+        let farms = Farms::Two { marks: marks.to_vec(), settings };
+        map_by(shape, side, ground, drawn.as_deref(), &farms).expect("a field is accepted")
+    };
+    let marks = neighbours::marks(&mut seed, number % 7, shape);
+    let map = mapped(&marks, settings);
+    cells_by_their_farms(shape, side, &map, &marks, settings);
+    assert_eq!(map.length, lengths_by_sweeps(shape, side, &map, &Farms::Two { marks: marks.clone(), settings }));
+    for farm in [0, 1] {
+        let one = map_by(shape, side, ground, drawn.as_deref(), &Farms::One(settings[farm])).expect("accepted before");
+        same(&one, &mapped(&vec![farm as u8; shape.cells()], settings));
+        assert_eq!((&one.filled, &one.flow.direction, &one.count), (&map.filled, &map.flow.direction, &map.count));
+        assert_eq!((one.valid, one.longest), (map.valid, map.longest));
+        let mut others = settings;
+        others[farm] = any_settings(&mut seed);
+        let other = mapped(&marks, others);
+        let reached = reached_from(shape, &map, &marks, farm as u8);
+        for cell in (0..shape.cells()).filter(|&cell| map.count[cell] > 0 && usize::from(marks[cell]) != farm) {
+            let equal = (map.length[cell], map.factor[cell]) == (other.length[cell], other.factor[cell]);
+            assert!(equal || reached[cell]);
+            seen.kept += usize::from(!reached[cell]);
+            seen.moved += usize::from(!equal);
+        }
     }
 }
 
@@ -220,7 +295,7 @@ pub fn field(number: usize) {
     flats_by_search(shape, &ground, &map);
     counts_by_inflows(shape, &map);
     longest_by_rounds(shape, &map);
-    assert_eq!(map.length, lengths_by_sweeps(shape, field.side, &map, settings));
+    assert_eq!(map.length, lengths_by_sweeps(shape, field.side, &map, &Farms::One(settings)));
 }
 
 /// A field's text is read as that field.

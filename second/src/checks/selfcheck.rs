@@ -2,15 +2,17 @@
 //! literal one. The examples of docs/RULES.md, 8 Small fields, are unit tests beside the rules.
 
 use super::fast_ways;
-use super::second_ways;
+use super::second_ways::{self, Kept};
 use crate::rules::sheet::read_small;
 use crate::texts::hostile;
 use crate::texts::seed::Seed;
 
-/// The number of seeded fields, of those for the fast map, of drawings, and of hostile texts of each kind.
+/// The number of seeded fields, of those for the fast map, of drawings, of fields of two farms, and of hostile texts of each
+/// kind.
 const FIELDS: usize = 600;
 const FAST_FIELDS: usize = 400;
 const DRAWINGS: usize = 1_200;
+const FARMS: usize = 1_200;
 const HOSTILE: usize = 300;
 
 /// Every hostile text that names its refusal gets it.
@@ -25,11 +27,22 @@ fn hostile_texts() {
     }
 }
 
+/// Fields of two farms, on which cells have to come up that keep length and LS and cells that do not.
+fn two_farms() {
+    let mut seen = Kept::default();
+    (0..FARMS).for_each(|number| second_ways::farms(number, &mut seen));
+    let Kept { kept, moved } = seen;
+    assert!(kept > FARMS && moved > FARMS / 10, "{kept} cells keep their length and LS, {moved} do not");
+    print!("selfcheck: {FARMS} fields of two farms; ");
+    println!("the other farm's new settings move {moved} cells, {kept} are out of their reach");
+}
+
 /// Runs every check; a failing one stops the program with its place.
 pub fn selfcheck() {
     second_ways::factors_in_words();
     (0..FIELDS).for_each(second_ways::field);
     (0..DRAWINGS).for_each(second_ways::drawing);
+    two_farms();
     hostile_texts();
     fast_ways::agree(FAST_FIELDS);
     println!("selfcheck: {FIELDS} fields hold in a second way, {FAST_FIELDS} more by the fast map");

@@ -9,6 +9,7 @@ mod table;
 
 use crate::rules::direction::Flow;
 use crate::rules::factor::NO_FACTOR;
+use crate::rules::farms::Farms;
 use crate::rules::grid::Shape;
 use crate::rules::map::{judge, Map};
 use crate::rules::refusal::Refusal;
@@ -24,15 +25,17 @@ fn factors(land: &Land, formula: Formula, side: i64, table: &Table, steepness: &
     factor
 }
 
-/// The map of a ground, or the refusal.
+/// The map of a ground of one farm, or the refusal.
 pub fn map(table: &Table, shape: Shape, side: i64, ground: &[i32], settings: Settings) -> Result<Map, Refusal> {
-    let percents = judge(shape, side, ground, settings)?;
+    let farms = Farms::One(settings);
+    let accepted = judge(shape, side, ground, None, &farms)?;
+    let percents = accepted.of(0);
     let land = Land::of(shape, ground);
     let filled = flood::filled(&land);
     let flow = flow::flow(&land, &filled);
     let downhill = Downhill::of(&land, &flow);
     let count = downhill.counts();
-    let length = downhill.lengths(&flow, &count, side, &percents);
+    let length = downhill.lengths(&flow, &count, side, percents);
     let factor = factors(&land, percents.formula, side, table, &flow.steepness, &length);
     Ok(Map {
         filled: land.inner(&filled),

@@ -1,33 +1,24 @@
 //! Directions drawn by someone else: reading them, judging them, and their steepness. States docs/RULES.md, 4.7 Given
 //! directions.
 
+use super::beside::{byte, read_bytes};
 use super::direction::{steepness, Flow, LEAVES, NO_DIRECTION};
 use super::fill::rim;
 use super::grid::{bearing_of, Shape, NODATA};
 use super::refusal::{self, refuse, Refusal};
-use super::text::{read_grid, read_header};
 use super::trail::onward;
 
 /// A code that is none of the ten: what a number that is no byte is handed on as.
 const NO_CODE: u8 = 3;
 
-/// The code of a number of a text in cm: the whole number of metres, if it is a byte. NoData is 255.
+/// The code of a number of a text in cm: its byte, if it is one. NoData is 255.
 fn code(cm: i32) -> u8 {
-    if cm == NODATA {
-        return NO_DIRECTION;
-    }
-    let whole = if cm % 100 == 0 { u8::try_from(cm / 100).ok() } else { None };
-    whole.unwrap_or(NO_CODE)
+    if cm == NODATA { NO_DIRECTION } else { byte(cm).unwrap_or(NO_CODE) }
 }
 
 /// The codes of a text, which is read as a field's is; 2 if it has another shape than the field.
 pub fn read_codes(text: &[u8], shape: Shape) -> Result<Vec<u8>, Refusal> {
-    let mut numbers = vec![0; read_header(text)?.0.shape.cells()];
-    let header = read_grid(text, &mut numbers)?;
-    if header.shape != shape {
-        return refuse(refusal::LENT, 0);
-    }
-    Ok(numbers.into_iter().map(code).collect())
+    read_bytes(text, shape, code)
 }
 
 /// Whether a cell's code keeps every rule but the last: a NoData cell has 255, every other code is one of the nine, none

@@ -1,6 +1,7 @@
 //! Channels and slope lengths. States docs/RULES.md, 5 Length.
 
 use super::direction::{Flow, Slope, NO_DIRECTION};
+use super::farms::Accepted;
 use super::grid::{bearing_of, Shape};
 use super::settings::{Percents, Rule};
 use super::trail::onward;
@@ -65,18 +66,24 @@ pub struct Terrain<'a> {
     pub side: i64,
     pub flow: &'a Flow,
     pub count: &'a [u32],
-    pub percents: &'a Percents,
+    pub farms: &'a Accepted<'a>,
 }
 
 impl Terrain<'_> {
-    /// What one inflow brings.
+    /// What one inflow brings. The receiving cell's farm supplies the cutoffs.
     fn amount(&self, length: &[u64], cell: usize, inflow: usize) -> u64 {
-        amount(self.percents, self.side, self.flow.slope(cell), self.flow.slope(inflow), length[inflow])
+        amount(self.farms.of(cell), self.side, self.flow.slope(cell), self.flow.slope(inflow), length[inflow])
     }
 
-    /// The cell's length once its inflows have theirs: the greatest amount, or a start with no inflow.
+    /// Whether a cell is a channel by its own farm's rule, `largest` being the largest flow count.
+    pub fn is_channel(&self, largest: u64, cell: usize) -> bool {
+        channel(self.farms.of(cell).rule, u64::from(self.count[cell]), largest)
+    }
+
+    /// The cell's length once its inflows have theirs: 0 for a channel, else the greatest amount, or a start with no
+    /// inflow.
     pub fn measured(&self, length: &[u64], largest: u64, cell: usize) -> u64 {
-        if channel(self.percents.rule, u64::from(self.count[cell]), largest) {
+        if self.is_channel(largest, cell) {
             return 0;
         }
         let amounts = inflows(self.shape, &self.flow.direction, cell);
@@ -84,7 +91,7 @@ impl Terrain<'_> {
         greatest.unwrap_or(start(self.flow.direction[cell]))
     }
 
-    /// The largest flow count; 0 on an empty map.
+    /// The largest flow count, whoever farms the cell that has it; 0 on an empty map.
     pub fn largest(&self) -> u64 {
         u64::from(self.count.iter().copied().max().unwrap_or(0))
     }

@@ -1,9 +1,11 @@
-//! The rules of docs/RULES.md read literally: the readers, the map, given directions, the sheet, the writer and
-//! the report.
+//! The rules of docs/RULES.md read literally: the readers, the map, given directions, two farms, the sheet, the
+//! writer and the report.
 
+mod beside;
 mod big;
 pub mod direction;
 pub mod factor;
+pub mod farms;
 pub mod fill;
 pub mod float;
 pub mod float_grid;

@@ -36,3 +36,4 @@ pub const NOT_FINITE: u32 = 15;
 pub const FULL: u32 = 16;
 pub const CODE: u32 = 17;
 pub const RING: u32 = 18;
+pub const MARK: u32 = 19;

@@ -2,18 +2,18 @@
 //! States docs/RULES.md, 12 The report.
 
 use super::factor::{NO_FACTOR, TOO_LONG};
+use super::farms::{Accepted, Asked, Farms};
 use super::grid::Shape;
 use super::length::channel;
-use super::map::{judge_shape, map};
+use super::map::{judge_shape, map_by};
 use super::refusal::{self, refuse, Refusal};
-use super::settings::{percents, Percents, Settings};
 use super::text::{read_grid, read_header};
 
-/// What a report takes of a map: shape, settings, flow counts and LS.
+/// What a report takes of a map: shape, settings, with the marks of two farms, flow counts and LS.
 #[derive(Clone)]
 pub struct Mapped {
     pub shape: Shape,
-    pub settings: Settings,
+    pub farms: Farms,
     pub count: Vec<u32>,
     pub factor: Vec<u32>,
 }
@@ -64,22 +64,24 @@ impl Cell {
     }
 }
 
-/// Adding tests 1, 2, 4 in that order.
-fn judge(map: &Mapped) -> Result<Percents, Refusal> {
+/// Adding tests 1, 2, 4, 19 in that order.
+fn judge(map: &Mapped) -> Result<Accepted<'_>, Refusal> {
     judge_shape(map.shape)?;
-    if map.count.len() != map.shape.cells() || map.factor.len() != map.shape.cells() {
+    let cells = map.shape.cells();
+    if map.count.len() != cells || map.factor.len() != cells || !map.farms.fit(map.shape) {
         return refuse(refusal::LENT, 0);
     }
-    percents(map.settings)
+    map.farms.accepted()
 }
 
-/// The cells of a map that has this number in its list. The largest flow count is the largest of the counts given.
+/// The cells of a map that has this number in its list. A cell's channel rule is that of its own farm; the largest flow
+/// count is the largest of the counts given, over both farms.
 fn cells(number: usize, map: &Mapped) -> Result<Vec<Cell>, Refusal> {
-    let rule = judge(map)?.rule;
+    let farms = judge(map)?;
     let largest = u64::from(map.count.iter().copied().max().unwrap_or(0));
     let cell = |cell: usize| {
         let (count, factor) = (map.count[cell], map.factor[cell]);
-        Cell { map: number, cell, count, channel: channel(rule, count.into(), largest), factor }
+        Cell { map: number, cell, count, channel: channel(farms.of(cell).rule, count.into(), largest), factor }
     };
     Ok((0..map.shape.cells()).map(cell).collect())
 }
@@ -177,17 +179,18 @@ impl Report {
 }
 
 /// What a report takes of a text's map.
-pub fn mapped(text: &[u8], settings: Settings) -> Result<Mapped, Refusal> {
+pub fn mapped(text: &[u8], asked: Asked) -> Result<Mapped, Refusal> {
     let (header, _) = read_header(text)?;
     let mut ground = vec![0; header.shape.cells()];
     read_grid(text, &mut ground)?;
-    let map = map(header.shape, header.side, &ground, settings)?;
-    Ok(Mapped { shape: header.shape, settings, count: map.count, factor: map.factor })
+    let farms = asked.read(header.shape)?;
+    let map = map_by(header.shape, header.side, &ground, None, &farms)?;
+    Ok(Mapped { shape: header.shape, farms, count: map.count, factor: map.factor })
 }
 
 #[cfg(test)]
 mod tests {
-    use super::super::settings::{Channel, PRINTER};
+    use super::super::settings::{Channel, Settings, PRINTER};
     use super::*;
 
     const MOST: u128 = u64::MAX as u128;
@@ -198,8 +201,9 @@ mod tests {
     }
 
     fn counted(count: &[u32], factor: &[u32], channel: Channel) -> Mapped {
-        let (shape, settings) = (Shape { rows: 1, columns: factor.len() }, Settings { channel, ..PRINTER });
-        Mapped { shape, settings, count: count.to_vec(), factor: factor.to_vec() }
+        let shape = Shape { rows: 1, columns: factor.len() };
+        let farms = Farms::One(Settings { channel, ..PRINTER });
+        Mapped { shape, farms, count: count.to_vec(), factor: factor.to_vec() }
     }
 
     fn good(maps: &[Mapped]) -> Report {
@@ -265,6 +269,46 @@ mod tests {
         let maps = [counted(&[1, 2, 4], &[1; 3], half), counted(&[10, 20, 40], &[1; 3], half)];
         assert_eq!(good(&maps).channel, 2);
         assert_eq!(good(&[maps[0].clone(), counted(&[10, 20, 40], &[1; 3], Channel::Cells(9))]).channel, 4);
+    }
+
+    /// Two farms of one map: a strip whose counts and marks are given, every LS 1.
+    fn shared(count: &[u32], marks: &[u8], channels: [Channel; 2]) -> Mapped {
+        let settings = channels.map(|channel| Settings { channel, ..PRINTER });
+        let map = counted(count, &vec![1; count.len()], Channel::None);
+        Mapped { farms: Farms::Two { marks: marks.to_vec(), settings }, ..map }
+    }
+
+    /// A cell's channel rule is its own farm's; the percentage is of the largest count over both farms.
+    #[test]
+    fn channels_of_two_farms() {
+        let number = |count: &[u32], marks: &[u8], channels| good(&[shared(count, marks, channels)]).channel;
+        let (half, none) = (Channel::Percentage(50.0), Channel::None);
+        assert_eq!(number(&[1, 2, 3, 4], &[0, 0, 1, 1], [half, none]), 0);
+        assert_eq!(number(&[1, 2, 3, 4], &[0, 0, 1, 1], [none, half]), 2);
+        assert_eq!(number(&[1, 2, 3, 4], &[1, 1, 0, 0], [none, half]), 0);
+        assert_eq!(number(&[4, 3, 3, 0], &[0, 1, 0, 1], [half, Channel::Cells(0)]), 3);
+        assert_eq!(number(&[7, 7, 7], &[0, 1, 0], [Channel::Cells(6), Channel::Cells(7)]), 2);
+        let one = [counted(&[1, 2, 3, 4], &[1; 4], half)];
+        assert_eq!(good(&[shared(&[1, 2, 3, 4], &[1; 4], [none, half])]), good(&one));
+    }
+
+    /// Adding a map of two farms tests 1, 2, 4, 19, then 16.
+    #[test]
+    fn refusals_of_two_farms_in_their_order() {
+        let full = Report { maps: MOST, ..good(&[]) };
+        let bad = Channel::Percentage(0.05);
+        let refusal = |rows, marks: &[u8], channels| {
+            let map = shared(&[1, 2], marks, channels);
+            number(add(full, &Mapped { shape: Shape { rows, columns: 2 }, ..map }))
+        };
+        let none = Channel::None;
+        assert_eq!(refusal(0, &[2], [bad, bad]), (1, 0));
+        assert_eq!(refusal(1, &[2], [bad, bad]), (2, 0));
+        assert_eq!(refusal(1, &[0, 2], [bad, bad]), (4, 3));
+        assert_eq!(refusal(1, &[0, 2], [none, bad]), (4, 6));
+        assert_eq!(refusal(1, &[0, 0], [none, bad]), (4, 6));
+        assert_eq!(refusal(1, &[0, 2], [none, none]), (19, 1));
+        assert_eq!(refusal(1, &[0, 1], [none, none]), (16, 0));
     }
 
     #[test]
@@ -343,7 +387,7 @@ mod tests {
         let bad = Settings { low: 2.0, high: 2.0, channel: Channel::Percentage(0.05), ..PRINTER };
         let refusal = |rows, columns, count: usize, factor: usize, settings| {
             let (count, factor) = (vec![0; count], vec![0; factor]);
-            number(add(full, &Mapped { shape: Shape { rows, columns }, settings, count, factor }))
+            number(add(full, &Mapped { shape: Shape { rows, columns }, farms: Farms::One(settings), count, factor }))
         };
         assert_eq!(refusal(0, 1, 1, 0, bad), (1, 0));
         assert_eq!(refusal(1, 1_025, 0, 0, bad), (1, 0));
@@ -358,7 +402,7 @@ mod tests {
     #[test]
     fn the_pit_as_a_report() {
         let pit = b"ncols 3 nrows 3 xllcorner 0 yllcorner 0 cellsize 10\n5 5 5\n5 2 4\n5 5 5\n";
-        let pits = [0, 1].map(|_| mapped(pit, PRINTER).expect("the pit is accepted"));
+        let pits = [0, 1].map(|_| mapped(pit, Asked::One(PRINTER)).expect("the pit is accepted"));
         let all = good(&pits);
         assert_eq!((all.maps, all.valid, all.channel, all.zero, all.long), (2, 18, 0, 2, 0));
         assert_eq!((all.sum, all.under_1), (2 * (2 * 39_424 + 5 * 54_379 + 4_810), 18));

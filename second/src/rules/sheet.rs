@@ -1,8 +1,9 @@
 //! The sheet of one text. States docs/RULES.md, 9 The printed sheet.
 
 use super::factor::{NO_FACTOR, TOO_LONG};
-use super::grid::{Shape, NODATA};
+use super::farms::Asked;
 use super::given::read_codes;
+use super::grid::{Shape, NODATA};
 use super::map::{map_by, Map};
 use super::refusal::{self, refuse, Refusal};
 use super::settings::Settings;
@@ -52,28 +53,30 @@ pub fn lines(header: Header, ground: &[i32], map: &Map) -> Vec<String> {
     std::iter::once(first).chain(lines).collect()
 }
 
-/// The sheet of a text that is accepted, under the directions of another text if there is one.
-fn accepted(text: &[u8], codes: Option<&[u8]>, settings: Settings) -> Result<String, Refusal> {
+/// The sheet of a text that is accepted, under the directions of another text if there is one. The field is read first, then
+/// the marks, then the codes.
+fn accepted(text: &[u8], codes: Option<&[u8]>, asked: Asked) -> Result<String, Refusal> {
     let (header, ground) = read_small(text)?;
+    let farms = asked.read(header.shape)?;
     let given = codes.map(|codes| read_codes(codes, header.shape)).transpose()?;
-    let map = map_by(header.shape, header.side, &ground, given.as_deref(), settings)?;
+    let map = map_by(header.shape, header.side, &ground, given.as_deref(), &farms)?;
     Ok(lines(header, &ground, &map).concat())
 }
 
 /// The sheet under these settings; a refusal prints `refused 7 at 52` and nothing else.
 pub fn sheet(text: &[u8], settings: Settings) -> String {
-    sheet_by(text, None, settings)
+    sheet_by(text, None, Asked::One(settings))
 }
 
-/// The same under the directions of another text, if there is one.
-pub fn sheet_by(text: &[u8], codes: Option<&[u8]>, settings: Settings) -> String {
-    accepted(text, codes, settings).unwrap_or_else(|refusal| format!("{refusal}\n"))
+/// The same of one farm or of two, under the directions of another text, if there is one.
+pub fn sheet_by(text: &[u8], codes: Option<&[u8]>, asked: Asked) -> String {
+    accepted(text, codes, asked).unwrap_or_else(|refusal| format!("{refusal}\n"))
 }
 
 #[cfg(test)]
 mod tests {
     use super::*;
-    use crate::rules::settings::{JOB, PRINTER};
+    use crate::rules::settings::{Channel, JOB, PRINTER};
     use crate::texts::cases::{Example, PIT};
 
     /// The printer's sheet.
@@ -128,11 +131,29 @@ mod tests {
             2 0 500 500 0 1 5000 4810\n\
             2 1 500 500 0 1 5000 4810\n\
             2 2 500 500 0 1 5000 4810\n";
-        assert_eq!(sheet_by(PIT.as_bytes(), Some(&culvert), PRINTER), lines);
+        assert_eq!(sheet_by(PIT.as_bytes(), Some(&culvert), Asked::One(PRINTER)), lines);
         let uphill = codes("0 0 0 1 64 0 0 0 0");
-        assert_eq!(sheet_by(PIT.as_bytes(), Some(&uphill), PRINTER), "refused 17 at 4\n");
+        assert_eq!(sheet_by(PIT.as_bytes(), Some(&uphill), Asked::One(PRINTER)), "refused 17 at 4\n");
         let ring = codes("0 0 0 1 1 16 0 0 0");
-        assert_eq!(sheet_by(PIT.as_bytes(), Some(&ring), PRINTER), "refused 18 at 4\n");
+        assert_eq!(sheet_by(PIT.as_bytes(), Some(&ring), Asked::One(PRINTER)), "refused 18 at 4\n");
+    }
+
+    /// The pit of two farms: its bottom row is farm 1's, where every cell is a channel. Refusals of the field come before
+    /// those of the marks, and those before the ones of the codes.
+    #[test]
+    fn sheet_of_two_farms() {
+        let head = "ncols 3 nrows 3 xllcorner 0 yllcorner 0 cellsize 1 ";
+        let shared = |text: &[u8], codes: Option<&[u8]>, marks: &str| {
+            let (marks, second) = (format!("{head}{marks}"), Settings { channel: Channel::Cells(0), ..PRINTER });
+            sheet_by(text, codes, Asked::Two { marks: marks.as_bytes(), settings: [PRINTER, second] })
+        };
+        let one: String = printed(PIT.as_bytes()).lines().take(7).map(|line| format!("{line}\n")).collect();
+        let row = "2 0 500 500 128 1 0 0\n2 1 500 500 64 1 0 0\n2 2 500 500 64 1 0 0\n";
+        assert_eq!(shared(PIT.as_bytes(), None, "0 0 0 0 0 0 1 1 1"), format!("{one}{row}"));
+        assert_eq!(shared(PIT.as_bytes(), None, "0 0 0 0 0 0 1 2 1"), "refused 19 at 7\n");
+        assert_eq!(shared(PIT.as_bytes(), Some(b"ncols"), "0 0 0 0"), "refused 9 at 58\n");
+        assert_eq!(shared(PIT.as_bytes(), Some(b"ncols"), "0 0 0 0 0 0 1 2 1"), "refused 9 at 5\n");
+        assert_eq!(shared(b"ncols ", Some(b"ncols"), "0 0 0 0"), "refused 9 at 6\n");
     }
 
     #[test]

@@ -9,6 +9,7 @@ use super::valleys::spoiled;
 use crate::rules::direction::{flow, LEAVES, NO_DIRECTION};
 use crate::rules::fill::{filled, rim};
 use crate::rules::grid::{bearing_of, Shape, BEARINGS, NODATA};
+use crate::rules::grid_texts::Sources;
 use crate::rules::settings::Settings;
 
 /// The text of a field, that of the codes drawn on it, and the settings of the map.
@@ -16,6 +17,12 @@ pub struct Drawing {
     pub field: Vec<u8>,
     pub codes: Vec<u8>,
     pub settings: Settings,
+}
+
+impl Drawing {
+    pub fn sources(&self) -> Sources<'_> {
+        Sources { codes: Some(&self.codes), ..Sources::alone(&self.field, self.settings) }
+    }
 }
 
 /// A ground and its filled heights, which a drawing goes by.
@@ -219,7 +226,7 @@ const NUMBERS: [Option<i64>; 8] =
     [None, None, Some(-999_900), Some(25_500), Some(-100), Some(30_000), Some(1), Some(99_999_999_999)];
 
 /// A field with the codes as heights in metres; a NoData code is written as the NoData number or as 255.
-fn as_field(seed: &mut Seed, shape: Shape, codes: &[u8]) -> Field {
+pub fn as_field(seed: &mut Seed, shape: Shape, codes: &[u8]) -> Field {
     let spelled = seed.once_in(4);
     let height = |&code: &u8| (code != NO_DIRECTION || spelled).then_some(100 * i64::from(code));
     let heights = codes.iter().map(height).collect();
@@ -233,7 +240,7 @@ const REFUSED: [&str; 12] =
     ["0,5", "1,", ",5", "1,0,0", "9001", "-500.01", "1.001", "x", "+1", "1e0", "1.", "9000.01"];
 
 /// A text of codes that is wrong itself: a word, its shape, its length, its NoData number, or all of it.
-fn bad_text(seed: &mut Seed, mut field: Field, codes: &[u8]) -> Vec<u8> {
+pub fn bad_text(seed: &mut Seed, mut field: Field, codes: &[u8]) -> Vec<u8> {
     let (shape, kind, cell) = (field.shape, seed.below(10), seed.below(codes.len()));
     let code = 100 * i64::from(codes[cell]);
     match kind {
@@ -302,7 +309,7 @@ mod tests {
     fn refusals(kind: usize) -> Vec<Option<Refusal>> {
         let drawn = |number: usize| drawing(&mut Seed::of(1, number as u64), number, PRINTER);
         let drawings = (0..100).map(|number| drawn(kind + KINDS * number));
-        drawings.map(|drawing| mapped(&drawing.field, Some(&drawing.codes), drawing.settings).err()).collect()
+        drawings.map(|drawing| mapped(drawing.sources()).err()).collect()
     }
 
     fn numbers(kind: usize) -> BTreeSet<u32> {

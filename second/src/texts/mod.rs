@@ -8,6 +8,7 @@ pub mod float_grids;
 mod gentle;
 pub mod hostile;
 mod lone_headers;
+pub mod neighbours;
 pub mod seed;
 pub mod spelling;
 pub mod telling;

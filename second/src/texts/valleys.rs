@@ -89,6 +89,7 @@ pub fn valley(seed: &mut Seed, settings: Settings) -> Valley {
 #[cfg(test)]
 mod tests {
     use super::*;
+    use crate::rules::farms::Asked;
     use crate::rules::refusal::Refusal;
     use crate::rules::report::{join, mapped, report, Mapped};
     use crate::rules::settings::{Formula, LIBRARY};
@@ -99,7 +100,7 @@ mod tests {
     }
 
     fn maps(valley: &Valley) -> Result<Vec<Mapped>, Refusal> {
-        valley.parts.concat().iter().map(|text| mapped(text, valley.settings)).collect()
+        valley.parts.concat().iter().map(|text| mapped(text, Asked::One(valley.settings))).collect()
     }
 
     /// Each number of fields and each number of parts comes up, and each kind of cell in what is accepted.
@@ -118,7 +119,7 @@ mod tests {
     #[test]
     fn fields_lie_at_class_bounds() {
         let settings = Settings { channel: Channel::None, formula: Formula::Newer, ..LIBRARY };
-        let first = |text| mapped(text, settings).map(|map| map.factor[0]);
+        let first = |text| mapped(text, Asked::One(settings)).map(|map| map.factor[0]);
         assert_eq!(BOUNDS.map(first), [Ok(100_000), Ok(500_000), Ok(1_000_000)]);
     }
 

@@ -1,9 +1,13 @@
 -- `factor::map` meets its contract: a judgement refuses, or the ground is mapped. Assumes nothing.
 use mathlib.Core.Path.{sym, ap, _∙_}
 use borrow.Author.Needs.{needs}
+use Rattle.factor.specs.Farms.{one, ofFarm}
+use Rattle.factor.specs.InnerPass.{farmBy}
+use mathlib.Core.List.{[], _∷_}
+use Prim.Native.Nat.{_*_}
 use Rattle.factor.specs.Answers.{Grids, lentAt, found}
 use Rattle.factor.specs.Inner.{Passing}
-use Rattle.factor.proofs.Answers.{first-refuses}
+use Rattle.factor.proofs.Answers.{one-rules, one-naming, first-refuses}
 use Rattle.factor.proofs.map.Statement.{statement}
 use Rattle.factor.proofs.map.Tie as tie
 
@@ -12,7 +16,7 @@ abbrev start : tie.After-judge → tie.Start
 start c = let lent-all = c .before .before .before .before .before .before .before in lent-all .before .before .before .before .before
 
 abbrev judged-at : tie.After-map-sound-arg6 → tie.After-judgement2
-judged-at c = c .before .before .before .before .before .before .before
+judged-at c = c .before .before .before .before .before .before .before .before
 
 abbrev mapped-at : tie.After-slice-known10 → tie.After-map-sound
 mapped-at c = let counted = c .before .before .before .before .before .before in counted .before .before .before .before .before
@@ -24,12 +28,13 @@ grids s = lentAt (s .args .filled) (s .args .direction) (s .args .count) (s .arg
 passing :
     (c : tie.After-judgement2) →
     let s = start (c .before .before) in
-    Passing (s .args .rows) (s .args .columns) (s .args .side) (s .args .settings) (c .judgement2 .given .0 .0) (s .args .ground .now) (grids s)
+    Passing (s .args .rows) (s .args .columns) (s .args .side) (one (s .args .settings))
+    (λ x. ofFarm (c .judgement2 .given .0 .0) (c .judgement2 .given .0 .0) (farmBy (0 ∷ []) 0 x)) (s .args .ground .now) (grids s)
 passing c =
     let judges = c .before .before .judge .ensures in
     record {
       passes = sym (sym (ap found (c .judgement2 .given .1)) ∙ judges .verdict-is);
-      rules-are = judges .rules-are (c .judgement2 .given .0 .0) (c .judgement2 .given .1);
+      rules-are = one-rules (start (c .before .before) .args .settings) (judges .rules-are (c .judgement2 .given .0 .0) (c .judgement2 .given .1));
     }
 
 judge-requires : tie.Need-judge-requires
@@ -41,8 +46,11 @@ enum-known-judgement c = search needs
 enum-known-judgement-2 : tie.Need-enum-known-judgement-2
 enum-known-judgement-2 c = search needs
 
+slice-aggregate-map-sound : tie.Need-slice-aggregate-map-sound
+slice-aggregate-map-sound c = search needs
+
 map-sound-requires : tie.Need-map-sound-requires
-map-sound-requires c κs = let k = judged-at c in (start (k .before .before) .args .settings, passing k)
+map-sound-requires c κs = let k = judged-at c in let a = start (k .before .before) .args in ((one (a .settings), passing k), one-naming (a .rows * a .columns))
 
 same-length : tie.Need-same-length
 same-length c = search needs
@@ -68,7 +76,7 @@ returns c =
     let j = k .before .before in
     let s = start j in
     let a = s .args in
-    first-refuses (a .rows) (a .columns) (a .side) (a .settings) (a .source) (a .ground .now) (grids s)
+    first-refuses (a .rows) (a .columns) (a .side) (one (a .settings)) (a .source) (a .ground .now) (grids s)
     (k .judgement .given .0 .0) (sym (ap found (k .judgement .given .1)) ∙ j .judge .ensures .verdict-is)
 
 same-length-7 : tie.Need-same-length-7
@@ -93,7 +101,7 @@ returns-2 : tie.Need-returns-2
 returns-2 c =
     let m = mapped-at c in
     let k = judged-at (m .before) in
-    m .map-sound .ensures (start (k .before .before) .args .settings) (passing k)
+    m .map-sound .ensures (one (start (k .before .before) .args .settings)) (passing k)
 
 pub map-spec : {M : Type 1} → statement M
 map-spec =
@@ -102,6 +110,7 @@ map-spec =
     judge-requires
     enum-known-judgement
     enum-known-judgement-2
+    slice-aggregate-map-sound
     map-sound-requires
     same-length
     same-length-2

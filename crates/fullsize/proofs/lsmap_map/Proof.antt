@@ -1,8 +1,13 @@
--- `fullsize::lsmap_map` meets its contract: what it hands out is the answer of the map call with the settings of the six numbers, and the grids are those that it left.
+-- `fullsize::lsmap_map` meets its contract: what it hands out is the answer of the map call with the settings of the six numbers, and the grids are
+-- those that it left.
 -- Assumes nothing.
+use mathlib.Core.Path.{ap}
 use denote.Ref.{now}
 use borrow.Author.Needs.{needs}
+use Rattle.factor.specs.Farms.{one}
 use Rattle.factor.specs.Answers.{Grids, lent}
+use Rattle.fullsize.specs.Crossing.{oneFormula}
+use Rattle.fullsize.proofs.Formulas.{one-number}
 use Rattle.fullsize.proofs.Maps.{answers-of, leaves-of, accepts-of, totals-of}
 use Rattle.fullsize.proofs.lsmap_map.Statement.{statement}
 use Rattle.fullsize.proofs.lsmap_map.Tie as tie
@@ -25,7 +30,8 @@ start c = c .before .before .before .before .before .before
 
 -- the lent grids
 abbrev grids : tie.Start → Grids
-grids s = lent (now (s .args .filled)) (now (s .args .direction)) (now (s .args .count)) (now (s .args .lengths)) (now (s .args .factors)) (now (s .args .workspace))
+grids s = lent (now (s .args .filled)) (now (s .args .direction)) (now (s .args .count)) (now (s .args .lengths)) (now (s .args .factors))
+    (now (s .args .workspace))
 
 settings-of-requires : tie.Need-settings-of-requires
 settings-of-requires c κs = search needs
@@ -66,11 +72,20 @@ returns c =
     let s = start (made m) in
     let a = s .args in
     let e = c .hand-out-mapping .ensures in
-    let accepted = accepts-of (a .rows) (a .columns) (a .side) (t .result) (a .formula) (q .result) (now (a .ground)) (grids s) e (p .0) in (
-      answers-of (a .rows) (a .columns) (a .side) (a .formula) (now (a .ground)) (grids s) (t .ensures) (q .ensures) e (p .0),
+    let formulas = oneFormula (a .formula) in
+    let accepted = accepts-of (a .rows) (a .columns) (a .side) (one (t .result)) formulas (q .result) (now (a .ground)) (grids s)
+    (λ P h. one-number P (a .formula) h) e (p .0) in (
+      answers-of (a .rows) (a .columns) (a .side) formulas (now (a .ground)) (grids s) (ap one (t .ensures)) (q .ensures) e (p .0),
       (
-        leaves-of (a .rows) (a .columns) (a .side) (a .formula) (now (a .ground)) (grids s) (t .ensures) (q .ensures) (p .1 .0),
-        ((λ z. p .1 .1 .0 (accepted z)), ((λ z. totals-of (a .rows) (a .columns) (a .side) (t .result) (a .formula) (q .result) (now (a .ground)) (grids s) e (p .0) z (p .1 .1 .1 .0 (accepted z))), (λ z. p .1 .1 .1 .1 (accepted z)))),
+        leaves-of (a .rows) (a .columns) (a .side) formulas (now (a .ground)) (grids s) (ap one (t .ensures)) (q .ensures) (p .1 .0),
+        (
+          (λ z. p .1 .1 .0 (accepted z)),
+          (
+            (λ z. totals-of (a .rows) (a .columns) (a .side) (one (t .result)) formulas (q .result) (now (a .ground))
+                (grids s) (λ P h. one-number P (a .formula) h) e (p .0) z (p .1 .1 .1 .0 (accepted z))),
+            (λ z. p .1 .1 .1 .1 (accepted z)),
+          ),
+        ),
       ),
     )
 

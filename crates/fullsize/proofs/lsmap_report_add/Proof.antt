@@ -4,7 +4,9 @@ use mathlib.Core.Path.{ap, ap₂, _∙_}
 use denote.Ref.{now}
 use Rattle.settings.specs.declared.Settings.{Settings}
 use Rattle.report.specs.declared.Report.{Report}
+use Rattle.factor.specs.Farms.{one}
 use Rattle.report.specs.Maps.{mapOf}
+use Rattle.fullsize.specs.Crossing.{oneFormula}
 use Rattle.fullsize.specs.Reporting.{reportingFor, addedBy}
 use Rattle.fullsize.proofs.lsmap_report_add.Statement.{statement}
 use Rattle.fullsize.proofs.lsmap_report_add.Tie as tie
@@ -30,7 +32,8 @@ returns c =
     c .hand-out-reported .ensures
     ∙ ap (reportingFor (now (a .report)))
     (d .add .ensures
-    ∙ ap₂ (λ (x : Report) (y : Settings). addedBy x (mapOf (a .rows) (a .columns) y (now (a .count)) (now (a .factors))) (a .formula)) (r .report-of .ensures) (s .settings-of .ensures))
+    ∙ ap₂ (λ (x : Report) (y : Settings). addedBy x (mapOf (a .rows) (a .columns) (one y) (now (a .count)) (now (a .factors)))
+    (oneFormula (a .formula))) (r .report-of .ensures) (s .settings-of .ensures))
 
 pub lsmap-report-add-spec : {M : Type 1} → statement M
 lsmap-report-add-spec =

@@ -7,8 +7,9 @@ use borrow.Author.Tests.{not-true, not-false}
 use borrow.Author.Needs.{needs}
 use Rattle.text.specs.Ranges.{sizeAccepted, sideAccepted, allLong}
 use Rattle.text.proofs.Accepted.{area-few}
+use Rattle.factor.specs.Farms.{one}
 use Rattle.factor.specs.Answers.{Grids, lentAt, placesOf}
-use Rattle.factor.proofs.Judging.{judges-rows, judges-columns, judges-long, judges-side, judges-settings, judges-sound}
+use Rattle.factor.proofs.Judging.{rows-refused, columns-refused, long-refused, side-refused, farms-left, judges-refused, judges-settings, judges-sound}
 use Rattle.factor.proofs.tests.judge.Statement.{statement}
 use Rattle.factor.proofs.tests.judge.Tie as tie
 
@@ -27,10 +28,12 @@ rows-are c = sym (c .before .is-size .ensures) ∙ not-false (c .before .is-size
 columns-are : (c : tie.Else2) → sizeAccepted (start (c .before .before .before) .args .columns) ≡ true
 columns-are c = sym (c .before .is-size2 .ensures) ∙ not-false (c .before .is-size2 .result) (c .if2 .left)
 
-long-are : (c : tie.Else3) → let s = start (c .before .before .before .before .before) in allLong (s .args .rows * s .args .columns) (placesOf (s .args .ground .now) (grids s)) ≡ true
+long-are : (c : tie.Else3) → let s = start (c .before .before .before .before .before) in allLong (s .args .rows * s .args .columns)
+    (placesOf (s .args .ground .now) (grids s)) ≡ true
 long-are c = sym (c .before .are-long .ensures) ∙ not-false (c .before .are-long .result) (c .if3 .left)
 
-not-long : (c : tie.Then3) → let s = start (c .before .before .before .before .before) in allLong (s .args .rows * s .args .columns) (placesOf (s .args .ground .now) (grids s)) ≡ false
+not-long : (c : tie.Then3) → let s = start (c .before .before .before .before .before) in allLong (s .args .rows * s .args .columns)
+    (placesOf (s .args .ground .now) (grids s)) ≡ false
 not-long c = sym (c .before .are-long .ensures) ∙ not-true (c .before .are-long .result) (c .if3 .taken)
 
 side-accepted : (c : tie.Else4) → sideAccepted (start (c .before .before .before .before .before .before .before) .args .side) ≡ true
@@ -46,8 +49,9 @@ returns : tie.Need-returns
 returns c =
     let s = start (c .before .before) in
     let a = s .args in
-    judges-rows (a .rows) (a .columns) (a .side) (a .settings) (a .ground .now) (grids s) (c .unsound .ensures)
-    (sym (c .before .before .is-size .ensures) ∙ not-true (c .before .before .is-size .result) (c .before .if1 .taken))
+    judges-refused (a .rows) (a .columns) (a .side) (a .settings) (a .ground .now) (grids s) (c .unsound .ensures)
+    (rows-refused (a .rows) (a .columns) (a .side) (one (a .settings)) (a .ground .now) (grids s)
+    (sym (c .before .before .is-size .ensures) ∙ not-true (c .before .before .is-size .result) (c .before .if1 .taken)))
 
 is-size-requires-2 : tie.Need-is-size-requires-2
 is-size-requires-2 c κs = search needs
@@ -59,11 +63,13 @@ returns-2 : tie.Need-returns-2
 returns-2 c =
     let s = start (c .before .before .before .before) in
     let a = s .args in
-    judges-columns (a .rows) (a .columns) (a .side) (a .settings) (a .ground .now) (grids s) (c .unsound2 .ensures)
-    (sym (c .before .before .is-size2 .ensures) ∙ not-true (c .before .before .is-size2 .result) (c .before .if2 .taken))
+    judges-refused (a .rows) (a .columns) (a .side) (a .settings) (a .ground .now) (grids s) (c .unsound2 .ensures)
+    (columns-refused (a .rows) (a .columns) (a .side) (one (a .settings)) (a .ground .now) (grids s)
+    (sym (c .before .before .is-size2 .ensures) ∙ not-true (c .before .before .is-size2 .result) (c .before .if2 .taken)))
 
 mul-are-long : tie.Need-mul-are-long
-mul-are-long c = let s = start (c .before .before .before) in omega (arith, area-few (s .args .rows) (s .args .columns) (rows-are (c .before .before)) (columns-are c))
+mul-are-long c = let s = start (c .before .before .before) in omega
+    (arith, area-few (s .args .rows) (s .args .columns) (rows-are (c .before .before)) (columns-are c))
 
 are-long-requires : tie.Need-are-long-requires
 are-long-requires c κs = search needs
@@ -76,8 +82,9 @@ returns-3 c =
     let w = c .before .before .before in
     let s = start (w .before .before .before) in
     let a = s .args in
-    judges-long (a .rows) (a .columns) (a .side) (a .settings) (a .ground .now) (grids s)
-    (rows-are (w .before .before)) (columns-are w) (c .unsound3 .ensures) (not-long (c .before))
+    judges-refused (a .rows) (a .columns) (a .side) (a .settings) (a .ground .now) (grids s) (c .unsound3 .ensures)
+    (long-refused (a .rows) (a .columns) (a .side) (one (a .settings)) (a .ground .now) (grids s) (rows-are (w .before .before)) (columns-are w)
+    (not-long (c .before)))
 
 is-side-requires : tie.Need-is-side-requires
 is-side-requires c κs = search needs
@@ -91,8 +98,9 @@ returns-4 c =
     let w = l .before .before in
     let s = start (w .before .before .before) in
     let a = s .args in
-    judges-side (a .rows) (a .columns) (a .side) (a .settings) (a .ground .now) (grids s) (rows-are (w .before .before)) (columns-are w) (long-are l) (c .unsound4 .ensures)
-    (sym (c .before .before .is-side .ensures) ∙ not-true (c .before .before .is-side .result) (c .before .if4 .taken))
+    judges-refused (a .rows) (a .columns) (a .side) (a .settings) (a .ground .now) (grids s) (c .unsound4 .ensures)
+    (side-refused (a .rows) (a .columns) (a .side) (one (a .settings)) (a .ground .now) (grids s) (rows-are (w .before .before)) (columns-are w) (long-are l)
+    (sym (c .before .before .is-side .ensures) ∙ not-true (c .before .before .is-side .result) (c .before .if4 .taken)))
 
 judge-requires : tie.Need-judge-requires
 judge-requires c κs = search needs
@@ -113,7 +121,9 @@ returns-5 c =
     let w = l .before .before in
     let s = start (w .before .before .before) in
     let a = s .args in
-    judges-sound (a .rows) (a .columns) (a .side) (a .settings) (a .ground .now) (grids s) (rows-are (w .before .before)) (columns-are w) (long-are l) (side-accepted d)
+    judges-sound (a .rows) (a .columns) (a .side) (a .settings) (a .ground .now) (grids s)
+    (farms-left (a .rows) (a .columns) (a .side) (one (a .settings)) (a .ground .now) (grids s) (rows-are (w .before .before)) (columns-are w)
+    (long-are l) (side-accepted d))
     (sym (c .before .before .before .judge .ensures) ∙ c .before .judged .given .1)
 
 returns-6 : tie.Need-returns-6
@@ -123,7 +133,9 @@ returns-6 c =
     let w = l .before .before in
     let s = start (w .before .before .before) in
     let a = s .args in
-    judges-settings (a .rows) (a .columns) (a .side) (a .settings) (a .ground .now) (grids s) (rows-are (w .before .before)) (columns-are w) (long-are l) (side-accepted d)
+    judges-settings (a .rows) (a .columns) (a .side) (a .settings) (a .ground .now) (grids s)
+    (farms-left (a .rows) (a .columns) (a .side) (one (a .settings)) (a .ground .now) (grids s) (rows-are (w .before .before)) (columns-are w)
+    (long-are l) (side-accepted d))
     (c .unsound5 .ensures) (sym (c .before .before .before .before .judge .ensures) ∙ c .before .before .judged2 .given .1)
 
 pub judge-spec : {M : Type 1} → statement M

@@ -1,8 +1,11 @@
 -- `fullsize::mapping::map` meets its contract: a number that is no formula is refused after the tests 1 to 4, any other is the map call's. Assumes nothing.
 use denote.Ref.{now}
 use borrow.Author.Needs.{needs}
+use Rattle.factor.specs.Farms.{one}
 use Rattle.factor.specs.Answers.{Grids, lent}
-use Rattle.fullsize.proofs.Maps.{answer-is, after-is, none-answers, none-leaves, none-accepted}
+use Rattle.fullsize.specs.Crossing.{oneFormula}
+use Rattle.fullsize.proofs.Maps.{answer-is, after-is, none-leaves, one-answers, none-accepted}
+use Rattle.fullsize.proofs.Formulas.{one-passes, one-fails}
 use Rattle.fullsize.proofs.mapping.map.Statement.{statement}
 use Rattle.fullsize.proofs.mapping.map.Tie as tie
 
@@ -24,7 +27,8 @@ mapped c = let counted = c .before .before .before .before .before .before .befo
 
 -- the lent grids
 abbrev grids : tie.Start → Grids
-grids s = lent (now (s .args .filled)) (now (s .args .direction)) (now (s .args .count)) (now (s .args .lengths)) (now (s .args .factors)) (now (s .args .workspace))
+grids s = lent (now (s .args .filled)) (now (s .args .direction)) (now (s .args .count)) (now (s .args .lengths)) (now (s .args .factors))
+    (now (s .args .workspace))
 
 judge-requires : tie.Need-judge-requires
 judge-requires c κs = search needs
@@ -57,10 +61,14 @@ returns c =
     let s = start-none t in
     let a = s .args in
     let e = c .without-formula .ensures in (
-      none-answers (a .rows) (a .columns) (a .side) (a .settings) (a .formula) (a .source) (now (a .ground)) (grids s) (t .if1 .taken) (j .judge .ensures) e,
+      one-answers (a .rows) (a .columns) (a .side) (a .settings) (a .formula) (a .source) (now (a .ground)) (grids s) (t .if1 .taken) (j .judge .ensures) e,
       (
-        none-leaves (a .rows) (a .columns) (a .side) (a .settings) (a .formula) (a .source) (now (a .ground)) (grids s) (t .if1 .taken) (j .judge .ensures),
-        ((λ z. absurd (none-accepted (j .judge .result) e z)), ((λ z. absurd (none-accepted (j .judge .result) e z)), (λ z. absurd (none-accepted (j .judge .result) e z)))),
+        none-leaves (a .rows) (a .columns) (a .side) (one (a .settings)) (oneFormula (a .formula)) (a .source) (now (a .ground)) (grids s)
+            (one-fails (a .formula) (t .if1 .taken)) (j .judge .ensures .verdict-is),
+        (
+          (λ z. absurd (none-accepted (j .judge .result) e z)),
+          ((λ z. absurd (none-accepted (j .judge .result) e z)), (λ z. absurd (none-accepted (j .judge .result) e z))),
+        ),
       ),
     )
 
@@ -91,9 +99,13 @@ returns-2 c =
     let t = some m in
     let s = start t in
     let a = s .args in
+    let passes = one-passes (a .formula) (t .if1 .left) in
     let p = m .map .ensures in (
-      answer-is (a .rows) (a .columns) (a .side) (a .settings) (a .formula) (a .source) (now (a .ground)) (grids s) (t .if1 .left) (p .0),
-      (after-is (a .rows) (a .columns) (a .side) (a .settings) (a .formula) (a .source) (now (a .ground)) (grids s) (t .if1 .left) (p .1 .0), p .1 .1),
+      answer-is (a .rows) (a .columns) (a .side) (one (a .settings)) (oneFormula (a .formula)) (a .source) (now (a .ground)) (grids s) passes (p .0),
+      (
+        after-is (a .rows) (a .columns) (a .side) (one (a .settings)) (oneFormula (a .formula)) (a .source) (now (a .ground)) (grids s) passes (p .1 .0),
+        p .1 .1,
+      ),
     )
 
 pub map-spec : {M : Type 1} → statement M

@@ -1,14 +1,17 @@
 -- `fullsize::reports::add` meets its contract: a number that is no formula is refused after the map's own tests. Assumes nothing.
 use borrow.Author.Needs.{needs}
 use denote.Ref.{now}
+use Rattle.factor.specs.Farms.{one}
 use Rattle.report.specs.Maps.{Map, mapOf}
-use Rattle.fullsize.proofs.ReportNumbers.{added-is, none-added}
+use Rattle.fullsize.specs.Crossing.{oneFormula}
+use Rattle.fullsize.proofs.ReportNumbers.{added-is, one-added}
+use Rattle.fullsize.proofs.Formulas.{one-passes}
 use Rattle.fullsize.proofs.reports.add.Statement.{statement}
 use Rattle.fullsize.proofs.reports.add.Tie as tie
 
 -- the map that is added
 abbrev given : tie.Start → Map
-given s = let a = s .args in mapOf (a .rows) (a .columns) (a .settings) (now (a .count)) (now (a .factors))
+given s = let a = s .args in mapOf (a .rows) (a .columns) (one (a .settings)) (now (a .count)) (now (a .factors))
 
 judge-requires : tie.Need-judge-requires
 judge-requires c κs = search needs
@@ -20,7 +23,9 @@ returns : tie.Need-returns
 returns c =
     let t = c .before .before in
     let s = t .before .before .before in
-    none-added (s .args .report) (given s) (s .args .formula) (t .if1 .taken) (c .without-formula .ensures) (c .before .judge .ensures)
+    let a = s .args in
+    one-added (a .report) (a .rows) (a .columns) (a .settings) (now (a .count)) (now (a .factors)) (a .formula) (t .if1 .taken)
+    (c .without-formula .ensures) (c .before .judge .ensures)
 
 add-requires : tie.Need-add-requires
 add-requires c κs = search needs
@@ -29,7 +34,7 @@ returns-2 : tie.Need-returns-2
 returns-2 c =
     let t = c .before in
     let s = t .before .before .before in
-    added-is (s .args .report) (given s) (s .args .formula) (t .if1 .left) (c .add .ensures)
+    added-is (s .args .report) (given s) (oneFormula (s .args .formula)) (one-passes (s .args .formula) (t .if1 .left)) (c .add .ensures)
 
 pub add-spec : {M : Type 1} → statement M
 add-spec =

@@ -6,7 +6,6 @@ use native.Mathlib.Omega.{arith}
 use borrow.Author.Tests.{not-true, not-false}
 use Rattle.text.specs.Ranges.{sizeAccepted}
 use Rattle.text.proofs.Accepted.{area-few}
-use Rattle.report.specs.Maps.{Map, mapOf}
 use Rattle.report.proofs.InnerJudging.{rows-refused, columns-refused, count-refused, factors-refused, settings-refused, map-sound}
 use Rattle.report.proofs.tests.judge.Statement.{statement}
 use Rattle.report.proofs.tests.judge.Tie as tie
@@ -14,10 +13,6 @@ use Rattle.report.proofs.tests.judge.Tie as tie
 -- the arguments, from where the first test was made
 abbrev start : tie.After-is-size → tie.Start
 start c = c .before .before .before
-
--- the map
-abbrev given : tie.Start → Map
-given s = mapOf (s .args .rows) (s .args .columns) (s .args .settings) (s .args .count .now) (s .args .factors .now)
 
 -- what the tests tell
 rows-are : (c : tie.Else1) → sizeAccepted (start (c .before) .args .rows) ≡ true
@@ -35,7 +30,8 @@ unsound-requires c κs = search needs
 returns : tie.Need-returns
 returns c =
     let k = c .before .before in
-    c .unsound .ensures ∙ rows-refused (given (start k)) (sym (k .is-size .ensures) ∙ not-true (k .is-size .result) (c .before .if1 .taken))
+    c .unsound .ensures ∙ rows-refused (start k .args .rows) (start k .args .columns) (start k .args .settings) (start k .args .count .now)
+    (start k .args .factors .now) (sym (k .is-size .ensures) ∙ not-true (k .is-size .result) (c .before .if1 .taken))
 
 is-size-requires-2 : tie.Need-is-size-requires-2
 is-size-requires-2 c κs = search needs
@@ -47,7 +43,9 @@ returns-2 : tie.Need-returns-2
 returns-2 c =
     let k = c .before .before in
     c .unsound2 .ensures
-    ∙ columns-refused (given (start (k .before .before))) (sym (k .is-size2 .ensures) ∙ not-true (k .is-size2 .result) (c .before .if2 .taken))
+    ∙ columns-refused (start (k .before .before) .args .rows) (start (k .before .before) .args .columns) (start (k .before .before) .args .settings)
+    (start (k .before .before) .args .count .now) (start (k .before .before) .args .factors .now)
+    (sym (k .is-size2 .ensures) ∙ not-true (k .is-size2 .result) (c .before .if2 .taken))
 
 mul-if3 : tie.Need-mul-if3
 mul-if3 c =
@@ -61,7 +59,9 @@ returns-3 : tie.Need-returns-3
 returns-3 c =
     let w = c .before .before in
     c .unsound3 .ensures
-    ∙ count-refused (given (start (w .before .before .before))) (rows-are (w .before .before)) (columns-are w) (c .before .if3 .taken)
+    ∙ count-refused (start (w .before .before .before) .args .rows) (start (w .before .before .before) .args .columns)
+    (start (w .before .before .before) .args .settings) (start (w .before .before .before) .args .count .now)
+    (start (w .before .before .before) .args .factors .now) (rows-are (w .before .before)) (columns-are w) (c .before .if3 .taken)
 
 mul-if4 : tie.Need-mul-if4
 mul-if4 c =
@@ -76,7 +76,9 @@ returns-4 : tie.Need-returns-4
 returns-4 c =
     let w = c .before .before .before in
     c .unsound4 .ensures
-    ∙ factors-refused (given (start (w .before .before .before))) (rows-are (w .before .before)) (columns-are w) (c .before .if4 .taken)
+    ∙ factors-refused (start (w .before .before .before) .args .rows) (start (w .before .before .before) .args .columns)
+    (start (w .before .before .before) .args .settings) (start (w .before .before .before) .args .count .now)
+    (start (w .before .before .before) .args .factors .now) (rows-are (w .before .before)) (columns-are w) (c .before .if4 .taken)
 
 judge-requires : tie.Need-judge-requires
 judge-requires c κs = search needs
@@ -94,7 +96,9 @@ returns-5 : tie.Need-returns-5
 returns-5 c =
     let d = c .before .before .before .before in
     let w = d .before .before in
-    map-sound (given (start (w .before .before .before))) (rows-are (w .before .before)) (columns-are w) (d .before .if3 .left) (d .if4 .left)
+    map-sound (start (w .before .before .before) .args .rows) (start (w .before .before .before) .args .columns)
+    (start (w .before .before .before) .args .settings) (start (w .before .before .before) .args .count .now)
+    (start (w .before .before .before) .args .factors .now) (rows-are (w .before .before)) (columns-are w) (d .before .if3 .left) (d .if4 .left)
     (sym (c .before .before .before .judge .ensures) ∙ c .before .judged .given .1)
 
 returns-6 : tie.Need-returns-6
@@ -102,7 +106,9 @@ returns-6 c =
     let d = c .before .before .before .before .before in
     let w = d .before .before in
     c .unsound5 .ensures
-    ∙ settings-refused (given (start (w .before .before .before))) (rows-are (w .before .before)) (columns-are w) (d .before .if3 .left) (d .if4 .left)
+    ∙ settings-refused (start (w .before .before .before) .args .rows) (start (w .before .before .before) .args .columns)
+    (start (w .before .before .before) .args .settings) (start (w .before .before .before) .args .count .now)
+    (start (w .before .before .before) .args .factors .now) (rows-are (w .before .before)) (columns-are w) (d .before .if3 .left) (d .if4 .left)
     (sym (c .before .before .before .before .judge .ensures) ∙ c .before .before .judged2 .given .1)
 
 pub judge-spec : {M : Type 1} → statement M
