@@ -19,6 +19,9 @@ FIRST = {
 }
 ALL = {"get_d_any": "get_or_any"}
 
+# A parameter whose name is a tactic's today. In comments, and in the programs of stored cases, it is a word of its own and stays.
+CODE = {"ground": "elevation"}
+
 NAMES = """
 aboveIn absentNoData acceptedWith addedBy afterAdd afterBy afterJoin afterSign aimKept allLong allTo amountOf amountThen
 answerBy anyMeasure badCorners bearingAt bearingDrop bearingFall bearingKey bearingOf bearingsBySteps beforeCounts beforeMarks
@@ -71,6 +74,12 @@ def replace(text, words):
     return re.sub(pattern, lambda m: words[m.group(1)], text)
 
 
+def in_code(line):
+    at = re.search(r"(^|\s)(--|//)|^#", line)
+    end = at.start() if at else len(line)
+    return replace(line[:end], CODE) + line[end:]
+
+
 def files():
     for folder, dirs, names in os.walk("crates"):
         dirs[:] = [d for d in dirs if d != "out"]
@@ -89,6 +98,8 @@ def main():
         if path in FIRST:
             new = replace(new, FIRST[path])
         new = replace(new, words)
+        if path.startswith("crates") and "_cases/" not in path:
+            new = "\n".join(in_code(line) for line in new.split("\n"))
         if new != old:
             with open(path, "w", encoding="utf-8") as f:
                 f.write(new)

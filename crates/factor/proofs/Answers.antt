@@ -80,11 +80,11 @@ abbrev returned : terrain.Grids → List ℕ → List ℕ → List ℕ → Grids
 returned t lengths factors workspace = lent t.filled t.direction t.count lengths factors workspace
 
 -- what the terrain layer tells by accepting
-record Accepting (rows cols : ℕ) (source : Source) (ground : List ℤ) (g t : terrain.Grids) (valid longest : ℕ) : Type 0 where
-  passes : terrain.judged rows cols source ground g ≡ passed
-  mapped : Mapped rows cols ground (directions_by source rows cols ground g.direction) t
-  valid-is : valid ≡ ground_valids rows cols ground
-  longest-is : longest ≡ longest_of rows cols (directions_by source rows cols ground g.direction)
+record Accepting (rows cols : ℕ) (source : Source) (elevation : List ℤ) (g t : terrain.Grids) (valid longest : ℕ) : Type 0 where
+  passes : terrain.judged rows cols source elevation g ≡ passed
+  mapped : Mapped rows cols elevation (directions_by source rows cols elevation g.direction) t
+  valid-is : valid ≡ ground_valids rows cols elevation
+  longest-is : longest ≡ longest_of rows cols (directions_by source rows cols elevation g.direction)
 
 -- what a refusal leaves to the terrain layer's grids and to these
 left-same : (n : ℕ) (g : Grids) → returned (terrain.refused_grids n (lent_on g)) g.lengths (terrain.refused_grids n (lent_on g)).falls
@@ -98,58 +98,58 @@ left-same n g = go (leaves_zeros n)
     go true = refl
     go false = refl
 
-module _ (rows cols side : ℕ) (farms : Farms) (source : Source) (ground : List ℤ) (g : Grids) where
+module _ (rows cols side : ℕ) (farms : Farms) (source : Source) (elevation : List ℤ) (g : Grids) where
   -- the directions of the map
   abbrev dir : List ℕ
-  dir = directions_by source rows cols ground g.direction
+  dir = directions_by source rows cols elevation g.direction
 
   abbrev first : Test
-  first = verdict (first_tests rows cols side farms ground g)
+  first = verdict (first_tests rows cols side farms elevation g)
 
   -- its promise
   abbrev Made : Answer → Grids → Type 0
-  Made = Promised rows cols side farms source ground g
+  Made = Promised rows cols side farms source elevation g
 
   -- a refusal
-  refuses : (f : Refusal) → judged rows cols side farms source ground g ≡ failed f.number f.place → Made (Refused f) (refused_grids f.number g)
+  refuses : (f : Refusal) → judged rows cols side farms source elevation g ≡ failed f.number f.place → Made (Refused f) (refused_grids f.number g)
   unfolding answer after answer_of grids_of
-  refuses f j = (sym (ap (answer_of rows cols ground dir) j), (sym (ap (grids_of rows cols side farms ground dir g) j), (none, (none, none))))
+  refuses f j = (sym (ap (answer_of rows cols elevation dir) j), (sym (ap (grids_of rows cols side farms elevation dir g) j), (none, (none, none))))
     where
       -- it is no acceptance
       none : {P : Type 0} → false ≡ true → P
       none e = absurd (true≢false (sym e))
 
   -- by one of the first tests
-  pub first-refuses : (f : Refusal) → failed f.number f.place ≡ verdict (first_tests rows cols side farms ground g) → Made (Refused f) g
+  pub first-refuses : (f : Refusal) → failed f.number f.place ≡ verdict (first_tests rows cols side farms elevation g) → Made (Refused f) g
   first-refuses f e =
-      subst (Made (Refused f)) (first-kept rows cols side farms ground g (sym e))
-      (refuses f (first-fails rows cols side farms ground g source (sym e)))
+      subst (Made (Refused f)) (first-kept rows cols side farms elevation g (sym e))
+      (refuses f (first-fails rows cols side farms elevation g source (sym e)))
 
   -- ---- the terrain layer is called
 
   module _ (e : first ≡ passed) where
     abbrev heights : Test
-    heights = terrain.judged rows cols source ground (lent_on g)
+    heights = terrain.judged rows cols source elevation (lent_on g)
 
     -- it refuses, and leaves its grids t
     abbrev Left : Refusal → terrain.Grids → Type 0
-    Left f t = (t ≡ terrain.refused_grids f.number (lent_on g)) × (judged rows cols side farms source ground g ≡ failed f.number f.place)
+    Left f t = (t ≡ terrain.refused_grids f.number (lent_on g)) × (judged rows cols side farms source elevation g ≡ failed f.number f.place)
 
-    terrain-refuses : (f : Refusal) {t : terrain.Grids} → drained.Refused f ≡ terrain.answer rows cols source ground (lent_on g) →
-        After rows cols ground dir (lent_on g) t heights → Left f t
+    terrain-refuses : (f : Refusal) {t : terrain.Grids} → drained.Refused f ≡ terrain.answer rows cols source elevation (lent_on g) →
+        After rows cols elevation dir (lent_on g) t heights → Left f t
     unfolding terrain.answer terrain.answer_of
     terrain-refuses f {t} q a = go heights refl q a
       where
-        go : (v : Test) → heights ≡ v → drained.Refused f ≡ terrain.answer_of rows cols ground dir v → After rows cols ground dir (lent_on g) t v → Left f t
+        go : (v : Test) → heights ≡ v → drained.Refused f ≡ terrain.answer_of rows cols elevation dir v → After rows cols elevation dir (lent_on g) t v → Left f t
         go passed j q a = absurd (true≢false (sym (ap terrain.accepts q)))
         go (failed number place) j q a =
             let r : f ≡ record { number = number; place = place } = cc in (
               a ∙ ap (λ (r : Refusal). terrain.refused_grids r.number (lent_on g)) (sym r),
-              first_passes rows cols side farms ground g e source ∙ j ∙ sym (ap (λ (r : Refusal). failed r.number r.place) r),
+              first_passes rows cols side farms elevation g e source ∙ j ∙ sym (ap (λ (r : Refusal). failed r.number r.place) r),
             )
 
-    pub terrain-refused : (f : Refusal) {t : terrain.Grids} → drained.Refused f ≡ terrain.answer rows cols source ground (lent_on g) →
-        After rows cols ground (directions_by source rows cols ground g.direction) (lent_on g) t heights →
+    pub terrain-refused : (f : Refusal) {t : terrain.Grids} → drained.Refused f ≡ terrain.answer rows cols source elevation (lent_on g) →
+        After rows cols elevation (directions_by source rows cols elevation g.direction) (lent_on g) t heights →
         Made (Refused f) (returned t g.lengths t.falls t.workspace)
     terrain-refused f {t} q a =
         let w = terrain-refuses f q a in
@@ -157,56 +157,56 @@ module _ (rows cols side : ℕ) (farms : Farms) (source : Source) (ground : List
         (subst (Made (Refused f)) (sym (left-same f.number g)) (refuses f w.1))
 
     -- it accepts, and gives its grids
-    terrain-accepts : {valid longest : ℕ} {t : terrain.Grids} → drained.Accepted valid longest ≡ terrain.answer rows cols source ground (lent_on g) →
-        After rows cols ground dir (lent_on g) t heights → Accepting rows cols source ground (lent_on g) t valid longest
+    terrain-accepts : {valid longest : ℕ} {t : terrain.Grids} → drained.Accepted valid longest ≡ terrain.answer rows cols source elevation (lent_on g) →
+        After rows cols elevation dir (lent_on g) t heights → Accepting rows cols source elevation (lent_on g) t valid longest
     unfolding terrain.answer terrain.answer_of
     terrain-accepts {valid} {longest} {t} q a = go heights refl q a
       where
-        go : (v : Test) → heights ≡ v → drained.Accepted valid longest ≡ terrain.answer_of rows cols ground dir v → After rows cols ground dir (lent_on g) t v →
-            Accepting rows cols source ground (lent_on g) t valid longest
+        go : (v : Test) → heights ≡ v → drained.Accepted valid longest ≡ terrain.answer_of rows cols elevation dir v → After rows cols elevation dir (lent_on g) t v →
+            Accepting rows cols source elevation (lent_on g) t valid longest
         go passed j q a = record { passes = j; mapped = a; valid-is = cc; longest-is = cc }
         go (failed number place) j q a = absurd (true≢false (ap terrain.accepts q))
 
-    module _ (t : terrain.Grids) {valid longest : ℕ} (q : drained.Accepted valid longest ≡ terrain.answer rows cols source ground (lent_on g))
-        (a : After rows cols ground (directions_by source rows cols ground g.direction) (lent_on g) t heights) where
-      abbrev found : Accepting rows cols source ground (lent_on g) t valid longest
+    module _ (t : terrain.Grids) {valid longest : ℕ} (q : drained.Accepted valid longest ≡ terrain.answer rows cols source elevation (lent_on g))
+        (a : After rows cols elevation (directions_by source rows cols elevation g.direction) (lent_on g) t heights) where
+      abbrev found : Accepting rows cols source elevation (lent_on g) t valid longest
       found = terrain-accepts q a
 
       abbrev lv : List ℕ
-      lv = filled_levels rows cols ground
+      lv = filled_levels rows cols elevation
 
-      ready : Ready rows cols ground
-      ready = accepted-ready rows cols source ground (lent_on g) found.passes
+      ready : Ready rows cols elevation
+      ready = accepted-ready rows cols source elevation (lent_on g) found.passes
 
       -- what the pass assumes
-      pub accepted-measuring : Measuring rows cols side (filled_levels rows cols ground) t.direction t.count t.workspace valid g.lengths t.falls
+      pub accepted-measuring : Measuring rows cols side (filled_levels rows cols elevation) t.direction t.count t.workspace valid g.lengths t.falls
       accepted-measuring =
           let m = found.mapped in
-          let s = first-side rows cols side farms ground g e in
+          let s = first-side rows cols side farms elevation g e in
           record {
-            directed = rw m.direction-is (accepted-directed rows cols source ground (lent_on g) found.passes);
-            capped = (λ x. omega (arith, filled-small rows cols ground ready x));
+            directed = rw m.direction-is (accepted-directed rows cols source elevation (lent_on g) found.passes);
+            capped = (λ x. omega (arith, filled-small rows cols elevation ready x));
             side-some = s.0;
             side-small = s.1;
             count_long = ap length m.count-is ∙ counts-long rows cols dir;
             order_is = rw (m.direction-is, found.valid-is) m.order;
-            lengths-long = first-lengths rows cols side farms ground g e;
+            lengths-long = first-lengths rows cols side farms elevation g e;
             falls-are = m.falls-are ∙ ap (falls_of rows cols lv) (sym m.direction-is);
           }
 
       -- and the whole promise
       pub accepted-promised : {rules : ℕ → Rules} {lengths factors workspace : List ℕ} → rules ≡ rules_in farms →
           (lengths ≡ lengths_of rows cols side rules lv t.direction t.count) × (factors ≡ factors_of rows cols side rules lv t.direction lengths) →
-          workspace ≡ replicate (rows * cols) 0 → Drainage rows cols ground t.filled t.direction t.count valid →
+          workspace ≡ replicate (rows * cols) 0 → Drainage rows cols elevation t.filled t.direction t.count valid →
           Made (Accepted valid longest) (returned t lengths factors workspace)
       unfolding answer after answer_of grids_of map_of
       accepted-promised {rules} {lengths} {factors} {workspace} r d w n =
-          let j = first_passes rows cols side farms ground g e source ∙ found.passes in
-          let answers = answer-is ∙ sym (ap (answer_of rows cols ground dir) j) in
-          let leaves = grids-are ∙ sym (ap (grids_of rows cols side farms ground dir g) j) in
+          let j = first_passes rows cols side farms elevation g e source ∙ found.passes in
+          let answers = answer-is ∙ sym (ap (answer_of rows cols elevation dir) j) in
+          let leaves = grids-are ∙ sym (ap (grids_of rows cols side farms elevation dir g) j) in
           (answers, (leaves, ((λ x. n.trails), ((λ x. n.totals), (λ x. n.surface)))))
         where
-          answer-is : Accepted valid longest ≡ Accepted (ground_valids rows cols ground) (longest_of rows cols dir)
+          answer-is : Accepted valid longest ≡ Accepted (ground_valids rows cols elevation) (longest_of rows cols dir)
           answer-is = ap₂ Accepted found.valid-is found.longest-is
 
           count-is : t.count ≡ counts_of rows cols dir
@@ -224,5 +224,5 @@ module _ (rows cols side : ℕ) (farms : Farms) (source : Source) (ground : List
               d.1 ∙ ap (λ (r : ℕ → Rules). factors_of rows cols side r lv t.direction lengths) r
               ∙ ap₂ (factors_of rows cols side (rules_in farms) lv) direction-is lengths-are
 
-          grids-are : returned t lengths factors workspace ≡ map_of rows cols side (rules_in farms) ground dir
+          grids-are : returned t lengths factors workspace ≡ map_of rows cols side (rules_in farms) elevation dir
           grids-are = lent_same found.mapped.filled_is direction-is count-is lengths-are factors-are w

@@ -199,55 +199,55 @@ module _ (rows cols side : ℕ) (lv dir count marks : List ℕ) (trails : (x : �
 -- ---- two accepted calls over one ground
 
 -- what an accepted call leaves, and answers
-module _ (rows cols side : ℕ) (farms : Farms) (source : Source) (ground : List ℤ) (g : Grids) (e : judged rows cols side farms source ground g ≡ passed) where
+module _ (rows cols side : ℕ) (farms : Farms) (source : Source) (elevation : List ℤ) (g : Grids) (e : judged rows cols side farms source elevation g ≡ passed) where
   abbrev dir : List ℕ
-  dir = directions_by source rows cols ground g.direction
+  dir = directions_by source rows cols elevation g.direction
 
-  left_is : after rows cols side farms source ground g ≡ map_of rows cols side (rules_in farms) ground (directions_by source rows cols ground g.direction)
+  left_is : after rows cols side farms source elevation g ≡ map_of rows cols side (rules_in farms) elevation (directions_by source rows cols elevation g.direction)
   unfolding after grids_of
-  left_is = ap (grids_of rows cols side farms ground dir g) e
+  left_is = ap (grids_of rows cols side farms elevation dir g) e
 
-  answer-is : answer rows cols side farms source ground g ≡ answer_of rows cols ground (directions_by source rows cols ground g.direction) passed
+  answer-is : answer rows cols side farms source elevation g ≡ answer_of rows cols elevation (directions_by source rows cols elevation g.direction) passed
   unfolding answer
-  answer-is = ap (answer_of rows cols ground dir) e
+  answer-is = ap (answer_of rows cols elevation dir) e
 
-  directed : Directed rows cols (directions_by source rows cols ground g.direction)
-  directed = accepted-directed rows cols source ground (lent_on g)
-      (sym (first_passes rows cols side farms ground g (first-of rows cols side farms ground g source e) source) ∙ e)
+  directed : Directed rows cols (directions_by source rows cols elevation g.direction)
+  directed = accepted-directed rows cols source elevation (lent_on g)
+      (sym (first_passes rows cols side farms elevation g (first-of rows cols side farms elevation g source e) source) ∙ e)
 
-module _ (rows cols side : ℕ) (source : Source) (ground : List ℤ) (g g' : Grids)
-    (same : directions_by source rows cols ground g.direction ≡ directions_by source rows cols ground g'.direction) where
+module _ (rows cols side : ℕ) (source : Source) (elevation : List ℤ) (g g' : Grids)
+    (same : directions_by source rows cols elevation g.direction ≡ directions_by source rows cols elevation g'.direction) where
   -- Filled heights, directions, counts and the longest trail do not depend on anybody's settings.
-  pub same-water : (farms farms' : Farms) → judged rows cols side farms source ground g ≡ passed → judged rows cols side farms' source ground g' ≡ passed →
-      let a = after rows cols side farms source ground g in
-      let b = after rows cols side farms' source ground g' in
+  pub same-water : (farms farms' : Farms) → judged rows cols side farms source elevation g ≡ passed → judged rows cols side farms' source elevation g' ≡ passed →
+      let a = after rows cols side farms source elevation g in
+      let b = after rows cols side farms' source elevation g' in
       (a.filled ≡ b.filled) × (a.direction ≡ b.direction) × (a.count ≡ b.count)
-      × (answer rows cols side farms source ground g ≡ answer rows cols side farms' source ground g')
+      × (answer rows cols side farms source elevation g ≡ answer rows cols side farms' source elevation g')
   unfolding map_of
   same-water farms farms' e f =
-      let p = left_is rows cols side farms source ground g e in
-      let q = left_is rows cols side farms' source ground g' f in (
+      let p = left_is rows cols side farms source elevation g e in
+      let q = left_is rows cols side farms' source elevation g' f in (
         ap (λ (h : Grids). h.filled) p ∙ sym (ap (λ (h : Grids). h.filled) q),
         ap (λ (h : Grids). h.direction) p ∙ same ∙ sym (ap (λ (h : Grids). h.direction) q),
         ap (λ (h : Grids). h.count) p ∙ ap (counts_of rows cols) same ∙ sym (ap (λ (h : Grids). h.count) q),
-        answer-is rows cols side farms source ground g e ∙ ap (λ (l : List ℕ). answer_of rows cols ground l passed) same
-            ∙ sym (answer-is rows cols side farms' source ground g' f),
+        answer-is rows cols side farms source elevation g e ∙ ap (λ (l : List ℕ). answer_of rows cols elevation l passed) same
+            ∙ sym (answer-is rows cols side farms' source elevation g' f),
       )
 
   module _ (marks : List ℕ) (z : ℕ) (cell : z < rows * cols) where
     -- the farm that changes its settings, and any accepted settings before and after
-    stays : (changed : ℕ) (farms farms' : Farms) → judged rows cols side farms source ground g ≡ passed →
-        judged rows cols side farms' source ground g' ≡ passed →
+    stays : (changed : ℕ) (farms farms' : Farms) → judged rows cols side farms source elevation g ≡ passed →
+        judged rows cols side farms' source elevation g' ≡ passed →
         ((x : ℕ) → (farm_at marks x ≡ changed → ⊥) → rules_in farms x ≡ rules_in farms' x) → (farm_at marks z ≡ changed → ⊥) →
-        ((y : ℕ) → farm_at marks y ≡ changed → OnTrailInto rows cols (directions_by source rows cols ground g.direction) y z → ⊥) →
-        Same (after rows cols side farms source ground g) (after rows cols side farms' source ground g') z
+        ((y : ℕ) → farm_at marks y ≡ changed → OnTrailInto rows cols (directions_by source rows cols elevation g.direction) y z → ⊥) →
+        Same (after rows cols side farms source elevation g) (after rows cols side farms' source elevation g') z
     unfolding map_of
     stays changed farms farms' e f others other apart =
-        let d = directions_by source rows cols ground g.direction in
-        let lv = filled_levels rows cols ground in
-        let p = left_is rows cols side farms source ground g e in
-        let q = left_is rows cols side farms' source ground g' f ∙ ap (map_of rows cols side (rules_in farms') ground) (sym same) in
-        let trails = trail-there (directed rows cols side farms source ground g e) in
+        let d = directions_by source rows cols elevation g.direction in
+        let lv = filled_levels rows cols elevation in
+        let p = left_is rows cols side farms source elevation g e in
+        let q = left_is rows cols side farms' source elevation g' f ∙ ap (map_of rows cols side (rules_in farms') elevation) (sym same) in
+        let trails = trail-there (directed rows cols side farms source elevation g e) in
         record {
           length-same = ap (λ (h : Grids). get_or h.lengths z 0) p
               ∙ length-apart rows cols side lv d (counts_of rows cols d) marks trails changed (rules_in farms) (rules_in farms') others z cell other apart
@@ -258,25 +258,25 @@ module _ (rows cols side : ℕ) (source : Source) (ground : List ℤ) (g g' : Gr
         }
 
     -- farm 0 changes its settings: the cells of farm 1 that no trail from farm 0 reaches
-    pub second-stays : (s s' t : Settings) → judged rows cols side (two s t marks) source ground g ≡ passed →
-        judged rows cols side (two s' t marks) source ground g' ≡ passed →
-        farm_at marks z ≡ 1 → ((y : ℕ) → farm_at marks y ≡ 0 → OnTrailInto rows cols (after rows cols side (two s t marks) source ground g).direction y z → ⊥) →
-        Same (after rows cols side (two s t marks) source ground g) (after rows cols side (two s' t marks) source ground g') z
+    pub second-stays : (s s' t : Settings) → judged rows cols side (two s t marks) source elevation g ≡ passed →
+        judged rows cols side (two s' t marks) source elevation g' ≡ passed →
+        farm_at marks z ≡ 1 → ((y : ℕ) → farm_at marks y ≡ 0 → OnTrailInto rows cols (after rows cols side (two s t marks) source elevation g).direction y z → ⊥) →
+        Same (after rows cols side (two s t marks) source elevation g) (after rows cols side (two s' t marks) source elevation g') z
     unfolding rules_in map_of
     second-stays s s' t e f m apart =
-        let p = left_is rows cols side (two s t marks) source ground g e in
+        let p = left_is rows cols side (two s t marks) source elevation g e in
         stays 0 (two s t marks) (two s' t marks) e f (λ x o. rw (ne_eqb (farm_at marks x) 0 o)) (λ o. omega arith)
         (λ y o i. apart y o (subst (λ (l : List ℕ). OnTrailInto rows cols l y z) (sym (ap (λ (h : Grids). h.direction) p)) i))
 
     -- and the other way round
-    pub first-stays : (s t t' : Settings) → judged rows cols side (two s t marks) source ground g ≡ passed →
-        judged rows cols side (two s t' marks) source ground g' ≡ passed →
-        farm_at marks z ≡ 0 → ((y : ℕ) → farm_at marks y ≡ 1 → OnTrailInto rows cols (after rows cols side (two s t marks) source ground g).direction y z → ⊥) →
-        Same (after rows cols side (two s t marks) source ground g) (after rows cols side (two s t' marks) source ground g') z
+    pub first-stays : (s t t' : Settings) → judged rows cols side (two s t marks) source elevation g ≡ passed →
+        judged rows cols side (two s t' marks) source elevation g' ≡ passed →
+        farm_at marks z ≡ 0 → ((y : ℕ) → farm_at marks y ≡ 1 → OnTrailInto rows cols (after rows cols side (two s t marks) source elevation g).direction y z → ⊥) →
+        Same (after rows cols side (two s t marks) source elevation g) (after rows cols side (two s t' marks) source elevation g') z
     unfolding rules_in map_of
     first-stays s t t' e f m apart =
-        let p = left_is rows cols side (two s t marks) source ground g e in
-        let k = first-marked rows cols side s t marks ground g (first-of rows cols side (two s t marks) ground g source e) in
+        let p = left_is rows cols side (two s t marks) source elevation g e in
+        let k = first-marked rows cols side s t marks elevation g (first-of rows cols side (two s t marks) elevation g source e) in
         stays 1 (two s t marks) (two s t' marks) e f
         (λ x o. let n : farm_at marks x ≡ 0 = zero_of (farm_at marks x) (k.few x) o in rw (eq-eqb (farm_at marks x) 0 n)) (λ o. omega arith)
         (λ y o i. apart y o (subst (λ (l : List ℕ). OnTrailInto rows cols l y z) (sym (ap (λ (h : Grids). h.direction) p)) i))

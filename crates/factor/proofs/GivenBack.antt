@@ -15,30 +15,30 @@ use Rattle.factor.specs.Farms.{Farms}
 use Rattle.factor.specs.Answers.{Grids, first_tests, tests, judged, answer_of, answer, grids_of, after}
 use Rattle.factor.proofs.Judging.{lent_on, first_passes}
 
-module _ (rows cols side : ℕ) (farms : Farms) (ground : List ℤ) (g : Grids) (own : g.direction ≡ ground_directions rows cols ground) where
+module _ (rows cols side : ℕ) (farms : Farms) (elevation : List ℤ) (g : Grids) (own : g.direction ≡ ground_directions rows cols elevation) where
   abbrev lv : List ℕ
-  lv = filled_levels rows cols ground
+  lv = filled_levels rows cols elevation
 
   -- the tests that do not depend on whose the directions are
   abbrev common : List Test
-  common = first_tests rows cols side farms ground g ++ (height_test (rows * cols) ground ∷ [])
+  common = first_tests rows cols side farms elevation g ++ (height_test (rows * cols) elevation ∷ [])
 
-  own_is : judged rows cols side farms Own ground g ≡ verdict common
+  own_is : judged rows cols side farms Own elevation g ≡ verdict common
   unfolding judged tests
   own_is = refl
 
-  given_is : judged rows cols side farms Given ground g ≡ verdict (common ++ given_tests rows cols lv g.direction)
+  given_is : judged rows cols side farms Given elevation g ≡ verdict (common ++ given_tests rows cols lv g.direction)
   unfolding judged tests
-  given_is = ap verdict (sym (append_assoc (first_tests rows cols side farms ground g) (height_test (rows * cols) ground ∷ [])
+  given_is = ap verdict (sym (append_assoc (first_tests rows cols side farms elevation g) (height_test (rows * cols) elevation ∷ [])
       (given_tests rows cols lv g.direction)))
 
   accepted : verdict common ≡ passed → verdict (given_tests rows cols lv g.direction) ≡ passed
   accepted e =
-      let f = (verdict-parts (first_tests rows cols side farms ground g) (height_test (rows * cols) ground ∷ []) e).0 in
-      let ready = accepted-ready rows cols Own ground (lent_on g) (sym (first_passes rows cols side farms ground g f Own) ∙ own_is ∙ e) in
-      ap (λ (d : List ℕ). verdict (given_tests rows cols lv d)) own ∙ own-accepted rows cols ground ready
+      let f = (verdict-parts (first_tests rows cols side farms elevation g) (height_test (rows * cols) elevation ∷ []) e).0 in
+      let ready = accepted-ready rows cols Own elevation (lent_on g) (sym (first_passes rows cols side farms elevation g f Own) ∙ own_is ∙ e) in
+      ap (λ (d : List ℕ). verdict (given_tests rows cols lv d)) own ∙ own-accepted rows cols elevation ready
 
-  pub back-judged : judged rows cols side farms Given ground g ≡ judged rows cols side farms Own ground g
+  pub back-judged : judged rows cols side farms Given elevation g ≡ judged rows cols side farms Own elevation g
   back-judged = given_is ∙ go (verdict common) refl ∙ sym own_is
     where
       go : (t : Test) → verdict common ≡ t → verdict (common ++ given_tests rows cols lv g.direction) ≡ verdict common
@@ -46,10 +46,10 @@ module _ (rows cols side : ℕ) (farms : Farms) (ground : List ℤ) (g : Grids) 
       go (failed number place) e = verdict-before common (given_tests rows cols lv g.direction) e ∙ sym e
 
   -- the same answer, and the same grids afterwards
-  pub back-answer : answer rows cols side farms Given ground g ≡ answer rows cols side farms Own ground g
+  pub back-answer : answer rows cols side farms Given elevation g ≡ answer rows cols side farms Own elevation g
   unfolding answer
-  back-answer = ap₂ (answer_of rows cols ground) own back-judged
+  back-answer = ap₂ (answer_of rows cols elevation) own back-judged
 
-  pub back-after : after rows cols side farms Given ground g ≡ after rows cols side farms Own ground g
+  pub back-after : after rows cols side farms Given elevation g ≡ after rows cols side farms Own elevation g
   unfolding after
-  back-after = ap₂ (λ (d : List ℕ) (t : Test). grids_of rows cols side farms ground d g t) own back-judged
+  back-after = ap₂ (λ (d : List ℕ) (t : Test). grids_of rows cols side farms elevation d g t) own back-judged

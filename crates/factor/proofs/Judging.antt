@@ -45,11 +45,11 @@ all-long n [] w = refl
 all-long n (a ∷ l) w = ap₂ ◌&&◌ (eq-eqb a n w.0) (all-long n l w.1)
 
 -- an answer with number 0 is no refusal, whatever the tests were, if none of them refuses with 0
-pub answer-some : (rows cols : ℕ) (ground : List ℤ) (dir : List ℕ) (t : Test) → Numbered t → (told (answer_of rows cols ground dir t)).number ≡ 0 →
-    accepts (answer_of rows cols ground dir t) ≡ true
+pub answer-some : (rows cols : ℕ) (elevation : List ℤ) (dir : List ℕ) (t : Test) → Numbered t → (told (answer_of rows cols elevation dir t)).number ≡ 0 →
+    accepts (answer_of rows cols elevation dir t) ≡ true
 unfolding answer_of
-answer-some rows cols ground dir passed n e = refl
-answer-some rows cols ground dir (failed number place) n e = absurd (omega arith)
+answer-some rows cols elevation dir passed n e = refl
+answer-some rows cols elevation dir (failed number place) n e = absurd (omega arith)
 
 -- ---- the number of a refusal
 
@@ -92,12 +92,12 @@ pub lent-long : (n : ℕ) (farms : Farms) (l : List ℕ) → AllLong n (mark_pla
 lent-long n (one s) l w = w
 lent-long n (two s t marks) l w = w.1
 
-module _ (rows cols side : ℕ) (farms : Farms) (ground : List ℤ) (g : Grids) where
+module _ (rows cols side : ℕ) (farms : Farms) (elevation : List ℤ) (g : Grids) where
   abbrev size : Test
   size = size_test rows cols
 
   abbrev long : Test
-  long = length_test (rows * cols) (mark_places farms ++ places_of ground g)
+  long = length_test (rows * cols) (mark_places farms ++ places_of elevation g)
 
   abbrev sided : Test
   sided = side_test side
@@ -106,23 +106,23 @@ module _ (rows cols side : ℕ) (farms : Farms) (ground : List ℤ) (g : Grids) 
   chosen = farm_tests (rows * cols) farms
 
   abbrev heights : Test
-  heights = height_test (rows * cols) ground
+  heights = height_test (rows * cols) elevation
 
   -- the tests of the directions
   abbrev later : Source → List Test
-  later source = source_tests source rows cols (filled_levels rows cols ground) g.direction
+  later source = source_tests source rows cols (filled_levels rows cols elevation) g.direction
 
   -- what the first tests decide
   abbrev pub first : Test
-  first = verdict (first_tests rows cols side farms ground g)
+  first = verdict (first_tests rows cols side farms elevation g)
 
   -- ---- the cases in their order, as the code tests them
 
-  pub rows-refused : size_accepted rows ≡ false → verdict (first_tests rows cols side farms ground g) ≡ failed 1 0
+  pub rows-refused : size_accepted rows ≡ false → verdict (first_tests rows cols side farms elevation g) ≡ failed 1 0
   unfolding first_tests early_tests
   rows-refused e = verdict-stops (long ∷ sided ∷ chosen) (rows-fail rows cols e)
 
-  pub columns-refused : size_accepted cols ≡ false → verdict (first_tests rows cols side farms ground g) ≡ failed 1 0
+  pub columns-refused : size_accepted cols ≡ false → verdict (first_tests rows cols side farms elevation g) ≡ failed 1 0
   unfolding first_tests early_tests
   columns-refused e = verdict-stops (long ∷ sided ∷ chosen) (columns-fail rows cols e)
 
@@ -131,28 +131,28 @@ module _ (rows cols side : ℕ) (farms : Farms) (ground : List ℤ) (g : Grids) 
     unfolding first_tests early_tests
     size-left = verdict-next (long ∷ sided ∷ chosen) (size-passes rows cols r c)
 
-    pub long-refused : all_long (rows * cols) (mark_places farms ++ places_of ground g) ≡ false → verdict (first_tests rows cols side farms ground g) ≡ failed 2 0
-    long-refused e = size-left ∙ verdict-stops (sided ∷ chosen) (lengths-fail (rows * cols) (mark_places farms ++ places_of ground g) e)
+    pub long-refused : all_long (rows * cols) (mark_places farms ++ places_of elevation g) ≡ false → verdict (first_tests rows cols side farms elevation g) ≡ failed 2 0
+    long-refused e = size-left ∙ verdict-stops (sided ∷ chosen) (lengths-fail (rows * cols) (mark_places farms ++ places_of elevation g) e)
 
-    module _ (l : all_long (rows * cols) (mark_places farms ++ places_of ground g) ≡ true) where
+    module _ (l : all_long (rows * cols) (mark_places farms ++ places_of elevation g) ≡ true) where
       long-left : first ≡ verdict (sided ∷ chosen)
-      long-left = size-left ∙ verdict-next (sided ∷ chosen) (lengths-pass (rows * cols) (mark_places farms ++ places_of ground g) l)
+      long-left = size-left ∙ verdict-next (sided ∷ chosen) (lengths-pass (rows * cols) (mark_places farms ++ places_of elevation g) l)
 
-      pub side-refused : side_accepted side ≡ false → verdict (first_tests rows cols side farms ground g) ≡ failed 3 0
+      pub side-refused : side_accepted side ≡ false → verdict (first_tests rows cols side farms elevation g) ≡ failed 3 0
       side-refused e = long-left ∙ verdict-stops chosen (side-fails side e)
 
-      pub farms-left : side_accepted side ≡ true → verdict (first_tests rows cols side farms ground g) ≡ verdict (farm_tests (rows * cols) farms)
+      pub farms-left : side_accepted side ≡ true → verdict (first_tests rows cols side farms elevation g) ≡ verdict (farm_tests (rows * cols) farms)
       farms-left s = long-left ∙ verdict-next chosen (side-passes side s)
 
   -- ---- what is left to the terrain layer
 
   -- a failure of the first ones decides
-  pub first-fails : (source : Source) {number place : ℕ} → first ≡ failed number place → judged rows cols side farms source ground g ≡ failed number place
+  pub first-fails : (source : Source) {number place : ℕ} → first ≡ failed number place → judged rows cols side farms source elevation g ≡ failed number place
   unfolding judged tests first_tests early_tests
   first-fails source e = verdict-before (size ∷ long ∷ sided ∷ chosen) (heights ∷ later source) e
 
   -- all are passed if the call is accepted
-  pub first-of : (source : Source) → judged rows cols side farms source ground g ≡ passed → verdict (first_tests rows cols side farms ground g) ≡ passed
+  pub first-of : (source : Source) → judged rows cols side farms source elevation g ≡ passed → verdict (first_tests rows cols side farms elevation g) ≡ passed
   unfolding judged tests first_tests early_tests
   first-of source e = (verdict-parts (size ∷ long ∷ sided ∷ chosen) (heights ∷ later source) e).0
 
@@ -178,11 +178,11 @@ module _ (rows cols side : ℕ) (farms : Farms) (ground : List ℤ) (g : Grids) 
     first-farms = passed-side.1
 
     -- the marks and each lent slice have one place per cell
-    pub all-places : AllLong (rows * cols) (mark_places farms ++ places_of ground g)
-    all-places = lengths-passed (rows * cols) (mark_places farms ++ places_of ground g) passed-long.0
+    pub all-places : AllLong (rows * cols) (mark_places farms ++ places_of elevation g)
+    all-places = lengths-passed (rows * cols) (mark_places farms ++ places_of elevation g) passed-long.0
 
-    places : AllLong (rows * cols) (places_of ground g)
-    places = lent-long (rows * cols) farms (places_of ground g) all-places
+    places : AllLong (rows * cols) (places_of elevation g)
+    places = lent-long (rows * cols) farms (places_of elevation g) all-places
 
     pub first-lengths : length g.lengths ≡ rows * cols
     first-lengths = places.1.1.1.1.0
@@ -191,13 +191,13 @@ module _ (rows cols side : ℕ) (farms : Farms) (ground : List ℤ) (g : Grids) 
     first-workspace = places.1.1.1.1.1.1.0
 
     abbrev lent-on : List ℕ
-    lent-on = terrain_places ground (lent_on g)
+    lent-on = terrain_places elevation (lent_on g)
 
     lent-places : AllLong (rows * cols) lent-on
     lent-places = (places.0, (places.1.0, (places.1.1.0, (places.1.1.1.0, places.1.1.1.1.1))))
 
     -- if they are passed, the terrain layer's tests decide
-    pub first_passes : (source : Source) → judged rows cols side farms source ground g ≡ terrain_judged rows cols source ground (lent_on g)
+    pub first_passes : (source : Source) → judged rows cols side farms source elevation g ≡ terrain_judged rows cols source elevation (lent_on g)
     unfolding judged tests first_tests early_tests terrain_judged terrain_tests ground_tests
     first_passes source =
         let t = length_test (rows * cols) lent-on in
@@ -208,66 +208,66 @@ module _ (rows cols side : ℕ) (farms : Farms) (ground : List ℤ) (g : Grids) 
   -- ---- the number of a refusal
 
   -- what holds of it, if it does for each of these numbers: those before 19, and all of the first
-  pub early-number : (P : ℕ → Type 0) → P 1 → P 2 → P 3 → P 4 → OfNumber P (verdict (early_tests rows cols side farms ground g))
+  pub early-number : (P : ℕ → Type 0) → P 1 → P 2 → P 3 → P 4 → OfNumber P (verdict (early_tests rows cols side farms elevation g))
   unfolding early_tests size_test length_test side_test
   early-number P a b c d =
       verdict-number P size (long ∷ sided ∷ settings_tests farms) (test-number P (size_accepted rows && size_accepted cols) 1 0 a)
-      (verdict-number P long (sided ∷ settings_tests farms) (test-number P (all_long (rows * cols) (mark_places farms ++ places_of ground g)) 2 0 b)
+      (verdict-number P long (sided ∷ settings_tests farms) (test-number P (all_long (rows * cols) (mark_places farms ++ places_of elevation g)) 2 0 b)
       (verdict-number P sided (settings_tests farms) (test-number P (side_accepted side) 3 0 c) (settings-number P farms d)))
 
   first-number : (P : ℕ → Type 0) → P 1 → P 2 → P 3 → P 4 → P 19 → OfNumber P first
   unfolding first_tests
   first-number P a b c d e =
-      joined_number P (early_tests rows cols side farms ground g) (mark_tests (rows * cols) farms) (early-number P a b c d) (marks-number P (rows * cols) farms e)
+      joined_number P (early_tests rows cols side farms elevation g) (mark_tests (rows * cols) farms) (early-number P a b c d) (marks-number P (rows * cols) farms e)
 
   pub later-number : (P : ℕ → Type 0) → P 5 → P 17 → P 18 → (source : Source) → OfNumber P
-      (verdict (height_test (rows * cols) ground ∷ source_tests source rows cols (filled_levels rows cols ground) g.direction))
+      (verdict (height_test (rows * cols) elevation ∷ source_tests source rows cols (filled_levels rows cols elevation) g.direction))
   unfolding verdict height_test code_test ring_test
   later-number P a b c source =
-      verdict-number P heights (later source) (test-number P (not (ltb (first_bad (rows * cols) ground) (rows * cols))) 5
-      (first_bad (rows * cols) ground) a) (go source)
+      verdict-number P heights (later source) (test-number P (not (ltb (first_bad (rows * cols) elevation) (rows * cols))) 5
+      (first_bad (rows * cols) elevation) a) (go source)
     where
       go : (source : Source) → OfNumber P (verdict (later source))
       go Own = tt
       go Given =
-          let lv = filled_levels rows cols ground in
+          let lv = filled_levels rows cols elevation in
           let dir = g.direction in
           verdict-number P (code_test rows cols lv dir) (ring_test rows cols dir ∷ [])
           (test-number P (not (ltb (first_broken rows cols lv dir) (rows * cols))) 17 (first_broken rows cols lv dir) b)
           (verdict-number P (ring_test rows cols dir) [] (test-number P (not (ltb (first_ring rows cols dir) (rows * cols))) 18 (first_ring rows cols dir) c) tt)
 
   judged-number : (P : ℕ → Type 0) → P 1 → P 2 → P 3 → P 4 → P 19 → P 5 → P 17 → P 18 → (source : Source) →
-      OfNumber P (judged rows cols side farms source ground g)
+      OfNumber P (judged rows cols side farms source elevation g)
   unfolding judged tests
-  judged-number P a b c d e f h i source = joined_number P (first_tests rows cols side farms ground g) (heights ∷ later source)
+  judged-number P a b c d e f h i source = joined_number P (first_tests rows cols side farms elevation g) (heights ∷ later source)
       (first-number P a b c d e) (later-number P f h i source)
 
   -- no number is 0, so an answer with number 0 is no refusal
-  pub number-some : (source : Source) → (told (answer rows cols side farms source ground g)).number ≡ 0 →
-      accepts (answer rows cols side farms source ground g) ≡ true
+  pub number-some : (source : Source) → (told (answer rows cols side farms source elevation g)).number ≡ 0 →
+      accepts (answer rows cols side farms source elevation g) ≡ true
   unfolding answer
   number-some source =
-      answer-some rows cols ground (directions_by source rows cols ground g.direction) (judged rows cols side farms source ground g)
-      (is-numbered (judged rows cols side farms source ground g)
+      answer-some rows cols elevation (directions_by source rows cols elevation g.direction) (judged rows cols side farms source elevation g)
+      (is-numbered (judged rows cols side farms source elevation g)
       (judged-number (λ n. 1 ≤ n) (omega arith) (omega arith) (omega arith) (omega arith) (omega arith) (omega arith) (omega arith) (omega arith) source))
 
   -- the first tests' numbers are neither 17 nor 18: they leave every lent grid as it was
-  pub first-kept : {number place : ℕ} → verdict (first_tests rows cols side farms ground g) ≡ failed number place → refused_grids number g ≡ g
+  pub first-kept : {number place : ℕ} → verdict (first_tests rows cols side farms elevation g) ≡ failed number place → refused_grids number g ≡ g
   first-kept e = subst (OfNumber (λ n. refused_grids n g ≡ g)) e (first-number (λ n. refused_grids n g ≡ g) refl refl refl refl refl)
 
 -- ---- the judgement of one farm
 
-module _ (rows cols side : ℕ) (settings : Settings) (ground : List ℤ) (g : Grids) where
+module _ (rows cols side : ℕ) (settings : Settings) (elevation : List ℤ) (g : Grids) where
   pub judges-refused : {r : Judgement} {number place : ℕ} → found r ≡ failed number place →
-      verdict (first_tests rows cols side (one settings) ground g) ≡ failed number place →
-      Judges rows cols side settings ground g r
+      verdict (first_tests rows cols side (one settings) elevation g) ≡ failed number place →
+      Judges rows cols side settings elevation g r
   judges-refused e f = record { verdict-is = e ∙ sym f; rules-are = (λ rules q. absurd (passed-failed (sym (ap found q) ∙ e))) }
 
-  module _ (left : verdict (first_tests rows cols side (one settings) ground g) ≡ verdict (farm_tests (rows * cols) (one settings))) where
-    pub judges-settings : {j : Judgement} {place : ℕ} → found j ≡ failed 4 place → judged_of settings ≡ Refused place → Judges rows cols side settings ground g j
+  module _ (left : verdict (first_tests rows cols side (one settings) elevation g) ≡ verdict (farm_tests (rows * cols) (one settings))) where
+    pub judges-settings : {j : Judgement} {place : ℕ} → found j ≡ failed 4 place → judged_of settings ≡ Refused place → Judges rows cols side settings elevation g j
     judges-settings f e = judges-refused f (left ∙ verdict-stops [] (judged-failed settings e))
 
-    pub judges-sound : {rules : Rules} → judged_of settings ≡ Accepted rules → Judges rows cols side settings ground g (Sound rules)
+    pub judges-sound : {rules : Rules} → judged_of settings ≡ Accepted rules → Judges rows cols side settings elevation g (Sound rules)
     judges-sound {rules} e =
         let w = judged-passed settings e in
         record { verdict-is = sym (left ∙ verdict-next [] w.0 ∙ verdict-none); rules-are = same w.1 }
@@ -323,26 +323,26 @@ module _ (first : Rules) (second : Settings) (marks : List ℕ) where
         same : rules ≡ rules_of second → (a b : Rules) → farm.Sound first rules ≡ farm.Sound a b → (a ≡ first) × (b ≡ rules_of second)
         same m a b q = (cc, cc)
 
-module _ (rows cols side : ℕ) (first second : Settings) (marks : List ℕ) (ground : List ℤ) (g : Grids) where
+module _ (rows cols side : ℕ) (first second : Settings) (marks : List ℕ) (elevation : List ℤ) (g : Grids) where
   abbrev farms : Farms
   farms = two first second marks
 
   pub farms-refused : {r : FarmJudgement} {number place : ℕ} → found_in r ≡ failed number place →
-      verdict (first_tests rows cols side (two first second marks) ground g) ≡ failed number place →
-      JudgesFarms rows cols side first second marks ground g r
+      verdict (first_tests rows cols side (two first second marks) elevation g) ≡ failed number place →
+      JudgesFarms rows cols side first second marks elevation g r
   farms-refused e f = record { verdict-is = e ∙ sym f; rules-are = (λ a b q. absurd (passed-failed (sym (ap found_in q) ∙ e))) }
 
-  module _ (left : verdict (first_tests rows cols side (two first second marks) ground g) ≡ verdict (farm_tests (rows * cols) (two first second marks))) where
+  module _ (left : verdict (first_tests rows cols side (two first second marks) elevation g) ≡ verdict (farm_tests (rows * cols) (two first second marks))) where
     pub farms-settings : {j : FarmJudgement} {place : ℕ} → found_in j ≡ failed 4 place → judged_of first ≡ Refused place →
-        JudgesFarms rows cols side first second marks ground g j
+        JudgesFarms rows cols side first second marks elevation g j
     farms-settings f e = farms-refused f (left ∙ verdict-stops _ (judged-failed first e))
 
-    pub farms-rest : {rules : Rules} {j : FarmJudgement} → all_long (rows * cols) (length marks ∷ places_of ground g) ≡ true →
+    pub farms-rest : {rules : Rules} {j : FarmJudgement} → all_long (rows * cols) (length marks ∷ places_of elevation g) ≡ true →
         judged_of first ≡ Accepted rules → JudgesRest rules second marks j →
-        JudgesFarms rows cols side first second marks ground g j
+        JudgesFarms rows cols side first second marks elevation g j
     farms-rest {rules} l e r =
         let w = judged-passed first e in
-        let n = (lengths-passed (rows * cols) (length marks ∷ places_of ground g) (lengths-pass (rows * cols) (length marks ∷ places_of ground g) l)).0 in
+        let n = (lengths-passed (rows * cols) (length marks ∷ places_of elevation g) (lengths-pass (rows * cols) (length marks ∷ places_of elevation g) l)).0 in
         record {
           verdict-is = r.verdict-is ∙ ap (λ (m : ℕ). verdict (second_places (settings_test second) ∷ mark_test m marks ∷ [])) n
               ∙ sym (left ∙ verdict-next _ w.0);
@@ -363,7 +363,7 @@ marks-few n s t marks e v =
     ]
 
 -- so they are once the first tests are passed
-pub first-marked : (rows cols side : ℕ) (s t : Settings) (marks : List ℕ) (ground : List ℤ) (g : Grids) →
-    verdict (first_tests rows cols side (two s t marks) ground g) ≡ passed → Marked (rows * cols) marks
-first-marked rows cols side s t marks ground g e =
-    marks-few (rows * cols) s t marks (all-places rows cols side (two s t marks) ground g e).0 (first-farms rows cols side (two s t marks) ground g e)
+pub first-marked : (rows cols side : ℕ) (s t : Settings) (marks : List ℕ) (elevation : List ℤ) (g : Grids) →
+    verdict (first_tests rows cols side (two s t marks) elevation g) ≡ passed → Marked (rows * cols) marks
+first-marked rows cols side s t marks elevation g e =
+    marks-few (rows * cols) s t marks (all-places rows cols side (two s t marks) elevation g e).0 (first-farms rows cols side (two s t marks) elevation g e)

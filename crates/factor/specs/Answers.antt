@@ -1,6 +1,6 @@
 -- RULES 3 and 7.2 to 7.4: what the map call answers, and what each lent grid holds afterwards; and the tests 1 to 4 by themselves. Assumes nothing.
 use Rattle.std.specs.Prelude.{List, [], ◌∷◌, ◌++◌, ◌≡◌, Bool, true, false, cond, ℕ, ◌*◌, length, replicate, ℤ}
-use Rattle.std.specs.Borrow.{Bor}
+use Rattle.std.specs.Borrow.{MutBor}
 use Rattle.laws.specs.Slices.{Slice}
 use Rattle.laws.specs.Tests.{Test, passed, failed, verdict}
 use Rattle.text.specs.Ranges.{size_test, length_test, side_test, height_test}
@@ -36,7 +36,7 @@ lent filled direction count lengths factors workspace =
     record { filled = filled; direction = direction; count = count; lengths = lengths; factors = factors; workspace = workspace }
 
 -- the lent slices together: as they stand, as they are at the call, and as they are at the return
-abbrev pub lent_at : Bor (List ℤ) → Bor (List ℕ) → Bor (List ℕ) → Bor (List ℕ) → Bor (List ℕ) → Bor (List ℕ) → Grids
+abbrev pub lent_at : MutBor (List ℤ) → MutBor (List ℕ) → MutBor (List ℕ) → MutBor (List ℕ) → MutBor (List ℕ) → MutBor (List ℕ) → Grids
 lent_at filled direction count lengths factors workspace =
     lent filled.now direction.now count.now lengths.now factors.now workspace.now
 
@@ -50,45 +50,45 @@ lent_after filled direction count lengths factors workspace =
 
 -- how many places the ground and each lent grid have
 abbrev pub places_of : List ℤ → Grids → List ℕ
-places_of ground g =
-    length ground ∷ length g.filled ∷ length g.direction ∷ length g.count ∷ length g.lengths ∷ length g.factors ∷ length g.workspace ∷ []
+places_of elevation g =
+    length elevation ∷ length g.filled ∷ length g.direction ∷ length g.count ∷ length g.lengths ∷ length g.factors ∷ length g.workspace ∷ []
 
 -- the tests 1, 2, 3, 4 in that order
 unfoldable pub early_tests : ℕ → ℕ → ℕ → Farms → List ℤ → Grids → List Test
-early_tests rows cols side farms ground g =
-    size_test rows cols ∷ length_test (rows * cols) (mark_places farms ++ places_of ground g) ∷ side_test side ∷ settings_tests farms
+early_tests rows cols side farms elevation g =
+    size_test rows cols ∷ length_test (rows * cols) (mark_places farms ++ places_of elevation g) ∷ side_test side ∷ settings_tests farms
 
 -- the tests that are made before the heights are looked at: 19 after 4
 unfoldable pub first_tests : ℕ → ℕ → ℕ → Farms → List ℤ → Grids → List Test
 unfolding early_tests mark_test
-first_tests rows cols side farms ground g = early_tests rows cols side farms ground g ++ mark_tests (rows * cols) farms
+first_tests rows cols side farms elevation g = early_tests rows cols side farms elevation g ++ mark_tests (rows * cols) farms
 
 -- The map call tests 1, 2, 3, 4, 19, 5 in that order, 5 at the first bad cell in row order; then, if the lent directions are given ones, 17 and 18.
 unfoldable pub tests : ℕ → ℕ → ℕ → Farms → Source → List ℤ → Grids → List Test
 unfolding first_tests filled_levels
-tests rows cols side farms source ground g =
-    first_tests rows cols side farms ground g
-    ++ (height_test (rows * cols) ground ∷ source_tests source rows cols (filled_levels rows cols ground) g.direction)
+tests rows cols side farms source elevation g =
+    first_tests rows cols side farms elevation g
+    ++ (height_test (rows * cols) elevation ∷ source_tests source rows cols (filled_levels rows cols elevation) g.direction)
 
 -- what they decide
 unfoldable pub judged : ℕ → ℕ → ℕ → Farms → Source → List ℤ → Grids → Test
 unfolding tests verdict
-judged rows cols side farms source ground g = verdict (tests rows cols side farms source ground g)
+judged rows cols side farms source elevation g = verdict (tests rows cols side farms source elevation g)
 
 -- the grids of a ground for a list of directions, by the rules of each cell. The workspace holds zeros after success.
 unfoldable pub map_of : ℕ → ℕ → ℕ → (ℕ → Rules) → List ℤ → List ℕ → Grids
 unfolding filled_levels filled_of counts_of lengths_of factors_of
-map_of rows cols side rules ground dir =
-    let lv = filled_levels rows cols ground in
+map_of rows cols side rules elevation dir =
+    let lv = filled_levels rows cols elevation in
     let count = counts_of rows cols dir in
     let lengths = lengths_of rows cols side rules lv dir count in
-    lent (filled_of rows cols ground) dir count lengths (factors_of rows cols side rules lv dir lengths) (replicate (rows * cols) 0)
+    lent (filled_of rows cols elevation) dir count lengths (factors_of rows cols side rules lv dir lengths) (replicate (rows * cols) 0)
 
 -- The answer also gives the number of valid cells and the longest trail; a refusal has number and place
 unfoldable pub answer_of : ℕ → ℕ → List ℤ → List ℕ → Test → Answer
 unfolding ground_valids longest_of
-answer_of rows cols ground dir passed = Accepted (ground_valids rows cols ground) (longest_of rows cols dir)
-answer_of rows cols ground dir (failed number place) = Refused (record { number = number; place = place })
+answer_of rows cols elevation dir passed = Accepted (ground_valids rows cols elevation) (longest_of rows cols dir)
+answer_of rows cols elevation dir (failed number place) = Refused (record { number = number; place = place })
 
 -- A refusal changes no lent grid; 17 and 18 leave zeros in the workspace.
 abbrev pub refused_grids : ℕ → Grids → Grids
@@ -97,19 +97,19 @@ refused_grids number g =
 
 unfoldable pub grids_of : ℕ → ℕ → ℕ → Farms → List ℤ → List ℕ → Grids → Test → Grids
 unfolding rules_in map_of
-grids_of rows cols side farms ground dir g passed = map_of rows cols side (rules_in farms) ground dir
-grids_of rows cols side farms ground dir g (failed number place) = refused_grids number g
+grids_of rows cols side farms elevation dir g passed = map_of rows cols side (rules_in farms) elevation dir
+grids_of rows cols side farms elevation dir g (failed number place) = refused_grids number g
 
 -- the whole of the map call, for one farm or two, and for directions of our own or given ones
 unfoldable pub answer : ℕ → ℕ → ℕ → Farms → Source → List ℤ → Grids → Answer
 unfolding judged answer_of ground_directions
-answer rows cols side farms source ground g =
-    answer_of rows cols ground (directions_by source rows cols ground g.direction) (judged rows cols side farms source ground g)
+answer rows cols side farms source elevation g =
+    answer_of rows cols elevation (directions_by source rows cols elevation g.direction) (judged rows cols side farms source elevation g)
 
 unfoldable pub after : ℕ → ℕ → ℕ → Farms → Source → List ℤ → Grids → Grids
 unfolding judged grids_of ground_directions
-after rows cols side farms source ground g =
-    grids_of rows cols side farms ground (directions_by source rows cols ground g.direction) g (judged rows cols side farms source ground g)
+after rows cols side farms source elevation g =
+    grids_of rows cols side farms elevation (directions_by source rows cols elevation g.direction) g (judged rows cols side farms source elevation g)
 
 -- ---- the first tests by themselves
 
@@ -119,8 +119,8 @@ found (Sound rules) = passed
 found (Unsound f) = failed f.number f.place
 
 -- what is found by them; the rules are those of the settings
-pub record Judges (rows cols side : ℕ) (settings : Settings) (ground : List ℤ) (g : Grids) (r : Judgement) : Type 0 where
-  pub verdict-is : found r ≡ verdict (first_tests rows cols side (one settings) ground g)
+pub record Judges (rows cols side : ℕ) (settings : Settings) (elevation : List ℤ) (g : Grids) (r : Judgement) : Type 0 where
+  pub verdict-is : found r ≡ verdict (first_tests rows cols side (one settings) elevation g)
   pub rules-are : (rules : Rules) → r ≡ Sound rules → rules ≡ rules_of settings
 
 -- likewise for two farms
@@ -128,8 +128,8 @@ abbrev pub found_in : FarmJudgement → Test
 found_in (farm.Sound first second) = passed
 found_in (farm.Unsound f) = failed f.number f.place
 
-pub record JudgesFarms (rows cols side : ℕ) (first second : Settings) (marks : List ℕ) (ground : List ℤ) (g : Grids) (r : FarmJudgement) : Type 0 where
-  pub verdict-is : found_in r ≡ verdict (first_tests rows cols side (two first second marks) ground g)
+pub record JudgesFarms (rows cols side : ℕ) (first second : Settings) (marks : List ℕ) (elevation : List ℤ) (g : Grids) (r : FarmJudgement) : Type 0 where
+  pub verdict-is : found_in r ≡ verdict (first_tests rows cols side (two first second marks) elevation g)
   pub rules-are : (f s : Rules) → r ≡ farm.Sound f s → (f ≡ rules_of first) × (s ≡ rules_of second)
 
 -- what is found by the last of them, 4 for farm 1 and 19; farm 0's rules are those given

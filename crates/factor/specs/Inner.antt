@@ -66,16 +66,16 @@ brought_by side rules k p q start len = amount_of (cutoff_for rules.low rules.hi
 
 module _ (rows cols side : ℕ) (farms : Farms) where
   -- they are passed, and each cell's rules are those of its farm's settings
-  pub record Passing (rules : ℕ → Rules) (ground : List ℤ) (g : Grids) : Type 0 where
-    pub passes : verdict (first_tests rows cols side farms ground g) ≡ passed
+  pub record Passing (rules : ℕ → Rules) (elevation : List ℤ) (g : Grids) : Type 0 where
+    pub passes : verdict (first_tests rows cols side farms elevation g) ≡ passed
     pub rules-are : rules ≡ rules_in farms
 
   -- the promise of the map call, for lent grids g, an answer, and the grids h that it leaves
-  module _ (source : Source) (ground : List ℤ) (g : Grids) where
+  module _ (source : Source) (elevation : List ℤ) (g : Grids) where
     abbrev pub Promised : Answer → Grids → Type 0
     Promised a h =
-        (a ≡ answer rows cols side farms source ground g)
-        × ((h ≡ after rows cols side farms source ground g)
-        × ((accepts a ≡ true → Trails rows cols ground h.filled h.direction)
-        × ((accepts a ≡ true → Totals rows cols ground h.direction h.count (told a).valids)
-        × (accepts a ≡ true → Surface rows cols ground h.filled))))
+        (a ≡ answer rows cols side farms source elevation g)
+        × ((h ≡ after rows cols side farms source elevation g)
+        × ((accepts a ≡ true → Trails rows cols elevation h.filled h.direction)
+        × ((accepts a ≡ true → Totals rows cols elevation h.direction h.count (told a).valids)
+        × (accepts a ≡ true → Surface rows cols elevation h.filled))))

@@ -4,6 +4,8 @@
 // Its two calls, for one farm and for two farms on one map, give every grid of docs/RULES.md. They judge sizes, lengths, cell side,
 // settings and marks; the terrain layer, known by its promise alone, judges the heights and writes filled heights, directions, counts
 // and falls, and an order from the ridges down; one pass along that order gives lengths and LS.
+#![tactic(auto)]
+
 mod cell;
 mod channel;
 mod exponent;
@@ -34,7 +36,7 @@ pub use tests::{FarmJudgement, Judgement, judge, judge_farms, judge_rest};
 use text::Refusal;
 
 // The answer of the map call: the number of valid cells and the steps of the longest trail, or why there is no map.
-#[derive(Drop)]
+#[derive(Clone, Copy)]
 pub enum Answer {
     Accepted { valid: u32, longest: u32 },
     Refused(Refusal),
@@ -61,7 +63,7 @@ fn map_sound(
     marks: &[u8],
     each: usize,
     source: Source,
-    ground: &[i32],
+    elevation: &[i32],
     filled: &mut [i32],
     direction: &mut [u8],
     count: &mut [u32],
@@ -70,17 +72,17 @@ fn map_sound(
     workspace: &mut [u32],
 ) -> Answer
     requires { ((farms : Farms) ×
-        Passing rows columns side farms (λ x. of_farm first second (farm_by marks.now each x)) ground.now
+        Passing rows columns side farms (λ x. of_farm first second (farm_by marks.now each x)) elevation.now
         (lent_at filled direction count lengths factors workspace))
         × Naming (rows * columns) marks.now each }
     ensures { (farms : Farms) →
-        Passing rows columns side farms (λ x. of_farm first second (farm_by marks.now each x)) ground.now
+        Passing rows columns side farms (λ x. of_farm first second (farm_by marks.now each x)) elevation.now
         (lent_before filled direction count lengths factors workspace) →
-        Promised rows columns side farms source ground.now (lent_before filled direction count lengths factors workspace)
+        Promised rows columns side farms source elevation.now (lent_before filled direction count lengths factors workspace)
         result (lent_after filled direction count lengths factors workspace) }
 {
     let drained = terrain::map(
-        rows, columns, source, ground, filled, direction, count, factors, workspace,
+        rows, columns, source, elevation, filled, direction, count, factors, workspace,
     );
     match drained {
         terrain::Answer::Refused(refusal) => Answer::Refused(refusal),
@@ -117,7 +119,7 @@ pub fn map(
     side: u32,
     settings: Settings,
     source: Source,
-    ground: &[i32],
+    elevation: &[i32],
     filled: &mut [i32],
     direction: &mut [u8],
     count: &mut [u32],
@@ -126,24 +128,24 @@ pub fn map(
     workspace: &mut [u32],
 ) -> Answer
     ensures answers { result
-        ≡ answer rows columns side (one settings) source ground.now (lent_before filled direction count lengths factors workspace) }
+        ≡ answer rows columns side (one settings) source elevation.now (lent_before filled direction count lengths factors workspace) }
     ensures leaves { lent_after filled direction count lengths factors workspace
-        ≡ after rows columns side (one settings) source ground.now (lent_before filled direction count lengths factors workspace) }
-    ensures trails { accepts result ≡ true → Trails rows columns ground.now filled.new direction.new }
+        ≡ after rows columns side (one settings) source elevation.now (lent_before filled direction count lengths factors workspace) }
+    ensures trails { accepts result ≡ true → Trails rows columns elevation.now filled.new direction.new }
     ensures totals { accepts result ≡ true →
-        Totals rows columns ground.now direction.new count.new (told result).valids }
-    ensures surface { accepts result ≡ true → Surface rows columns ground.now filled.new }
+        Totals rows columns elevation.now direction.new count.new (told result).valids }
+    ensures surface { accepts result ≡ true → Surface rows columns elevation.now filled.new }
 {
     let judgement = judge(
-        rows, columns, side, settings, ground, filled, direction, count, lengths, factors,
+        rows, columns, side, settings, elevation, filled, direction, count, lengths, factors,
         workspace,
     );
     let farm = [0u8];
     match judgement {
         Judgement::Unsound(refusal) => Answer::Refused(refusal),
         Judgement::Sound(rules) => map_sound(
-            rows, columns, side, rules, rules, &farm, 0, source, ground, filled, direction, count,
-            lengths, factors, workspace,
+            rows, columns, side, rules, rules, &farm, 0, source, elevation, filled, direction,
+            count, lengths, factors, workspace,
         ),
     }
 }
@@ -157,7 +159,7 @@ pub fn map_farms(
     second: Settings,
     marks: &[u8],
     source: Source,
-    ground: &[i32],
+    elevation: &[i32],
     filled: &mut [i32],
     direction: &mut [u8],
     count: &mut [u32],
@@ -165,25 +167,25 @@ pub fn map_farms(
     factors: &mut [u32],
     workspace: &mut [u32],
 ) -> Answer
-    ensures answers { result ≡ answer rows columns side (two first second marks.now) source ground.now
+    ensures answers { result ≡ answer rows columns side (two first second marks.now) source elevation.now
         (lent_before filled direction count lengths factors workspace) }
     ensures leaves { lent_after filled direction count lengths factors workspace
-        ≡ after rows columns side (two first second marks.now) source ground.now
+        ≡ after rows columns side (two first second marks.now) source elevation.now
         (lent_before filled direction count lengths factors workspace) }
-    ensures trails { accepts result ≡ true → Trails rows columns ground.now filled.new direction.new }
+    ensures trails { accepts result ≡ true → Trails rows columns elevation.now filled.new direction.new }
     ensures totals { accepts result ≡ true →
-        Totals rows columns ground.now direction.new count.new (told result).valids }
-    ensures surface { accepts result ≡ true → Surface rows columns ground.now filled.new }
+        Totals rows columns elevation.now direction.new count.new (told result).valids }
+    ensures surface { accepts result ≡ true → Surface rows columns elevation.now filled.new }
 {
     let judgement = judge_farms(
-        rows, columns, side, first, second, marks, ground, filled, direction, count, lengths,
+        rows, columns, side, first, second, marks, elevation, filled, direction, count, lengths,
         factors, workspace,
     );
     match judgement {
         FarmJudgement::Unsound(refusal) => Answer::Refused(refusal),
         FarmJudgement::Sound { first, second } => map_sound(
-            rows, columns, side, first, second, marks, 1, source, ground, filled, direction, count,
-            lengths, factors, workspace,
+            rows, columns, side, first, second, marks, 1, source, elevation, filled, direction,
+            count, lengths, factors, workspace,
         ),
     }
 }

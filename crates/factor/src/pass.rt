@@ -28,7 +28,7 @@ use settings::{Formula, Rules};
 // Beside it stand two tables, made once for a map, which each cell reads at its farm: the `lefts`, what the high cutoffs of farm 0 and of
 // farm 1 leave, squared, then their low ones; and the `bounds`, the greatest count of each farm that is no channel's. The cell x names its
 // farm at the place x * each of the `marks`: with `each` 1 every cell has a mark of its own, with 0 one mark stands for all of them.
-#[derive(Drop)]
+#[derive(Clone, Copy)]
 pub(crate) struct Terms {
     columns: usize,
     side: u32,

@@ -4,7 +4,7 @@ ghost use Rattle.factor.specs.Percent.{at_least, above};
 ghost use Rattle.factor.specs.Inner.{greatest_fall, steepness_of, Sloping};
 
 // The slope of a cell: its cell side c in cm, and its steepness q. It is one of n percent where 5,000·q is n²·c².
-#[derive(Drop)]
+#[derive(Clone, Copy)]
 pub(crate) struct Slope {
     pub(crate) side: u32,
     pub(crate) q: u64,

@@ -10,7 +10,7 @@ use settings::{Judged, Rules, Settings};
 use text::Refusal;
 
 // What is found of a call: the rules of its settings, or why it is refused.
-#[derive(Drop)]
+#[derive(Clone, Copy)]
 pub enum Judgement {
     Sound(Rules),
     Unsound(Refusal),
@@ -28,7 +28,7 @@ fn unsound(number: u32, place: usize) -> Judgement
 // Whether every lent slice has one place per cell.
 fn are_long(
     cells: usize,
-    ground: &[i32],
+    elevation: &[i32],
     filled: &[i32],
     direction: &[u8],
     count: &[u32],
@@ -36,9 +36,9 @@ fn are_long(
     factors: &[u32],
     workspace: &[u32],
 ) -> bool
-    ensures { result ≡ all_long cells (places_of ground.now (lent_before filled direction count lengths factors workspace)) }
+    ensures { result ≡ all_long cells (places_of elevation.now (lent_before filled direction count lengths factors workspace)) }
 {
-    (ground.len() == cells)
+    (elevation.len() == cells)
         & (filled.len() == cells)
         & (direction.len() == cells)
         & (count.len() == cells)
@@ -53,7 +53,7 @@ pub fn judge(
     columns: usize,
     side: u32,
     settings: Settings,
-    ground: &[i32],
+    elevation: &[i32],
     filled: &[i32],
     direction: &[u8],
     count: &[u32],
@@ -61,7 +61,7 @@ pub fn judge(
     factors: &[u32],
     workspace: &[u32],
 ) -> Judgement
-    ensures { Judges rows columns side settings ground.now (lent_before filled direction count lengths factors workspace) result }
+    ensures { Judges rows columns side settings elevation.now (lent_before filled direction count lengths factors workspace) result }
 {
     if !text::is_size(rows) {
         return unsound(1, 0);
@@ -71,7 +71,7 @@ pub fn judge(
     }
     if !are_long(
         rows * columns,
-        ground,
+        elevation,
         filled,
         direction,
         count,
@@ -92,7 +92,7 @@ pub fn judge(
 }
 
 // What is found of a call for two farms: the rules of each one's settings, or why it is refused.
-#[derive(Drop)]
+#[derive(Clone, Copy)]
 pub enum FarmJudgement {
     Sound { first: Rules, second: Rules },
     Unsound(Refusal),
@@ -111,7 +111,7 @@ fn unsound_farms(number: u32, place: usize) -> FarmJudgement
 fn are_long_in(
     cells: usize,
     marks: &[u8],
-    ground: &[i32],
+    elevation: &[i32],
     filled: &[i32],
     direction: &[u8],
     count: &[u32],
@@ -120,11 +120,11 @@ fn are_long_in(
     workspace: &[u32],
 ) -> bool
     ensures { result ≡ all_long cells
-        (length marks.now ∷ places_of ground.now (lent_before filled direction count lengths factors workspace)) }
+        (length marks.now ∷ places_of elevation.now (lent_before filled direction count lengths factors workspace)) }
 {
     (marks.len() == cells)
         & are_long(
-            cells, ground, filled, direction, count, lengths, factors, workspace,
+            cells, elevation, filled, direction, count, lengths, factors, workspace,
         )
 }
 
@@ -170,7 +170,7 @@ pub fn judge_farms(
     first: Settings,
     second: Settings,
     marks: &[u8],
-    ground: &[i32],
+    elevation: &[i32],
     filled: &[i32],
     direction: &[u8],
     count: &[u32],
@@ -178,7 +178,7 @@ pub fn judge_farms(
     factors: &[u32],
     workspace: &[u32],
 ) -> FarmJudgement
-    ensures { JudgesFarms rows columns side first second marks.now ground.now
+    ensures { JudgesFarms rows columns side first second marks.now elevation.now
         (lent_before filled direction count lengths factors workspace) result }
 {
     if !text::is_size(rows) {
@@ -190,7 +190,7 @@ pub fn judge_farms(
     if !are_long_in(
         rows * columns,
         marks,
-        ground,
+        elevation,
         filled,
         direction,
         count,

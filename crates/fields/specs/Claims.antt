@@ -81,11 +81,11 @@ abbrev pub lent : ℕ → Grids
 lent n = lent_with n (replicate n 7) 7
 
 -- a call with these lent grids gives this map
-module _ (rows cols side : ℕ) (farms : Farms) (source : Source) (ground : List ℤ) (g : Grids) where
+module _ (rows cols side : ℕ) (farms : Farms) (source : Source) (elevation : List ℤ) (g : Grids) where
   abbrev Gives : Maps → Type 0
   Gives m =
-      (answer rows cols side farms source ground g ≡ Accepted m.valids m.longest)
-      × (after rows cols side farms source ground g
+      (answer rows cols side farms source elevation g ≡ Accepted m.valids m.longest)
+      × (after rows cols side farms source elevation g
       ≡ record {
         filled = m.filled;
         direction = m.direction;
@@ -98,24 +98,24 @@ module _ (rows cols side : ℕ) (farms : Farms) (source : Source) (ground : List
   -- or this number and place, and leaves the grids h
   abbrev Refuses : ℕ → ℕ → Grids → Type 0
   Refuses number place h =
-      (answer rows cols side farms source ground g ≡ Refused (record { number = number; place = place }))
-      × (after rows cols side farms source ground g ≡ h)
+      (answer rows cols side farms source elevation g ≡ Refused (record { number = number; place = place }))
+      × (after rows cols side farms source elevation g ≡ h)
 
 abbrev pub Holds : Claim → Type 0
-Holds (mapped rows cols side given ground m) = Gives rows cols side (one given) Own ground (lent (rows * cols)) m
-Holds (drawn rows cols side given ground dir m) = Gives rows cols side (one given) Given ground (lent_with (rows * cols) dir 7) m
-Holds (drawn_wrong rows cols side given ground dir number place) =
-    Refuses rows cols side (one given) Given ground (lent_with (rows * cols) dir 7) number place (lent_with (rows * cols) dir 0)
-Holds (shared rows cols side first second marks ground m) = Gives rows cols side (two first second marks) Own ground (lent (rows * cols)) m
-Holds (shared_wrong rows cols side first second marks ground number place) =
-    Refuses rows cols side (two first second marks) Own ground (lent (rows * cols)) number place (lent (rows * cols))
-Holds (shared_drawn rows cols side first second marks ground dir m) =
-    Gives rows cols side (two first second marks) Given ground (lent_with (rows * cols) dir 7) m
-Holds (shared_drawn_wrong rows cols side first second marks ground dir number place held) =
-    Refuses rows cols side (two first second marks) Given ground (lent_with (rows * cols) dir 7) number place (lent_with (rows * cols) dir held)
-Holds (refused_at rows cols side given ground number place) = Refuses rows cols side (one given) Own ground (lent 2) number place (lent 2)
-Holds (measured rows cols side rules ground lengths) =
-    (let dir = ground_directions rows cols ground in (map_of rows cols side (λ x. rules) ground dir).lengths) ≡ lengths
+Holds (mapped rows cols side given elevation m) = Gives rows cols side (one given) Own elevation (lent (rows * cols)) m
+Holds (drawn rows cols side given elevation dir m) = Gives rows cols side (one given) Given elevation (lent_with (rows * cols) dir 7) m
+Holds (drawn_wrong rows cols side given elevation dir number place) =
+    Refuses rows cols side (one given) Given elevation (lent_with (rows * cols) dir 7) number place (lent_with (rows * cols) dir 0)
+Holds (shared rows cols side first second marks elevation m) = Gives rows cols side (two first second marks) Own elevation (lent (rows * cols)) m
+Holds (shared_wrong rows cols side first second marks elevation number place) =
+    Refuses rows cols side (two first second marks) Own elevation (lent (rows * cols)) number place (lent (rows * cols))
+Holds (shared_drawn rows cols side first second marks elevation dir m) =
+    Gives rows cols side (two first second marks) Given elevation (lent_with (rows * cols) dir 7) m
+Holds (shared_drawn_wrong rows cols side first second marks elevation dir number place held) =
+    Refuses rows cols side (two first second marks) Given elevation (lent_with (rows * cols) dir 7) number place (lent_with (rows * cols) dir held)
+Holds (refused_at rows cols side given elevation number place) = Refuses rows cols side (one given) Own elevation (lent 2) number place (lent 2)
+Holds (measured rows cols side rules elevation lengths) =
+    (let dir = ground_directions rows cols elevation in (map_of rows cols side (λ x. rules) elevation dir).lengths) ≡ lengths
 Holds (reaches k mm t) = length_factor k mm ≡ t
 Holds (east drop k) = exponent_of 1000 (2 * (drop * drop)) ≡ k
 Holds (factored q length ls) = factor_of Older 1000 q length ≡ ls

@@ -2,6 +2,8 @@
 //
 // Every header and every row of bytes gets an answer: no call has a `requires`. The floats are worked out from their bits, in whole
 // numbers.
+#![tactic(auto)]
+
 mod cells;
 mod rounding;
 

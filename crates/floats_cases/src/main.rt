@@ -1,5 +1,7 @@
 // Runs `floats::read_floats` on small grids, and `text::read_lone_header` on their headers, and writes what they answer and what
 // becomes of the lent heights, for RULES 11. What must be written, the file `stdout`, is worked out from those.
+#![tactic(auto)]
+
 mod faults;
 mod no_data;
 mod refusals;

@@ -31,113 +31,113 @@ use Rattle.fullsize.specs.Mapping.{judged_by, answer_by, after_by}
 use Rattle.fullsize.specs.InnerMapping.{before_marks, without_formula, formula_place, refusal_before}
 use Rattle.fullsize.proofs.Formulas.{NotOfMarks, OfMarks, no-tests, formulas-pass, formulas-fail, one-fails, two-fails}
 
-module _ (rows cols side : ℕ) (farms : Farms) (formulas : List Test) (source : Source) (ground : List ℤ) (g : Grids) where
+module _ (rows cols side : ℕ) (farms : Farms) (formulas : List Test) (source : Source) (elevation : List ℤ) (g : Grids) where
   abbrev early : List Test
-  early = early_tests rows cols side farms ground g
+  early = early_tests rows cols side farms elevation g
 
   abbrev marks : List Test
   marks = mark_tests (rows * cols) farms
 
   abbrev rest : List Test
-  rest = height_test (rows * cols) ground ∷ source_tests source rows cols (filled_levels rows cols ground) g.direction
+  rest = height_test (rows * cols) elevation ∷ source_tests source rows cols (filled_levels rows cols elevation) g.direction
 
   abbrev dir : List ℕ
-  dir = directions_by source rows cols ground g.direction
+  dir = directions_by source rows cols elevation g.direction
 
-  first-are : first_tests rows cols side farms ground g ≡ early ++ marks
+  first-are : first_tests rows cols side farms elevation g ≡ early ++ marks
   unfolding first_tests
   first-are = refl
 
   -- ---- every number is a formula: the tests decide as the map call's do
 
   module _ (h : verdict formulas ≡ passed) where
-    judged-is : judged rows cols side farms source ground g ≡ judged_by rows cols side farms formulas source ground g
+    judged-is : judged rows cols side farms source elevation g ≡ judged_by rows cols side farms formulas source elevation g
     unfolding judged tests judged_by
     judged-is = ap (λ (l : List Test). verdict (l ++ rest)) first-are ∙ formulas-pass early formulas marks rest h
 
-    pub answer-is : {a : Answer} → a ≡ answer rows cols side farms source ground g → a ≡ answer_by rows cols side farms formulas source ground g
+    pub answer-is : {a : Answer} → a ≡ answer rows cols side farms source elevation g → a ≡ answer_by rows cols side farms formulas source elevation g
     unfolding answer answer_by
-    answer-is e = e ∙ ap (answer_of rows cols ground dir) judged-is
+    answer-is e = e ∙ ap (answer_of rows cols elevation dir) judged-is
 
-    pub after_is : {left : Grids} → left ≡ after rows cols side farms source ground g → left ≡ after_by rows cols side farms formulas source ground g
+    pub after_is : {left : Grids} → left ≡ after rows cols side farms source elevation g → left ≡ after_by rows cols side farms formulas source elevation g
     unfolding after after_by
-    after_is e = e ∙ ap (grids_of rows cols side farms ground dir g) judged-is
+    after_is e = e ∙ ap (grids_of rows cols side farms elevation dir g) judged-is
 
   -- ---- one is not: a refusal, and the grids stay as they were
 
-  module _ {place : ℕ} (h : verdict formulas ≡ failed 4 place) {t : Test} (e : t ≡ verdict (first_tests rows cols side farms ground g)) where
-    judged-none : before_marks place t ≡ judged_by rows cols side farms formulas source ground g
+  module _ {place : ℕ} (h : verdict formulas ≡ failed 4 place) {t : Test} (e : t ≡ verdict (first_tests rows cols side farms elevation g)) where
+    judged-none : before_marks place t ≡ judged_by rows cols side farms formulas source elevation g
     unfolding judged_by
     judged-none =
         ap (before_marks place) (e ∙ ap verdict first-are)
-        ∙ formulas-fail early formulas marks rest h (early-number rows cols side farms ground g NotOfMarks refl refl refl refl)
+        ∙ formulas-fail early formulas marks rest h (early-number rows cols side farms elevation g NotOfMarks refl refl refl refl)
         (marks-number OfMarks (rows * cols) farms refl)
 
-    pub none_answers : answer_of rows cols ground (directions_by source rows cols ground g.direction)
-        (before_marks place t) ≡ answer_by rows cols side farms formulas source ground g
+    pub none_answers : answer_of rows cols elevation (directions_by source rows cols elevation g.direction)
+        (before_marks place t) ≡ answer_by rows cols side farms formulas source elevation g
     unfolding answer_by
-    none_answers = ap (answer_of rows cols ground dir) judged-none
+    none_answers = ap (answer_of rows cols elevation dir) judged-none
 
-    pub none-leaves : g ≡ after_by rows cols side farms formulas source ground g
+    pub none-leaves : g ≡ after_by rows cols side farms formulas source elevation g
     unfolding after_by grids_of
-    none-leaves = sym (kept t e) ∙ ap (grids_of rows cols side farms ground dir g) judged-none
+    none-leaves = sym (kept t e) ∙ ap (grids_of rows cols side farms elevation dir g) judged-none
       where
-        cases : (b : Bool) (number at : ℕ) → grids_of rows cols side farms ground dir g (failed number at) ≡ g →
-            grids_of rows cols side farms ground dir g (cond b (failed 4 place) (failed number at)) ≡ g
+        cases : (b : Bool) (number at : ℕ) → grids_of rows cols side farms elevation dir g (failed number at) ≡ g →
+            grids_of rows cols side farms elevation dir g (cond b (failed 4 place) (failed number at)) ≡ g
         cases true number at q = refl
         cases false number at q = q
 
-        kept : (u : Test) → u ≡ verdict (first_tests rows cols side farms ground g) → grids_of rows cols side farms ground dir g (before_marks place u) ≡ g
+        kept : (u : Test) → u ≡ verdict (first_tests rows cols side farms elevation g) → grids_of rows cols side farms elevation dir g (before_marks place u) ≡ g
         kept passed q = refl
-        kept (failed number at) q = cases (eqb number 19) number at (first-kept rows cols side farms ground g (sym q))
+        kept (failed number at) q = cases (eqb number 19) number at (first-kept rows cols side farms elevation g (sym q))
 
   -- ---- a call that hands out the number 0 is accepted
 
-  judged-numbered : ((P : ℕ → Type 0) → P 4 → OfNumber P (verdict formulas)) → OfNumber (λ n. 1 ≤ n) (judged_by rows cols side farms formulas source ground g)
+  judged-numbered : ((P : ℕ → Type 0) → P 4 → OfNumber P (verdict formulas)) → OfNumber (λ n. 1 ≤ n) (judged_by rows cols side farms formulas source elevation g)
   unfolding judged_by
   judged-numbered f =
       joined_number (λ n. 1 ≤ n) early (formulas ++ (marks ++ rest))
-      (early-number rows cols side farms ground g (λ n. 1 ≤ n) (omega arith) (omega arith) (omega arith) (omega arith))
+      (early-number rows cols side farms elevation g (λ n. 1 ≤ n) (omega arith) (omega arith) (omega arith) (omega arith))
       (joined_number (λ n. 1 ≤ n) formulas (marks ++ rest) (f (λ n. 1 ≤ n) (omega arith))
       (joined_number (λ n. 1 ≤ n) marks rest (marks-number (λ n. 1 ≤ n) (rows * cols) farms (omega arith))
-      (later-number rows cols side farms ground g (λ n. 1 ≤ n) (omega arith) (omega arith) (omega arith) source)))
+      (later-number rows cols side farms elevation g (λ n. 1 ≤ n) (omega arith) (omega arith) (omega arith) source)))
 
   module _ (f : (P : ℕ → Type 0) → P 4 → OfNumber P (verdict formulas)) {n : Numbers} {a : Answer} (e : n ≡ told a)
-      (p : a ≡ answer_by rows cols side farms formulas source ground g) (z : n.number ≡ 0) where
-    accepted : accepts (answer_by rows cols side farms formulas source ground g) ≡ true
+      (p : a ≡ answer_by rows cols side farms formulas source elevation g) (z : n.number ≡ 0) where
+    accepted : accepts (answer_by rows cols side farms formulas source elevation g) ≡ true
     unfolding answer_by
     accepted =
-        answer-some rows cols ground dir (judged_by rows cols side farms formulas source ground g)
-        (is-numbered (judged_by rows cols side farms formulas source ground g) (judged-numbered f))
+        answer-some rows cols elevation dir (judged_by rows cols side farms formulas source elevation g)
+        (is-numbered (judged_by rows cols side farms formulas source elevation g) (judged-numbered f))
         (sym (ap (λ (x : Numbers). x.number) (e ∙ ap told p)) ∙ z)
 
     pub accepts-of : accepts a ≡ true
     accepts-of = ap accepts p ∙ accepted
 
     -- the totals hold of the number that is handed out
-    pub totals-of : {direction count : List ℕ} → Totals rows cols ground direction count (told a).valids → Totals rows cols ground direction count n.valids
-    totals-of {direction} {count} t = subst (Totals rows cols ground direction count) (sym (ap (λ (x : Numbers). x.valids) e)) t
+    pub totals-of : {direction count : List ℕ} → Totals rows cols elevation direction count (told a).valids → Totals rows cols elevation direction count n.valids
+    totals-of {direction} {count} t = subst (Totals rows cols elevation direction count) (sym (ap (λ (x : Numbers). x.valids) e)) t
 
 -- ---- one farm without a formula
 
-module _ (rows cols side : ℕ) (settings : Settings) (formula : ℕ) (source : Source) (ground : List ℤ) (g : Grids) (h : 1 < formula) {j : Judgement}
-    (judges : Judges rows cols side settings ground g j) where
+module _ (rows cols side : ℕ) (settings : Settings) (formula : ℕ) (source : Source) (elevation : List ℤ) (g : Grids) (h : 1 < formula) {j : Judgement}
+    (judges : Judges rows cols side settings elevation g j) where
   -- 19 is no refusal of one farm's tests
   one-unmarked : OfNumber NotOfMarks (found j)
   one-unmarked =
-      subst (OfNumber NotOfMarks) (sym (judges.verdict-is ∙ ap verdict (first-are rows cols side (one settings) (one_formula formula) source ground g)))
-      (joined_number NotOfMarks (early_tests rows cols side (one settings) ground g) []
-      (early-number rows cols side (one settings) ground g NotOfMarks refl refl refl refl) no-tests)
+      subst (OfNumber NotOfMarks) (sym (judges.verdict-is ∙ ap verdict (first-are rows cols side (one settings) (one_formula formula) source elevation g)))
+      (joined_number NotOfMarks (early_tests rows cols side (one settings) elevation g) []
+      (early-number rows cols side (one settings) elevation g NotOfMarks refl refl refl refl) no-tests)
 
-  one_told : (k : Judgement) → OfNumber NotOfMarks (found k) → without_formula k ≡ answer_of rows cols ground
-      (directions_by source rows cols ground g.direction) (before_marks 7 (found k))
+  one_told : (k : Judgement) → OfNumber NotOfMarks (found k) → without_formula k ≡ answer_of rows cols elevation
+      (directions_by source rows cols elevation g.direction) (before_marks 7 (found k))
   unfolding answer_of
   one_told (Sound rules) q = refl
-  one_told (Unsound f) q = sym (ap (λ (b : Bool). answer_of rows cols ground (directions_by source rows cols ground g.direction)
+  one_told (Unsound f) q = sym (ap (λ (b : Bool). answer_of rows cols elevation (directions_by source rows cols elevation g.direction)
       (cond b (failed 4 7) (failed f.number f.place))) q)
 
-  pub one-answers : {a : Answer} → a ≡ without_formula j → a ≡ answer_by rows cols side (one settings) (one_formula formula) source ground g
-  one-answers e = e ∙ one_told j one-unmarked ∙ none_answers rows cols side (one settings) (one_formula formula) source ground g (one-fails formula h)
+  pub one-answers : {a : Answer} → a ≡ without_formula j → a ≡ answer_by rows cols side (one settings) (one_formula formula) source elevation g
+  one-answers e = e ∙ one_told j one-unmarked ∙ none_answers rows cols side (one settings) (one_formula formula) source elevation g (one-fails formula h)
       judges.verdict-is
 
 -- it is no acceptance
@@ -147,36 +147,36 @@ none-accepted (Sound rules) e z = true≢false (sym z ∙ ap accepts e)
 
 -- ---- two farms, one of them without a formula
 
-module _ (rows cols side : ℕ) (first second : Settings) (marks : List ℕ) (n m : ℕ) (source : Source) (ground : List ℤ) (g : Grids)
-    (h : 1 ≤ formula_place n m) {j : FarmJudgement} (judges : JudgesFarms rows cols side first second marks ground g j) where
-  two-told : (k : FarmJudgement) → Refused (refusal_before (formula_place n m) k) ≡ answer_of rows cols ground
-      (directions_by source rows cols ground g.direction) (before_marks (formula_place n m) (found_in k))
+module _ (rows cols side : ℕ) (first second : Settings) (marks : List ℕ) (n m : ℕ) (source : Source) (elevation : List ℤ) (g : Grids)
+    (h : 1 ≤ formula_place n m) {j : FarmJudgement} (judges : JudgesFarms rows cols side first second marks elevation g j) where
+  two-told : (k : FarmJudgement) → Refused (refusal_before (formula_place n m) k) ≡ answer_of rows cols elevation
+      (directions_by source rows cols elevation g.direction) (before_marks (formula_place n m) (found_in k))
   unfolding answer_of
   two-told (farm.Sound a b) = refl
   two-told (farm.Unsound f) = go (eqb f.number 19)
     where
       go : (b : Bool) →
           Refused (cond b (record { number = 4; place = formula_place n m }) f)
-          ≡ answer_of rows cols ground (directions_by source rows cols ground g.direction)
+          ≡ answer_of rows cols elevation (directions_by source rows cols elevation g.direction)
           (cond b (failed 4 (formula_place n m)) (failed f.number f.place))
       go true = refl
       go false = refl
 
   pub two-answers : {f : Refusal} → f ≡ refusal_before (formula_place n m) j → Refused f ≡ answer_by rows cols side (two first second marks)
-      (two_formulas n m) source ground g
+      (two_formulas n m) source elevation g
   two-answers e =
       ap Refused e ∙ two-told j
-      ∙ none_answers rows cols side (two first second marks) (two_formulas n m) source ground g (two-fails n m h) judges.verdict-is
+      ∙ none_answers rows cols side (two first second marks) (two_formulas n m) source elevation g (two-fails n m h) judges.verdict-is
 
-  pub two-leaves : g ≡ after_by rows cols side (two first second marks) (two_formulas n m) source ground g
-  two-leaves = none-leaves rows cols side (two first second marks) (two_formulas n m) source ground g (two-fails n m h) judges.verdict-is
+  pub two-leaves : g ≡ after_by rows cols side (two first second marks) (two_formulas n m) source elevation g
+  two-leaves = none-leaves rows cols side (two first second marks) (two_formulas n m) source elevation g (two-fails n m h) judges.verdict-is
 
 -- ---- the numbers that are handed out
 
-module _ (rows cols side : ℕ) (formulas : List Test) (ground : List ℤ) (g : Grids) {s t : Farms} {p q : Source} (same : s ≡ t) (alike : p ≡ q) where
-  pub answers_of : {n : Numbers} {a : Answer} → n ≡ told a → a ≡ answer_by rows cols side s formulas p ground g →
-      n ≡ told (answer_by rows cols side t formulas q ground g)
-  answers_of e h = e ∙ ap told (h ∙ ap₂ (λ (x : Farms) (y : Source). answer_by rows cols side x formulas y ground g) same alike)
+module _ (rows cols side : ℕ) (formulas : List Test) (elevation : List ℤ) (g : Grids) {s t : Farms} {p q : Source} (same : s ≡ t) (alike : p ≡ q) where
+  pub answers_of : {n : Numbers} {a : Answer} → n ≡ told a → a ≡ answer_by rows cols side s formulas p elevation g →
+      n ≡ told (answer_by rows cols side t formulas q elevation g)
+  answers_of e h = e ∙ ap told (h ∙ ap₂ (λ (x : Farms) (y : Source). answer_by rows cols side x formulas y elevation g) same alike)
 
-  pub leaves_of : {left : Grids} → left ≡ after_by rows cols side s formulas p ground g → left ≡ after_by rows cols side t formulas q ground g
-  leaves_of h = h ∙ ap₂ (λ (x : Farms) (y : Source). after_by rows cols side x formulas y ground g) same alike
+  pub leaves_of : {left : Grids} → left ≡ after_by rows cols side s formulas p elevation g → left ≡ after_by rows cols side t formulas q elevation g
+  leaves_of h = h ∙ ap₂ (λ (x : Farms) (y : Source). after_by rows cols side x formulas y elevation g) same alike

@@ -13,19 +13,19 @@ use Rattle.factor.specs.Answers.{Grids, early_tests, answer_of, grids_of}
 -- the tests of the map call, in order, with those of the formulas' numbers between 4 and 19
 unfoldable pub judged_by : ℕ → ℕ → ℕ → Farms → List Test → Source → List ℤ → Grids → Test
 unfolding early_tests filled_levels verdict
-judged_by rows cols side farms formulas source ground g =
-    verdict (early_tests rows cols side farms ground g
+judged_by rows cols side farms formulas source elevation g =
+    verdict (early_tests rows cols side farms elevation g
     ++ (formulas
     ++ (mark_tests (rows * cols) farms
-    ++ (height_test (rows * cols) ground ∷ source_tests source rows cols (filled_levels rows cols ground) g.direction))))
+    ++ (height_test (rows * cols) elevation ∷ source_tests source rows cols (filled_levels rows cols elevation) g.direction))))
 
 -- the answer, and the lent grids afterwards, by what they decide
 unfoldable pub answer_by : ℕ → ℕ → ℕ → Farms → List Test → Source → List ℤ → Grids → Answer
 unfolding judged_by answer_of ground_directions
-answer_by rows cols side farms formulas source ground g =
-    answer_of rows cols ground (directions_by source rows cols ground g.direction) (judged_by rows cols side farms formulas source ground g)
+answer_by rows cols side farms formulas source elevation g =
+    answer_of rows cols elevation (directions_by source rows cols elevation g.direction) (judged_by rows cols side farms formulas source elevation g)
 
 unfoldable pub after_by : ℕ → ℕ → ℕ → Farms → List Test → Source → List ℤ → Grids → Grids
 unfolding judged_by grids_of ground_directions
-after_by rows cols side farms formulas source ground g =
-    grids_of rows cols side farms ground (directions_by source rows cols ground g.direction) g (judged_by rows cols side farms formulas source ground g)
+after_by rows cols side farms formulas source elevation g =
+    grids_of rows cols side farms elevation (directions_by source rows cols elevation g.direction) g (judged_by rows cols side farms formulas source elevation g)

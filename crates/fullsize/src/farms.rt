@@ -51,7 +51,7 @@ pub(crate) fn map(
     formula1: u32,
     marks: &[u8],
     source: Source,
-    ground: &[i32],
+    elevation: &[i32],
     filled: &mut [i32],
     direction: &mut [u8],
     count: &mut [u32],
@@ -59,26 +59,26 @@ pub(crate) fn map(
     factors: &mut [u32],
     workspace: &mut [u32],
 ) -> Answer
-    ensures answers { result ≡ answer_by rows columns side (two first second marks.now) (two_formulas formula formula1) source ground.now
+    ensures answers { result ≡ answer_by rows columns side (two first second marks.now) (two_formulas formula formula1) source elevation.now
         (lent_before filled direction count lengths factors workspace) }
     ensures leaves { lent_after filled direction count lengths factors workspace
-        ≡ after_by rows columns side (two first second marks.now) (two_formulas formula formula1) source ground.now
+        ≡ after_by rows columns side (two first second marks.now) (two_formulas formula formula1) source elevation.now
         (lent_before filled direction count lengths factors workspace) }
-    ensures trails { accepts result ≡ true → Trails rows columns ground.now filled.new direction.new }
+    ensures trails { accepts result ≡ true → Trails rows columns elevation.now filled.new direction.new }
     ensures totals { accepts result ≡ true →
-        Totals rows columns ground.now direction.new count.new (told result).valids }
-    ensures surface { accepts result ≡ true → Surface rows columns ground.now filled.new }
+        Totals rows columns elevation.now direction.new count.new (told result).valids }
+    ensures surface { accepts result ≡ true → Surface rows columns elevation.now filled.new }
 {
     let place = formula_place(formula, formula1);
     if 0 < place {
         let judgement = factor::judge_farms(
-            rows, columns, side, first, second, marks, ground, filled, direction, count, lengths,
-            factors, workspace,
+            rows, columns, side, first, second, marks, elevation, filled, direction, count,
+            lengths, factors, workspace,
         );
         return Answer::Refused(refusal_before(place, judgement));
     }
     factor::map_farms(
-        rows, columns, side, first, second, marks, source, ground, filled, direction, count,
+        rows, columns, side, first, second, marks, source, elevation, filled, direction, count,
         lengths, factors, workspace,
     )
 }

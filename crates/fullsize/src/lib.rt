@@ -3,6 +3,8 @@
 // Each call hands on what it is lent and gives the number of the refusal, 0 where the input is accepted; the place and the other
 // numbers go to single numbers that are lent too. The promise of each call is that of the call it wraps, for every input. No call has a
 // `requires`: a caller owes only what no call can see, that each pointer with its length is memory of its own.
+#![tactic(auto)]
+
 mod answers;
 mod crossing;
 mod farms;
@@ -123,7 +125,7 @@ pub extern "C" fn lsmap_map(
     percentage: f64,
     formula: u32,
     given: bool,
-    ground: &[i32],
+    elevation: &[i32],
     filled: &mut [i32],
     direction: &mut [u8],
     count: &mut [u32],
@@ -135,21 +137,21 @@ pub extern "C" fn lsmap_map(
     longest: &mut u32,
 ) -> u32
     ensures answers { mapping_after result place valid longest
-        ≡ told (answer_by rows columns side (one (settings_of low high kind cells percentage formula)) (one_formula formula) (source_of given) ground.now
+        ≡ told (answer_by rows columns side (one (settings_of low high kind cells percentage formula)) (one_formula formula) (source_of given) elevation.now
         (lent_before filled direction count lengths factors workspace)) }
     ensures leaves { lent_after filled direction count lengths factors workspace
-        ≡ after_by rows columns side (one (settings_of low high kind cells percentage formula)) (one_formula formula) (source_of given) ground.now
+        ≡ after_by rows columns side (one (settings_of low high kind cells percentage formula)) (one_formula formula) (source_of given) elevation.now
         (lent_before filled direction count lengths factors workspace) }
-    ensures trails { result ≡ 0 → Trails rows columns ground.now filled.new direction.new }
+    ensures trails { result ≡ 0 → Trails rows columns elevation.now filled.new direction.new }
     ensures totals { result ≡ 0 →
-        Totals rows columns ground.now direction.new count.new valid.new }
-    ensures surface { result ≡ 0 → Surface rows columns ground.now filled.new }
+        Totals rows columns elevation.now direction.new count.new valid.new }
+    ensures surface { result ≡ 0 → Surface rows columns elevation.now filled.new }
 {
     let settings = crossing::settings_of(low, high, kind, cells, percentage, formula);
     let source = crossing::source_of(given);
     let answer = mapping::map(
-        rows, columns, side, settings, formula, source, ground, filled, direction, count, lengths,
-        factors, workspace,
+        rows, columns, side, settings, formula, source, elevation, filled, direction, count,
+        lengths, factors, workspace,
     );
     answers::hand_out_mapping(answer, place, valid, longest)
 }
@@ -175,7 +177,7 @@ pub extern "C" fn lsmap_map_farms(
     formula1: u32,
     marks: &[u8],
     given: bool,
-    ground: &[i32],
+    elevation: &[i32],
     filled: &mut [i32],
     direction: &mut [u8],
     count: &mut [u32],
@@ -189,23 +191,23 @@ pub extern "C" fn lsmap_map_farms(
     ensures answers { mapping_after result place valid longest
         ≡ told (answer_by rows columns side
         (two (settings_of low high kind cells percentage formula) (settings_of low1 high1 kind1 cells1 percentage1 formula1) marks.now)
-        (two_formulas formula formula1) (source_of given) ground.now
+        (two_formulas formula formula1) (source_of given) elevation.now
         (lent_before filled direction count lengths factors workspace)) }
     ensures leaves { lent_after filled direction count lengths factors workspace
         ≡ after_by rows columns side
         (two (settings_of low high kind cells percentage formula) (settings_of low1 high1 kind1 cells1 percentage1 formula1) marks.now)
-        (two_formulas formula formula1) (source_of given) ground.now
+        (two_formulas formula formula1) (source_of given) elevation.now
         (lent_before filled direction count lengths factors workspace) }
-    ensures trails { result ≡ 0 → Trails rows columns ground.now filled.new direction.new }
+    ensures trails { result ≡ 0 → Trails rows columns elevation.now filled.new direction.new }
     ensures totals { result ≡ 0 →
-        Totals rows columns ground.now direction.new count.new valid.new }
-    ensures surface { result ≡ 0 → Surface rows columns ground.now filled.new }
+        Totals rows columns elevation.now direction.new count.new valid.new }
+    ensures surface { result ≡ 0 → Surface rows columns elevation.now filled.new }
 {
     let settings = crossing::settings_of(low, high, kind, cells, percentage, formula);
     let second = crossing::settings_of(low1, high1, kind1, cells1, percentage1, formula1);
     let source = crossing::source_of(given);
     let answer = farms::map(
-        rows, columns, side, settings, second, formula, formula1, marks, source, ground, filled,
+        rows, columns, side, settings, second, formula, formula1, marks, source, elevation, filled,
         direction, count, lengths, factors, workspace,
     );
     answers::hand_out_mapping(answer, place, valid, longest)

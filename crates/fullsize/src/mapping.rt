@@ -33,7 +33,7 @@ pub(crate) fn map(
     settings: Settings,
     formula: u32,
     source: Source,
-    ground: &[i32],
+    elevation: &[i32],
     filled: &mut [i32],
     direction: &mut [u8],
     count: &mut [u32],
@@ -41,25 +41,25 @@ pub(crate) fn map(
     factors: &mut [u32],
     workspace: &mut [u32],
 ) -> Answer
-    ensures answers { result ≡ answer_by rows columns side (one settings) (one_formula formula) source ground.now
+    ensures answers { result ≡ answer_by rows columns side (one settings) (one_formula formula) source elevation.now
         (lent_before filled direction count lengths factors workspace) }
     ensures leaves { lent_after filled direction count lengths factors workspace
-        ≡ after_by rows columns side (one settings) (one_formula formula) source ground.now
+        ≡ after_by rows columns side (one settings) (one_formula formula) source elevation.now
         (lent_before filled direction count lengths factors workspace) }
-    ensures trails { accepts result ≡ true → Trails rows columns ground.now filled.new direction.new }
+    ensures trails { accepts result ≡ true → Trails rows columns elevation.now filled.new direction.new }
     ensures totals { accepts result ≡ true →
-        Totals rows columns ground.now direction.new count.new (told result).valids }
-    ensures surface { accepts result ≡ true → Surface rows columns ground.now filled.new }
+        Totals rows columns elevation.now direction.new count.new (told result).valids }
+    ensures surface { accepts result ≡ true → Surface rows columns elevation.now filled.new }
 {
     if 1 < formula {
         let judgement = factor::judge(
-            rows, columns, side, settings, ground, filled, direction, count, lengths, factors,
+            rows, columns, side, settings, elevation, filled, direction, count, lengths, factors,
             workspace,
         );
         return without_formula(judgement);
     }
     factor::map(
-        rows, columns, side, settings, source, ground, filled, direction, count, lengths, factors,
-        workspace,
+        rows, columns, side, settings, source, elevation, filled, direction, count, lengths,
+        factors, workspace,
     )
 }

@@ -1,5 +1,7 @@
 // Prints the sheets of many texts, with the job's settings. What must be printed, the file `stdout`, comes from a second program that
 // was written for itself, under the default as it was while its low cutoff was 0.5.
+#![tactic(auto)]
+
 fn main() {
     streams::print_sheets(programs::job_settings());
 }

@@ -2,6 +2,8 @@
 //
 // Each call writes from the place `at` on, as far as the room goes, and answers how many bytes there were to write. No call has a
 // `requires`.
+#![tactic(auto)]
+
 ghost use Rattle.std.specs.Prelude.{[], ◌∷◌, ◌≡◌, ◌+◌, ◌≤◌, nat_abs, length, set};
 ghost use Rattle.numerals.specs.Words.{decimal, padded};
 ghost use Rattle.numerals.specs.Writing.{overlay, Lays};

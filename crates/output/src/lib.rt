@@ -1,4 +1,6 @@
 // Writes bytes, numbers and answers to standard output, for the programs that run stored cases. What is written no contract can say.
+#![tactic(auto)]
+
 use libc::STDOUT_FILENO;
 use text::{Answer, Header, Refusal};
 

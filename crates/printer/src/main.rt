@@ -1,4 +1,6 @@
 // The printer of RULES 9.3: the sheet of standard input.
+#![tactic(auto)]
+
 use settings::{Channel, Formula, Settings};
 
 // Cutoffs 0.5, no channels, and the older steepness formula.

@@ -1,4 +1,6 @@
 // What the printer and the job share, the sheet of standard input; and the job's settings. RULES 9.3.
+#![tactic(auto)]
+
 ghost use Rattle.std.specs.Prelude.{◌≡◌};
 ghost use Rattle.programs.specs.Settings.{job_settings};
 

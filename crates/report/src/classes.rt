@@ -10,7 +10,7 @@ use factor::TOO_LONG;
 pub(crate) const NO_DATA: u32 = 4294967295;
 
 // How many numbers are 0, below 1, 5 and 10 in hundred-thousandths, below too long, NoData, and below a given one.
-#[derive(Drop)]
+#[derive(Clone, Copy)]
 pub(crate) struct Counts {
     pub(crate) zero: u32,
     pub(crate) under1: u32,

@@ -9,7 +9,7 @@ use crate::counting::{plus_if, wide};
 use settings::Threshold;
 
 // How many cells are valid, and how many are channels.
-#[derive(Drop)]
+#[derive(Clone, Copy)]
 pub(crate) struct Flow {
     pub(crate) valid: u32,
     pub(crate) channel: u32,

@@ -7,7 +7,7 @@ ghost use Rattle.report.specs.declared.Greatest.TheVariants.{Found};
 use crate::{Greatest, Report};
 
 // The greatest that a joined report keeps, or that its map would no longer fit.
-#[derive(Drop)]
+#[derive(Clone, Copy)]
 pub(crate) enum Kept {
     Fitting(Greatest),
     TooMany,

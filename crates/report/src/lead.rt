@@ -12,7 +12,7 @@ use crate::counting::larger;
 use factor::TOO_LONG;
 
 // The highest rank so far, and a block in which the first cell that has it stands.
-#[derive(Drop)]
+#[derive(Clone, Copy)]
 pub(crate) struct Lead {
     pub(crate) rank: u32,
     pub(crate) from: usize,

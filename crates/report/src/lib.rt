@@ -2,6 +2,8 @@
 //
 // Every map and every two reports get an answer: no call has a `requires`. A call works out the next report and judges it before it
 // gives it back.
+#![tactic(auto)]
+
 mod classes;
 mod counting;
 mod flow;
@@ -25,7 +27,7 @@ pub use tests::{Judgement, judge, judge_farms};
 use text::Refusal;
 
 // The greatest LS, with the first map and cell that has it, counted from 0; none where no cell has an LS.
-#[derive(Drop)]
+#[derive(Clone, Copy)]
 pub enum Greatest {
     Nothing,
     Found { factor: u64, map: u64, cell: u64 },
@@ -33,7 +35,7 @@ pub enum Greatest {
 
 // The numbers of a list of maps: how many there are, valid cells, channel cells, cells with LS 0, cells too long, the sum of all LS in
 // hundred-thousandths, the cells with LS under 1, from 1 to under 5, from 5 to under 10, and 10 or more, and the greatest LS.
-#[derive(Drop)]
+#[derive(Clone, Copy)]
 pub struct Report {
     pub maps: u64,
     pub valid: u64,
@@ -49,14 +51,14 @@ pub struct Report {
 }
 
 // The answer of a call: whether the report was taken on, or why not.
-#[derive(Drop)]
+#[derive(Clone, Copy)]
 pub enum Answer {
     Accepted,
     Refused(Refusal),
 }
 
 // The answer with the report: the next one, or at a refusal the one that was given.
-#[derive(Drop)]
+#[derive(Clone, Copy)]
 pub struct Reported {
     pub answer: Answer,
     pub report: Report,

@@ -8,7 +8,7 @@ use crate::lead::Lead;
 use crate::{classes, lead};
 
 // The counts, the sum of all numbers and the lead of the cells so far.
-#[derive(Drop)]
+#[derive(Clone, Copy)]
 pub(crate) struct Tally {
     pub(crate) zero: u32,
     pub(crate) under1: u32,

@@ -12,7 +12,7 @@ use settings::{Judged, Rules, Settings};
 use text::Refusal;
 
 // What is found of a map: the rules of its settings, or why it is refused.
-#[derive(Drop)]
+#[derive(Clone, Copy)]
 pub enum Judgement {
     Sound(Rules),
     Unsound(Refusal),

@@ -1,5 +1,7 @@
 // Runs the calls of `report` on small maps and reports, and writes what they answer and the report that they give back, for RULES 12. What
 // must be written, the file `stdout`, is worked out from those.
+#![tactic(auto)]
+
 mod farms;
 mod joins;
 mod lists;

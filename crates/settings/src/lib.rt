@@ -1,10 +1,12 @@
 // The settings of a map: the two cutoffs and the channel rule, judged and turned into whole percentages, and the steepness formula.
 // RULES 7.1.
+#![tactic(auto)]
+
 ghost use Rattle.std.specs.Prelude.{◌≡◌, ◌≤◌};
 ghost use Rattle.settings.specs.Settings.{whole_of, judged_of, default_settings};
 
 // Above which flow count a cell is a channel: a percentage of the largest flow count, a number of cells, or none.
-#[derive(Drop)]
+#[derive(Clone, Copy)]
 pub enum Channel {
     Percentage(f64),
     Cells(u32),
@@ -12,14 +14,14 @@ pub enum Channel {
 }
 
 // The steepness formula: the older one of Handbook 537, or the newer one of Handbook 703 (RUSLE).
-#[derive(Drop)]
+#[derive(Clone, Copy)]
 pub enum Formula {
     Older,
     Newer,
 }
 
 // The cutoff for slopes under 5 percent, the one for the rest, the channel rule and the steepness formula.
-#[derive(Drop)]
+#[derive(Clone, Copy)]
 pub struct Settings {
     pub low: f64,
     pub high: f64,
@@ -42,7 +44,7 @@ impl Settings {
 }
 
 // The channel rule in whole numbers: tenths of a percent of the largest flow count, a number of cells, or none.
-#[derive(Drop)]
+#[derive(Clone, Copy)]
 pub enum Threshold {
     Share(u32),
     Over(u32),
@@ -50,7 +52,7 @@ pub enum Threshold {
 }
 
 // Settings that were accepted: the cutoffs in percent, the channel rule and the steepness formula.
-#[derive(Drop)]
+#[derive(Clone, Copy)]
 pub struct Rules {
     pub low: u32,
     pub high: u32,
@@ -59,7 +61,7 @@ pub struct Rules {
 }
 
 // What is found of settings: the rules, or the place of the first one that is not accepted.
-#[derive(Drop)]
+#[derive(Clone, Copy)]
 pub enum Judged {
     Accepted(Rules),
     Refused(usize),

@@ -42,43 +42,43 @@ refused_as number place lines en ep h = ap₂ refusal_line en ep ∙ sym (lines-
 
 -- ---- the map call
 
-module _ (rows columns side : ℕ) (settings : Settings) (ground : List ℤ) (g : Grids) where
-  passed-size : judged rows columns side (one settings) Own ground g ≡ passed → size_test rows columns ≡ passed
+module _ (rows columns side : ℕ) (settings : Settings) (elevation : List ℤ) (g : Grids) where
+  passed-size : judged rows columns side (one settings) Own elevation g ≡ passed → size_test rows columns ≡ passed
   unfolding judged tests first_tests early_tests
   passed-size j = (verdict-passed (size_test rows columns) (length_test (rows * columns)
-      (places_of ground g) ∷ side_test side ∷ settings_test settings ∷ height_test (rows * columns) ground ∷ []) j).0
+      (places_of elevation g) ∷ side_test side ∷ settings_test settings ∷ height_test (rows * columns) elevation ∷ []) j).0
 
   -- a map that is accepted has columns
-  accepted-columns : accepts (answer rows columns side (one settings) Own ground g) ≡ true → 0 < columns
+  accepted-columns : accepts (answer rows columns side (one settings) Own elevation g) ≡ true → 0 < columns
   unfolding answer answer_of
-  accepted-columns = go (judged rows columns side (one settings) Own ground g) refl
+  accepted-columns = go (judged rows columns side (one settings) Own elevation g) refl
     where
-      go : (t : Test) → judged rows columns side (one settings) Own ground g ≡ t →
-          accepts (answer_of rows columns ground (ground_directions rows columns ground) t) ≡ true → 0 < columns
+      go : (t : Test) → judged rows columns side (one settings) Own elevation g ≡ t →
+          accepts (answer_of rows columns elevation (ground_directions rows columns elevation) t) ≡ true → 0 < columns
       go passed j y = omega (arith, (size_is columns (size-passed rows columns (passed-size j)).1).0)
       go (failed number place) j y = absurd (true≢false (sym y))
 
-module _ (rows columns side : ℕ) (settings : Settings) (ground : List ℤ) (g : Grids) {s : Survey} {a : Answer} (es : s ≡ survey_numbers (told a))
-    (ea : a ≡ answer rows columns side (one settings) Own ground g) where
-  e : s ≡ survey_numbers (told (answer rows columns side (one settings) Own ground g))
+module _ (rows columns side : ℕ) (settings : Settings) (elevation : List ℤ) (g : Grids) {s : Survey} {a : Answer} (es : s ≡ survey_numbers (told a))
+    (ea : a ≡ answer rows columns side (one settings) Own elevation g) where
+  e : s ≡ survey_numbers (told (answer rows columns side (one settings) Own elevation g))
   e = es ∙ ap (λ (x : Answer). survey_numbers (told x)) ea
 
-  pub map-refused : (s.number ≡ 0 → ⊥) → refusal_line s.number s.place ≡ map_sheet rows columns side settings ground g
+  pub map-refused : (s.number ≡ 0 → ⊥) → refusal_line s.number s.place ≡ map_sheet rows columns side settings elevation g
   unfolding map_sheet
   map-refused h = refused_as _ _ _ (ap (λ (x : Survey). x.number) e) (ap (λ (x : Survey). x.place) e) h
 
-  pub map-printed : (m : Grids) → m ≡ after rows columns side (one settings) Own ground g → s.number ≡ 0 →
+  pub map-printed : (m : Grids) → m ≡ after rows columns side (one settings) Own elevation g → s.number ≡ 0 →
       map_lines (record { rows = rows; columns = columns; side = side; valid = s.valid; longest = s.longest })
-      (grids_of ground m.filled m.direction m.count m.lengths m.factors) ≡ map_sheet rows columns side settings ground g
+      (grids_of elevation m.filled m.direction m.count m.lengths m.factors) ≡ map_sheet rows columns side settings elevation g
   unfolding map_sheet
   map-printed m f h =
       ap₂ (λ (x : Survey) (m : Grids). map_lines (record { rows = rows; columns = columns; side = side; valid = x.valid; longest = x.longest })
-      (grids_of ground m.filled m.direction m.count m.lengths m.factors)) e f
-      ∙ sym (lines-yes _ (told (answer rows columns side (one settings) Own ground g)).place _ (sym (ap (λ (x : Survey). x.number) e) ∙ h))
+      (grids_of elevation m.filled m.direction m.count m.lengths m.factors)) e f
+      ∙ sym (lines-yes _ (told (answer rows columns side (one settings) Own elevation g)).place _ (sym (ap (λ (x : Survey). x.number) e) ∙ h))
 
   pub map-columns : s.number ≡ 0 → 0 < columns
-  map-columns h = accepted-columns rows columns side settings ground g
-      (number-some rows columns side (one settings) ground g Own (sym (ap (λ (x : Survey). x.number) e) ∙ h))
+  map-columns h = accepted-columns rows columns side settings elevation g
+      (number-some rows columns side (one settings) elevation g Own (sym (ap (λ (x : Survey). x.number) e) ∙ h))
 
 -- ---- the reader call
 
@@ -88,10 +88,10 @@ module _ (rows columns side : ℕ) (settings : Settings) (text : List ℕ) (heig
   unfolding grid_sheet
   grid-refused h = refused_as _ _ _ (ap (λ (x : Head). x.number) e) (ap (λ (x : Head). x.place) e) h
 
-  pub grid-printed : (ground : List ℤ) → ground ≡ (grid_answer heights text).heights → s.number ≡ 0 →
-      map_sheet rows columns side settings ground g ≡ grid_sheet rows columns side settings text heights g
+  pub grid-printed : (elevation : List ℤ) → elevation ≡ (grid_answer heights text).heights → s.number ≡ 0 →
+      map_sheet rows columns side settings elevation g ≡ grid_sheet rows columns side settings text heights g
   unfolding grid_sheet
-  grid-printed ground f h = ap (λ (l : List ℤ). map_sheet rows columns side settings l g) f
+  grid-printed elevation f h = ap (λ (l : List ℤ). map_sheet rows columns side settings l g) f
       ∙ sym (lines-yes _ (grid_answer heights text).answer.place _ (sym (ap (λ (x : Head). x.number) e) ∙ h))
 
 -- ---- the number of cells, the header and the text's length

@@ -23,14 +23,14 @@ either false w v x y xs ys = refl
 -- what a cell shows stands behind its row and column
 pub cell-line : (row column : ℕ) (c : Cell) → cell_line row column c ≡ decimal row ++ (32 ∷ (decimal column ++ (32 ∷ line (shown_words c))))
 unfolding cell_line shown_words value_words
-cell-line row column c = either (same c.ground no_data_height) (decimal row) (decimal column) _ _ _ _
+cell-line row column c = either (same c.elevation no_data_height) (decimal row) (decimal column) _ _ _ _
 
 -- a NoData cell, and any other
-pub shown-none : (c : Cell) → same c.ground no_data_height ≡ true → shown_words c ≡ replicate 6 (bytes "-")
+pub shown-none : (c : Cell) → same c.elevation no_data_height ≡ true → shown_words c ≡ replicate 6 (bytes "-")
 unfolding shown_words
 shown-none c h = ap (λ (b : Bool). cond b (replicate 6 (bytes "-")) (value_words c)) h
 
-pub shown-values : (c : Cell) → same c.ground no_data_height ≡ false → shown_words c ≡ value_words c
+pub shown-values : (c : Cell) → same c.elevation no_data_height ≡ false → shown_words c ≡ value_words c
 unfolding shown_words
 shown-values c h = ap (λ (b : Bool). cond b (replicate 6 (bytes "-")) (value_words c)) h
 
@@ -38,14 +38,14 @@ shown-values c h = ap (λ (b : Bool). cond b (replicate 6 (bytes "-")) (value_wo
 
 -- the cell x, with its two heights as they were read
 abbrev cell_with : Grids → ℕ → ℤ → ℤ → Cell
-cell_with g x ground filled =
-    record { ground = ground; filled = filled; direction = (cell_of g x).direction; count = (cell_of g x).count; length = (cell_of g x).length; factor = (cell_of g x).factor }
+cell_with g x elevation filled =
+    record { elevation = elevation; filled = filled; direction = (cell_of g x).direction; count = (cell_of g x).count; length = (cell_of g x).length; factor = (cell_of g x).factor }
 
 module _ (columns : ℕ) (g : Grids) where
   pub cells-none : (room : List ℕ) (at : ℕ) → Wrote room at (cell_lines columns g 0) at room
   unfolding cell_lines
   cells-none room at = wrote_none room at
 
-  pub cells-more : {room mid after : List ℕ} {at next end : ℕ} {ground filled : ℤ} (x : ℕ) → ground ≡ (cell_of g x).ground → filled ≡ (cell_of g x).filled → Wrote room at (cell_lines columns g x) next mid → Wrote mid next (cell_line (x / columns) (x % columns) (cell_with g x ground filled)) end after → Wrote room at (cell_lines columns g (x + 1)) end after
+  pub cells-more : {room mid after : List ℕ} {at next end : ℕ} {elevation filled : ℤ} (x : ℕ) → elevation ≡ (cell_of g x).elevation → filled ≡ (cell_of g x).filled → Wrote room at (cell_lines columns g x) next mid → Wrote mid next (cell_line (x / columns) (x % columns) (cell_with g x elevation filled)) end after → Wrote room at (cell_lines columns g (x + 1)) end after
   unfolding cell_lines
-  cells-more x eg ef p q = rw add-one (wrote_then p (wrote_as (ap₂ (λ (ground filled : ℤ). cell_line (x / columns) (x % columns) (cell_with g x ground filled)) eg ef) q))
+  cells-more x eg ef p q = rw add-one (wrote_then p (wrote_as (ap₂ (λ (elevation filled : ℤ). cell_line (x / columns) (x % columns) (cell_with g x elevation filled)) eg ef) q))

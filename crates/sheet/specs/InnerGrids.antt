@@ -6,13 +6,13 @@ use Rattle.sheet.specs.Lines.{Grids, grids_of}
 
 -- the grids that are shown
 abbrev pub grids_before : Slice ℤ → Slice ℤ → Slice ℕ → Slice ℕ → Slice ℕ → Slice ℕ → Grids
-grids_before ground filled direction count lengths factors =
-    grids_of ground.entry.now filled.entry.now direction.entry.now count.entry.now lengths.entry.now factors.entry.now
+grids_before elevation filled direction count lengths factors =
+    grids_of elevation.entry.now filled.entry.now direction.entry.now count.entry.now lengths.entry.now factors.entry.now
 
 -- every grid that is lent to the map call has n cells, and there are not too many of them
-pub record LentLong (n : ℕ) (ground : List ℤ) (g : factor.Grids) : Type 0 where
+pub record LentLong (n : ℕ) (elevation : List ℤ) (g : factor.Grids) : Type 0 where
   pub few : n ≤ 2048
-  pub ground-long : length ground ≡ n
+  pub ground-long : length elevation ≡ n
   pub filled-long : length g.filled ≡ n
   pub direction-long : length g.direction ≡ n
   pub count_long : length g.count ≡ n
@@ -23,7 +23,7 @@ pub record LentLong (n : ℕ) (ground : List ℤ) (g : factor.Grids) : Type 0 wh
 -- every grid that is shown has n cells, and they are not too many to count their bytes
 pub record Long (n : ℕ) (g : Grids) : Type 0 where
   pub few : n ≤ 1048576
-  pub ground-long : length g.ground ≡ n
+  pub ground-long : length g.elevation ≡ n
   pub filled-long : length g.filled ≡ n
   pub direction-long : length g.direction ≡ n
   pub count_long : length g.count ≡ n

@@ -22,12 +22,12 @@ factor_word n = cond (eqb n too_long) (bytes "long") (decimal n)
 unfoldable pub value_words : Cell → List (List ℕ)
 unfolding decimal integer factor_word
 value_words c =
-    integer c.ground ∷ integer c.filled ∷ decimal c.direction ∷ decimal c.count ∷ decimal c.length ∷ factor_word c.factor ∷ []
+    integer c.elevation ∷ integer c.filled ∷ decimal c.direction ∷ decimal c.count ∷ decimal c.length ∷ factor_word c.factor ∷ []
 
 -- A NoData cell shows row, column and six times `-`
 unfoldable pub shown_words : Cell → List (List ℕ)
 unfolding value_words bytes
-shown_words c = cond (same c.ground no_data_height) (replicate 6 (bytes "-")) (value_words c)
+shown_words c = cond (same c.elevation no_data_height) (replicate 6 (bytes "-")) (value_words c)
 
 -- then each cell's row, column, ground, filled, direction, count, length, LS
 unfoldable pub cell_line : ℕ → ℕ → Cell → List ℕ
@@ -41,7 +41,7 @@ shape_line s = line (decimal s.rows ∷ decimal s.columns ∷ decimal s.side ∷
 
 -- a map's grids, in row order
 pub record Grids : Type 0 where
-  pub ground : List ℤ
+  pub elevation : List ℤ
   pub filled : List ℤ
   pub direction : List ℕ
   pub count : List ℕ
@@ -49,14 +49,14 @@ pub record Grids : Type 0 where
   pub factors : List ℕ
 
 abbrev pub grids_of : List ℤ → List ℤ → List ℕ → List ℕ → List ℕ → List ℕ → Grids
-grids_of ground filled direction count lengths factors =
-    record { ground = ground; filled = filled; direction = direction; count = count; lengths = lengths; factors = factors }
+grids_of elevation filled direction count lengths factors =
+    record { elevation = elevation; filled = filled; direction = direction; count = count; lengths = lengths; factors = factors }
 
 -- what stands at the cell x
 abbrev pub cell_of : Grids → ℕ → Cell
 cell_of g x =
     record {
-      ground = get_or g.ground x (pos 0);
+      elevation = get_or g.elevation x (pos 0);
       filled = get_or g.filled x (pos 0);
       direction = get_or g.direction x 0;
       count = get_or g.count x 0;

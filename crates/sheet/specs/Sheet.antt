@@ -15,12 +15,12 @@ lines_or number place lines = elim (eqb number 0) [ true ↦ lines | false ↦ r
 -- what the map call's answer comes to, the grids g being lent to it
 unfoldable pub map_sheet : ℕ → ℕ → ℕ → Settings → List ℤ → Grids → List ℕ
 unfolding lines_or map_lines answer after
-map_sheet rows columns side settings ground g =
-    let a = told (answer rows columns side (one settings) Own ground g) in
-    let m = after rows columns side (one settings) Own ground g in
+map_sheet rows columns side settings elevation g =
+    let a = told (answer rows columns side (one settings) Own elevation g) in
+    let m = after rows columns side (one settings) Own elevation g in
     lines_or a.number a.place
     (map_lines (record { rows = rows; columns = columns; side = side; valid = a.valids; longest = a.longest })
-    (grids_of ground m.filled m.direction m.count m.lengths m.factors))
+    (grids_of elevation m.filled m.direction m.count m.lengths m.factors))
 
 -- what follows a good header, the heights and the grids g being lent
 unfoldable pub grid_sheet : ℕ → ℕ → ℕ → Settings → List ℕ → List ℤ → Grids → List ℕ

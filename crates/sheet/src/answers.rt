@@ -5,7 +5,7 @@ ghost use Rattle.factor.specs.Answers.{told};
 ghost use Rattle.sheet.specs.InnerAnswers.{head_numbers, survey_numbers};
 
 // What a text call answers, but for the NoData number.
-#[derive(Drop)]
+#[derive(Clone, Copy)]
 pub(crate) struct Head {
     pub(crate) number: u32,
     pub(crate) place: usize,
@@ -15,7 +15,7 @@ pub(crate) struct Head {
 }
 
 // What the map call answers.
-#[derive(Drop)]
+#[derive(Clone, Copy)]
 pub(crate) struct Survey {
     pub(crate) number: u32,
     pub(crate) place: usize,

@@ -1,6 +1,8 @@
 // The sheet layer: a text grid becomes a map's printed lines, or the one line of a refusal. RULES 8.
 //
 // Every text gets a sheet: the call has no `requires`. It reads, maps and writes by the calls of the layers below, on grids of its own.
+#![tactic(auto)]
+
 mod answers;
 mod lines;
 mod writer;
@@ -21,7 +23,7 @@ use settings::Settings;
 fn print_map(
     head: Head,
     settings: Settings,
-    ground: &[i32],
+    elevation: &[i32],
     filled: &mut [i32],
     direction: &mut [u8],
     count: &mut [u32],
@@ -30,9 +32,9 @@ fn print_map(
     workspace: &mut [u32],
     sheet: &mut [u8],
 ) -> usize
-    requires { LentLong (head.rows * head.columns) ground.now
+    requires { LentLong (head.rows * head.columns) elevation.now
         (lent filled.old direction.old count.old lengths.old factors.old workspace.old) }
-    ensures { Puts sheet 0 (map_sheet head.rows head.columns head.side settings ground.now
+    ensures { Puts sheet 0 (map_sheet head.rows head.columns head.side settings elevation.now
         (lent_before filled direction count lengths factors workspace)) result 307305 }
 {
     let map = answers::survey_of(factor::map(
@@ -41,7 +43,7 @@ fn print_map(
         head.side,
         settings,
         Source::Own,
-        ground,
+        elevation,
         filled,
         direction,
         count,
@@ -60,7 +62,7 @@ fn print_map(
         longest: map.longest,
     };
     lines::put_map(
-        sheet, shape, ground, filled, direction, count, lengths, factors,
+        sheet, shape, elevation, filled, direction, count, lengths, factors,
     )
 }
 

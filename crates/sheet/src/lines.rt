@@ -11,9 +11,9 @@ use factor::TOO_LONG;
 use text::NO_DATA;
 
 // What a map has at one cell.
-#[derive(Drop)]
+#[derive(Clone, Copy)]
 pub(crate) struct Cell {
-    pub(crate) ground: i32,
+    pub(crate) elevation: i32,
     pub(crate) filled: i32,
     pub(crate) direction: u8,
     pub(crate) count: u32,
@@ -22,7 +22,7 @@ pub(crate) struct Cell {
 }
 
 // What stands in a map's first line.
-#[derive(Drop)]
+#[derive(Clone, Copy)]
 pub(crate) struct Shape {
     pub(crate) rows: usize,
     pub(crate) columns: usize,
@@ -84,7 +84,7 @@ fn put_values(out: &mut [u8], at: usize, cell: Cell) -> usize
     requires { at < 2 ^ 58 }
     ensures { Puts out at (line (value_words cell)) result (at + 108) }
 {
-    let a = put_height(out, at, cell.ground);
+    let a = put_height(out, at, cell.elevation);
     let b = put_height(out, a, cell.filled);
     put_flow(out, b, cell)
 }
@@ -94,7 +94,7 @@ fn put_shown(out: &mut [u8], at: usize, cell: Cell) -> usize
     requires { at < 2 ^ 58 }
     ensures { Puts out at (line (shown_words cell)) result (at + 108) }
 {
-    if cell.ground == NO_DATA {
+    if cell.elevation == NO_DATA {
         return writer::put_all(out, at, b"- - - - - -\n");
     }
     put_values(out, at, cell)
@@ -153,7 +153,7 @@ fn put_cells(
     out: &mut [u8],
     at: usize,
     columns: usize,
-    ground: &[i32],
+    elevation: &[i32],
     filled: &[i32],
     direction: &[u8],
     count: &[u32],
@@ -161,15 +161,15 @@ fn put_cells(
     factors: &[u32],
 ) -> usize
     requires { (at ≤ 105) × (0 < columns)
-        × Long (length ground.now) (grids_of ground.now filled.now direction.now count.now lengths.now factors.now) }
-    ensures { Puts out at (cell_lines columns (grids_before ground filled direction count lengths factors) (length ground.now))
-        result (at + 150 * length ground.now) }
+        × Long (length elevation.now) (grids_of elevation.now filled.now direction.now count.now lengths.now factors.now) }
+    ensures { Puts out at (cell_lines columns (grids_before elevation filled direction count lengths factors) (length elevation.now))
+        result (at + 150 * length elevation.now) }
 {
     let mut next = at;
     let mut x = 0;
-    while x < ground.len() {
+    while x < elevation.len() {
         let cell = Cell {
-            ground: ground[x],
+            elevation: elevation[x],
             filled: filled[x],
             direction: direction[x],
             count: count[x],
@@ -186,7 +186,7 @@ fn put_cells(
 pub(crate) fn put_map(
     out: &mut [u8],
     shape: Shape,
-    ground: &[i32],
+    elevation: &[i32],
     filled: &[i32],
     direction: &[u8],
     count: &[u32],
@@ -194,13 +194,13 @@ pub(crate) fn put_map(
     factors: &[u32],
 ) -> usize
     requires { (0 < shape.columns)
-        × Long (shape.rows * shape.columns) (grids_of ground.now filled.now direction.now count.now lengths.now factors.now) }
-    ensures { Puts out 0 (map_lines shape (grids_before ground filled direction count lengths factors))
+        × Long (shape.rows * shape.columns) (grids_of elevation.now filled.now direction.now count.now lengths.now factors.now) }
+    ensures { Puts out 0 (map_lines shape (grids_before elevation filled direction count lengths factors))
         result (105 + 150 * (shape.rows * shape.columns)) }
 {
     let columns = shape.columns;
     let next = put_shape(out, 0, shape);
     put_cells(
-        out, next, columns, ground, filled, direction, count, lengths, factors,
+        out, next, columns, elevation, filled, direction, count, lengths, factors,
     )
 }

@@ -1,5 +1,7 @@
 // Prints the sheets of many texts, with cutoffs 0.5, no channels and the older formula, as the printer does. What must be printed, the
 // file `stdout`, comes from a second program that was written for itself.
+#![tactic(auto)]
+
 use settings::{Channel, Formula, Settings};
 
 fn main() {

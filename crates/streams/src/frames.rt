@@ -3,14 +3,14 @@ ghost use Rattle.std.specs.Prelude.{◌≤◌, ◌<◌, length};
 ghost use Rattle.streams.specs.Frames.{Inside};
 
 // Where a text starts and ends, if its frame is whole.
-#[derive(Drop)]
+#[derive(Clone, Copy)]
 pub(crate) enum Frame {
     Text { start: usize, end: usize },
     Bad,
 }
 
 // Digits that were read, and the place after them.
-#[derive(Drop)]
+#[derive(Clone, Copy)]
 pub(crate) struct Digits {
     pub(crate) value: usize,
     pub(crate) end: usize,

@@ -1,5 +1,7 @@
 // Prints the sheets of a stream of texts, for the programs that run stored cases. Standard input has, for each text, a line with its
 // length in bytes and then those bytes. What is printed no contract can say.
+#![tactic(auto)]
+
 mod frames;
 
 ghost use Rattle.std.specs.Prelude.{◌≡◌, length};

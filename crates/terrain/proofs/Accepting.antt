@@ -81,26 +81,26 @@ module _ {rows cols : ℕ} {dir : List ℕ} (d : Drawn rows cols dir) where
 
 -- ---- one code
 
-module _ (rows cols : ℕ) (ground : List ℤ) (dir : List ℕ) (ready : Ready rows cols ground) where
+module _ (rows cols : ℕ) (elevation : List ℤ) (dir : List ℕ) (ready : Ready rows cols elevation) where
   abbrev lv : List ℕ
-  lv = filled_levels rows cols ground
+  lv = filled_levels rows cols elevation
 
   abbrev height : ℕ → ℤ
-  height = surface_of (filled_of rows cols ground)
+  height = surface_of (filled_of rows cols elevation)
 
-  valid-is : (x : ℕ) → Valid ground x → valid_at lv x ≡ true
-  valid-is x = (filled-same rows cols ground ready x).1
+  valid-is : (x : ℕ) → Valid elevation x → valid_at lv x ≡ true
+  valid-is x = (filled-same rows cols elevation ready x).1
 
-  is-valid : (x : ℕ) → valid_at lv x ≡ true → Valid ground x
-  is-valid x = (filled-same rows cols ground ready x).0
+  is-valid : (x : ℕ) → valid_at lv x ≡ true → Valid elevation x
+  is-valid x = (filled-same rows cols elevation ready x).0
 
-  invalid-is : (x : ℕ) → get_or ground x no_data ≡ no_data → valid_at lv x ≡ false
+  invalid-is : (x : ℕ) → get_or elevation x no_data ≡ no_data → valid_at lv x ≡ false
   invalid-is x e = ⊎_elim (λ v. absurd (is-valid x v e)) (λ v. v) (two (valid_at lv x))
 
-  is-invalid : (x : ℕ) → valid_at lv x ≡ false → get_or ground x no_data ≡ no_data
-  is-invalid x v = level-invalid ready x (omega (arith, ltb-false 0 (get_or (levels_of ground) x 0) (sym (filled-valid rows cols ground ready x) ∙ v)))
+  is-invalid : (x : ℕ) → valid_at lv x ≡ false → get_or elevation x no_data ≡ no_data
+  is-invalid x v = level-invalid ready x (omega (arith, ltb-false 0 (get_or (levels_of elevation) x 0) (sym (filled-valid rows cols elevation ready x) ∙ v)))
 
-  kept-right : (x : ℕ) → kept_at rows cols lv dir x ≡ true → Right rows cols ground (filled_of rows cols ground) dir x
+  kept-right : (x : ℕ) → kept_at rows cols lv dir x ≡ true → Right rows cols elevation (filled_of rows cols elevation) dir x
   kept-right x k =
       record {
         no-data = (λ e. has-none rows cols lv dir x k (invalid-is x e));
@@ -110,16 +110,16 @@ module _ (rows cols : ℕ) (ground : List ℤ) (dir : List ℕ) (ready : Ready r
         aim = aims;
         fall = (λ j h e.
             let q = has-fall rows cols lv dir x k (code-flows rows cols dir x j h e) in
-            filled-le rows cols ground ready (neighbour rows cols x j) (aims j h e) (height x)
-            (omega (arith, q, ap (λ (y : ℕ). get_or lv y 0) (code-next rows cols dir x j h e), level-filled rows cols ground ready x)));
-        rim = (λ e. (rim-same rows cols ground ready x).0 (has-rim rows cols lv dir x k e));
+            filled-le rows cols elevation ready (neighbour rows cols x j) (aims j h e) (height x)
+            (omega (arith, q, ap (λ (y : ℕ). get_or lv y 0) (code-next rows cols dir x j h e), level-filled rows cols elevation ready x)));
+        rim = (λ e. (rim-same rows cols elevation ready x).0 (has-rim rows cols lv dir x k e));
       }
     where
-      aims : (j : ℕ) → j < 8 → get_or dir x 255 ≡ code_of j → Valid ground (neighbour rows cols x j)
+      aims : (j : ℕ) → j < 8 → get_or dir x 255 ≡ code_of j → Valid elevation (neighbour rows cols x j)
       aims j h e =
           is-valid (neighbour rows cols x j) (ap (valid_at lv) (sym (code-next rows cols dir x j h e)) ∙ has-aim rows cols lv dir x k (code-flows rows cols dir x j h e))
 
-  right_kept : (x : ℕ) → Right rows cols ground (filled_of rows cols ground) dir x → kept_at rows cols lv dir x ≡ true
+  right_kept : (x : ℕ) → Right rows cols elevation (filled_of rows cols elevation) dir x → kept_at rows cols lv dir x ≡ true
   right_kept x r = ⊎_elim valid none (two (valid_at lv x))
     where
       points : (k : ℕ) → 0 < get_or lv x 0 → k < 8 → get_or dir x 255 ≡ code_of k → kept_at rows cols lv dir x ≡ true
@@ -127,92 +127,92 @@ module _ (rows cols : ℕ) (ground : List ℤ) (dir : List ℕ) (ready : Ready r
           let y = neighbour rows cols x k in
           kept-points rows cols lv dir x k v h e
           ∙ ap₂ ◌&&◌ (valid-is y (r.aim k h e))
-          (le-leb (get_or lv y 0) (get_or lv x 0) (omega (arith, level-le (height y) (height x) (r.fall k h e), level-filled rows cols ground ready y, level-filled rows cols ground ready x)))
+          (le-leb (get_or lv y 0) (get_or lv x 0) (omega (arith, level-le (height y) (height x) (r.fall k h e), level-filled rows cols elevation ready y, level-filled rows cols elevation ready x)))
 
       valid : valid_at lv x ≡ true → kept_at rows cols lv dir x ≡ true
       valid v =
           let l = ltb-true 0 (get_or lv x 0) v in
-          ⊎_elim (λ e. kept_leaves rows cols lv dir x l e ∙ (rim-same rows cols ground ready x).1 (r.rim e)) (λ p. points p.0 l p.1 p.2) (r.nine (is-valid x v))
+          ⊎_elim (λ e. kept_leaves rows cols lv dir x l e ∙ (rim-same rows cols elevation ready x).1 (r.rim e)) (λ p. points p.0 l p.1 p.2) (r.nine (is-valid x v))
 
       none : valid_at lv x ≡ false → kept_at rows cols lv dir x ≡ true
       none v = kept-none rows cols lv dir x (omega (arith, ltb-false 0 (get_or lv x 0) v)) ∙ eq-eqb (get_or dir x 255) 255 (r.no-data (is-invalid x v))
 
 -- ---- the call
 
-module _ (rows cols : ℕ) (ground : List ℤ) (g : Grids) where
+module _ (rows cols : ℕ) (elevation : List ℤ) (g : Grids) where
   abbrev given : List ℕ
   given = g.direction
 
   abbrev levels : List ℕ
-  levels = filled_levels rows cols ground
+  levels = filled_levels rows cols elevation
 
-  module _ (e : ground_judged rows cols ground g ≡ passed) where
-    ready : Ready rows cols ground
-    ready = passed-ready rows cols ground g e
+  module _ (e : ground_judged rows cols elevation g ≡ passed) where
+    ready : Ready rows cols elevation
+    ready = passed-ready rows cols elevation g e
 
     keeping : ((x : ℕ) → x < rows * cols → kept_at rows cols levels given x ≡ true) → Keeping rows cols levels given
-    keeping = kept-keeping rows cols levels given (own-levels rows cols ground ready) (passed-room rows cols ground g e).direction-long
+    keeping = kept-keeping rows cols levels given (own-levels rows cols elevation ready) (passed-room rows cols elevation g e).direction-long
 
-    passed-acceptable : verdict (given_tests rows cols levels given) ≡ passed → Acceptable rows cols ground (filled_of rows cols ground) given
+    passed-acceptable : verdict (given_tests rows cols levels given) ≡ passed → Acceptable rows cols elevation (filled_of rows cols elevation) given
     passed-acceptable q =
         let w = verdict-passed (code_test rows cols levels given) (ring_test rows cols given ∷ []) q in
         let kept = code-kept rows cols levels given w.0 in
         let d = (keeping kept).drawn in
         let none = ring-none rows cols given (verdict-passed (ring_test rows cols given) [] w.1).0 in
         record {
-          right = (λ x h. kept-right rows cols ground given ready x (kept x h));
+          right = (λ x h. kept-right rows cols elevation given ready x (kept x h));
           ringless = (λ x l. true≢false (sym (round-ring d x l) ∙ none x (leads-in d l)));
         }
 
-    acceptable-passed : Acceptable rows cols ground (filled_of rows cols ground) given → verdict (given_tests rows cols levels given) ≡ passed
+    acceptable-passed : Acceptable rows cols elevation (filled_of rows cols elevation) given → verdict (given_tests rows cols levels given) ≡ passed
     acceptable-passed a =
-        let kept : (x : ℕ) → x < rows * cols → kept_at rows cols levels given x ≡ true = (λ x h. right_kept rows cols ground given ready x (a.right x h)) in
+        let kept : (x : ℕ) → x < rows * cols → kept_at rows cols levels given x ≡ true = (λ x h. right_kept rows cols elevation given ready x (a.right x h)) in
         let d = (keeping kept).drawn in
         given-passes rows cols levels given kept (λ x h. ⊎_elim (λ t. absurd (a.ringless x (ring-round d x t))) (λ t. t) (two (ring_at rows cols given x)))
 
   -- given directions are accepted exactly if the ground is, every code is right and no trail goes round
-  pub accepted-exactly : Same (judged rows cols Given ground g ≡ passed) ((ground_judged rows cols ground g ≡ passed) × Acceptable rows cols ground (filled_of rows cols ground) g.direction)
+  pub accepted-exactly : Same (judged rows cols Given elevation g ≡ passed) ((ground_judged rows cols elevation g ≡ passed) × Acceptable rows cols elevation (filled_of rows cols elevation) g.direction)
   accepted-exactly = (
-    (λ e. let p = passed-parts rows cols Given ground g e in (p.0, passed-acceptable p.0 p.1)),
-    (λ p. judged-after rows cols Given ground g p.0 ∙ acceptable-passed p.0 p.1),
+    (λ e. let p = passed-parts rows cols Given elevation g e in (p.0, passed-acceptable p.0 p.1)),
+    (λ p. judged-after rows cols Given elevation g p.0 ∙ acceptable-passed p.0 p.1),
   )
 
   -- our own directions are accepted where they are given back
-  pub own_back : ground_judged rows cols ground g ≡ passed → g.direction ≡ ground_directions rows cols ground → judged rows cols Given ground g ≡ passed
+  pub own_back : ground_judged rows cols elevation g ≡ passed → g.direction ≡ ground_directions rows cols elevation → judged rows cols Given elevation g ≡ passed
   own_back e q =
-      judged-after rows cols Given ground g e ∙ ap (λ (d : List ℕ). verdict (given_tests rows cols levels d)) q
-      ∙ own-accepted rows cols ground (ready e)
+      judged-after rows cols Given elevation g e ∙ ap (λ (d : List ℕ). verdict (given_tests rows cols levels d)) q
+      ∙ own-accepted rows cols elevation (ready e)
 
   -- ---- the places of 17 and 18
 
   -- such a refusal comes after the tests of the ground
-  late-ground : {number place : ℕ} → leaves_zeros number ≡ true → judged rows cols Given ground g ≡ failed number place → ground_judged rows cols ground g ≡ passed
-  late-ground {number} {place} late e = go (ground_judged rows cols ground g) (ground-number rows cols ground g) (λ n p q. judged-before rows cols Given ground g q)
+  late-ground : {number place : ℕ} → leaves_zeros number ≡ true → judged rows cols Given elevation g ≡ failed number place → ground_judged rows cols elevation g ≡ passed
+  late-ground {number} {place} late e = go (ground_judged rows cols elevation g) (ground-number rows cols elevation g) (λ n p q. judged-before rows cols Given elevation g q)
     where
-      go : (t : Test) → OfNumber Early t → ((n p : ℕ) → t ≡ failed n p → judged rows cols Given ground g ≡ failed n p) → t ≡ passed
+      go : (t : Test) → OfNumber Early t → ((n p : ℕ) → t ≡ failed n p → judged rows cols Given elevation g ≡ failed n p) → t ≡ passed
       go passed early before = refl
       go (failed n p) early before =
           let q : n ≡ number = cc (before n p refl, e) in
           absurd (true≢false (sym late ∙ ap leaves_zeros (sym q) ∙ early))
 
   -- 17: the first cell whose code is not right
-  pub code-place : {p : ℕ} → judged rows cols Given ground g ≡ failed 17 p → (Right rows cols ground (filled_of rows cols ground) g.direction p → ⊥) × ((x : ℕ) → x < p → Right rows cols ground (filled_of rows cols ground) g.direction x)
+  pub code-place : {p : ℕ} → judged rows cols Given elevation g ≡ failed 17 p → (Right rows cols elevation (filled_of rows cols elevation) g.direction p → ⊥) × ((x : ℕ) → x < p → Right rows cols elevation (filled_of rows cols elevation) g.direction x)
   unfolding first_broken
   code-place {p} e = elim (dec_lt (first_broken rows cols levels given) (rows * cols)) [ yes h ↦ broken h | no f ↦ absurd (kept f) ]
     where
-      over : ground_judged rows cols ground g ≡ passed
+      over : ground_judged rows cols elevation g ≡ passed
       over = late-ground refl e
 
       q : verdict (given_tests rows cols levels given) ≡ failed 17 p
-      q = sym (judged-after rows cols Given ground g over) ∙ e
+      q = sym (judged-after rows cols Given elevation g over) ∙ e
 
-      broken : first_broken rows cols levels given < rows * cols → (Right rows cols ground (filled_of rows cols ground) given p → ⊥) × ((x : ℕ) → x < p → Right rows cols ground (filled_of rows cols ground) given x)
+      broken : first_broken rows cols levels given < rows * cols → (Right rows cols elevation (filled_of rows cols elevation) given p → ⊥) × ((x : ℕ) → x < p → Right rows cols elevation (filled_of rows cols elevation) given x)
       broken h =
           let s : p ≡ first_broken rows cols levels given = cc (q, verdict-stops (ring_test rows cols given ∷ []) (code-fails rows cols levels given h)) in
           let r = ready over in
           let t = first_holds (λ y. not (kept_at rows cols levels given y)) (rows * cols) h in (
-            (λ a. true≢false (sym (right_kept rows cols ground given r p a) ∙ ap (kept_at rows cols levels given) s ∙ not-true (kept_at rows cols levels given (first_broken rows cols levels given)) t)),
-            (λ x l. kept-right rows cols ground given r x (not-false (kept_at rows cols levels given x) (first-before (λ y. not (kept_at rows cols levels given y)) (rows * cols) x (omega (arith, l, s))))),
+            (λ a. true≢false (sym (right_kept rows cols elevation given r p a) ∙ ap (kept_at rows cols levels given) s ∙ not-true (kept_at rows cols levels given (first_broken rows cols levels given)) t)),
+            (λ x l. kept-right rows cols elevation given r x (not-false (kept_at rows cols levels given x) (first-before (λ y. not (kept_at rows cols levels given y)) (rows * cols) x (omega (arith, l, s))))),
           )
 
       kept : (first_broken rows cols levels given < rows * cols → ⊥) → ⊥
@@ -223,15 +223,15 @@ module _ (rows cols : ℕ) (ground : List ℤ) (g : Grids) where
           ]
 
   -- 18: the first cell that lies on a ring
-  pub ring-place : {p : ℕ} → judged rows cols Given ground g ≡ failed 18 p → GoesRound rows cols g.direction p × ((x : ℕ) → x < p → GoesRound rows cols g.direction x → ⊥)
+  pub ring-place : {p : ℕ} → judged rows cols Given elevation g ≡ failed 18 p → GoesRound rows cols g.direction p × ((x : ℕ) → x < p → GoesRound rows cols g.direction x → ⊥)
   unfolding first_ring
   ring-place {p} e = elim (dec_lt (first_broken rows cols levels given) (rows * cols)) [ yes h ↦ absurd (broken h) | no f ↦ kept (omega arith) ]
     where
-      over : ground_judged rows cols ground g ≡ passed
+      over : ground_judged rows cols elevation g ≡ passed
       over = late-ground refl e
 
       q : verdict (given_tests rows cols levels given) ≡ failed 18 p
-      q = sym (judged-after rows cols Given ground g over) ∙ e
+      q = sym (judged-after rows cols Given elevation g over) ∙ e
 
       broken : first_broken rows cols levels given < rows * cols → ⊥
       broken h = let z : ◌≡◌ {A = ℕ} 17 18 = cc (q, verdict-stops (ring_test rows cols given ∷ []) (code-fails rows cols levels given h)) in omega arith

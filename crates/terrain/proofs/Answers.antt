@@ -39,48 +39,48 @@ Early number = leaves_zeros number ≡ false
 abbrev pub Late : ℕ → Type 0
 Late number = leaves_zeros number ≡ true
 
-module _ (rows cols : ℕ) (ground : List ℤ) (g : Grids) where
+module _ (rows cols : ℕ) (elevation : List ℤ) (g : Grids) where
   abbrev size : Test
   size = size_test rows cols
 
   abbrev long : Test
-  long = length_test (rows * cols) (places_of ground g)
+  long = length_test (rows * cols) (places_of elevation g)
 
   abbrev heights : Test
-  heights = height_test (rows * cols) ground
+  heights = height_test (rows * cols) elevation
 
   -- ---- the cases in their order, as the code tests them
 
-  pub judged-rows : size_accepted rows ≡ false → ground_judged rows cols ground g ≡ failed 1 0
+  pub judged-rows : size_accepted rows ≡ false → ground_judged rows cols elevation g ≡ failed 1 0
   unfolding ground_judged ground_tests
   judged-rows e = verdict-stops (long ∷ heights ∷ []) (rows-fail rows cols e)
 
-  pub judged-columns : size_accepted cols ≡ false → ground_judged rows cols ground g ≡ failed 1 0
+  pub judged-columns : size_accepted cols ≡ false → ground_judged rows cols elevation g ≡ failed 1 0
   unfolding ground_judged ground_tests
   judged-columns e = verdict-stops (long ∷ heights ∷ []) (columns-fail rows cols e)
 
   module _ (r : size_accepted rows ≡ true) (c : size_accepted cols ≡ true) where
-    pub judged-long : all_long (rows * cols) (places_of ground g) ≡ false → ground_judged rows cols ground g ≡ failed 2 0
+    pub judged-long : all_long (rows * cols) (places_of elevation g) ≡ false → ground_judged rows cols elevation g ≡ failed 2 0
     unfolding ground_judged ground_tests
-    judged-long e = verdict-next (long ∷ heights ∷ []) (size-passes rows cols r c) ∙ verdict-stops (heights ∷ []) (lengths-fail (rows * cols) (places_of ground g) e)
+    judged-long e = verdict-next (long ∷ heights ∷ []) (size-passes rows cols r c) ∙ verdict-stops (heights ∷ []) (lengths-fail (rows * cols) (places_of elevation g) e)
 
-    module _ (l : all_long (rows * cols) (places_of ground g) ≡ true) {p : ℕ} (b : p ≡ first_bad (length ground) ground) where
-      rest : ground_judged rows cols ground g ≡ verdict (heights ∷ [])
+    module _ (l : all_long (rows * cols) (places_of elevation g) ≡ true) {p : ℕ} (b : p ≡ first_bad (length elevation) elevation) where
+      rest : ground_judged rows cols elevation g ≡ verdict (heights ∷ [])
       unfolding ground_judged ground_tests
-      rest = verdict-next (long ∷ heights ∷ []) (size-passes rows cols r c) ∙ verdict-next (heights ∷ []) (lengths-pass (rows * cols) (places_of ground g) l)
+      rest = verdict-next (long ∷ heights ∷ []) (size-passes rows cols r c) ∙ verdict-next (heights ∷ []) (lengths-pass (rows * cols) (places_of elevation g) l)
 
-      bad-is : p ≡ first_bad (rows * cols) ground
-      bad-is = b ∙ ap (λ (n : ℕ). first_bad n ground) (length-passed (rows * cols) _ _ (lengths-pass (rows * cols) (places_of ground g) l)).0
+      bad-is : p ≡ first_bad (rows * cols) elevation
+      bad-is = b ∙ ap (λ (n : ℕ). first_bad n elevation) (length-passed (rows * cols) _ _ (lengths-pass (rows * cols) (places_of elevation g) l)).0
 
-      pub judged-height : p < rows * cols → ground_judged rows cols ground g ≡ failed 5 p
-      judged-height h = rest ∙ verdict-stops [] (height-fails (rows * cols) ground (omega (arith, bad-is))) ∙ ap (failed 5) (sym bad-is)
+      pub judged-height : p < rows * cols → ground_judged rows cols elevation g ≡ failed 5 p
+      judged-height h = rest ∙ verdict-stops [] (height-fails (rows * cols) elevation (omega (arith, bad-is))) ∙ ap (failed 5) (sym bad-is)
 
-      pub judged-passes : rows * cols ≤ p → ground_judged rows cols ground g ≡ passed
-      judged-passes h = rest ∙ verdict-next [] (height-passes (rows * cols) ground (omega (arith, bad-is))) ∙ verdict-none
+      pub judged-passes : rows * cols ≤ p → ground_judged rows cols elevation g ≡ passed
+      judged-passes h = rest ∙ verdict-next [] (height-passes (rows * cols) elevation (omega (arith, bad-is))) ∙ verdict-none
 
   -- ---- an accepted call
 
-  module _ (e : ground_judged rows cols ground g ≡ passed) where
+  module _ (e : ground_judged rows cols elevation g ≡ passed) where
     passed-size : (size ≡ passed) × (verdict (long ∷ heights ∷ []) ≡ passed)
     unfolding ground_judged ground_tests
     passed-size = verdict-passed size (long ∷ heights ∷ []) e
@@ -91,7 +91,7 @@ module _ (rows cols : ℕ) (ground : List ℤ) (g : Grids) where
     passed-heights : (heights ≡ passed) × (verdict [] ≡ passed)
     passed-heights = verdict-passed heights [] passed-long.1
 
-    pub passed-ready : Ready rows cols ground
+    pub passed-ready : Ready rows cols elevation
     passed-ready =
         let s = size-passed rows cols passed-size.0 in
         let r = size_is rows s.0 in
@@ -103,7 +103,7 @@ module _ (rows cols : ℕ) (ground : List ℤ) (g : Grids) where
           cols-some = omega (arith, c.0);
           small = area_small rows cols r.1 c.1;
           long = l;
-          fine = (λ x h. subst Fine (get_or_any ground x no_data (pos 0) h) (accepted-fine (get_or ground x no_data) (height-passed (rows * cols) ground passed-heights.0 x (omega (arith, l)))));
+          fine = (λ x h. subst Fine (get_or_any elevation x no_data (pos 0) h) (accepted-fine (get_or elevation x no_data) (height-passed (rows * cols) elevation passed-heights.0 x (omega (arith, l)))));
         }
 
     pub passed-room : Room (rows * cols) g
@@ -117,33 +117,33 @@ module _ (rows cols : ℕ) (ground : List ℤ) (g : Grids) where
         record { filled-long = b.0; direction-long = c.0; count_long = d.0; falls-long = f.0; workspace-long = h.0 }
 
   -- their refusals have the numbers 1, 2 and 5
-  pub ground-number : OfNumber Early (ground_judged rows cols ground g)
+  pub ground-number : OfNumber Early (ground_judged rows cols elevation g)
   unfolding ground_judged ground_tests verdict size_test length_test height_test
   ground-number =
       verdict-number Early size (long ∷ heights ∷ []) (test-number Early (size_accepted rows && size_accepted cols) 1 0 refl)
-      (verdict-number Early long (heights ∷ []) (test-number Early (all_long (rows * cols) (places_of ground g)) 2 0 refl)
-      (verdict-number Early heights [] (test-number Early (not (ltb (first_bad (rows * cols) ground) (rows * cols))) 5 (first_bad (rows * cols) ground) refl) tt))
+      (verdict-number Early long (heights ∷ []) (test-number Early (all_long (rows * cols) (places_of elevation g)) 2 0 refl)
+      (verdict-number Early heights [] (test-number Early (not (ltb (first_bad (rows * cols) elevation) (rows * cols))) 5 (first_bad (rows * cols) elevation) refl) tt))
 
 -- ---- the directions of an accepted call
 
 -- directions that are accepted over the filled levels of a ground
-pub record Chosen (rows cols : ℕ) (ground : List ℤ) (dir : List ℕ) : Type 0 where
-  pub keeping : Keeping rows cols (filled_levels rows cols ground) dir
+pub record Chosen (rows cols : ℕ) (elevation : List ℤ) (dir : List ℕ) : Type 0 where
+  pub keeping : Keeping rows cols (filled_levels rows cols elevation) dir
   pub directed : Directed rows cols dir
 
-module _ (rows cols : ℕ) (ground : List ℤ) (given : List ℕ) where
+module _ (rows cols : ℕ) (elevation : List ℤ) (given : List ℕ) where
   abbrev lv : List ℕ
-  lv = filled_levels rows cols ground
+  lv = filled_levels rows cols elevation
 
-  pub source-chosen : (source : Source) → Ready rows cols ground → length given ≡ rows * cols → verdict (source_tests source rows cols (filled_levels rows cols ground) given) ≡ passed → Chosen rows cols ground (directions_by source rows cols ground given)
-  source-chosen Own ready long e = record { keeping = own-keeping rows cols ground ready; directed = own-directed rows cols ground ready }
+  pub source-chosen : (source : Source) → Ready rows cols elevation → length given ≡ rows * cols → verdict (source_tests source rows cols (filled_levels rows cols elevation) given) ≡ passed → Chosen rows cols elevation (directions_by source rows cols elevation given)
+  source-chosen Own ready long e = record { keeping = own-keeping rows cols elevation ready; directed = own-directed rows cols elevation ready }
   source-chosen Given ready long e =
       let w = verdict-passed (code_test rows cols lv given) (ring_test rows cols given ∷ []) e in
-      let k = code-passed (own-levels rows cols ground ready) long w.0 in
+      let k = code-passed (own-levels rows cols elevation ready) long w.0 in
       record { keeping = k; directed = ring-passed k.drawn (verdict-passed (ring_test rows cols given) [] w.1).0 }
 
   -- their refusals have the numbers 17 and 18
-  source-number : (source : Source) → OfNumber Late (verdict (source_tests source rows cols (filled_levels rows cols ground) given))
+  source-number : (source : Source) → OfNumber Late (verdict (source_tests source rows cols (filled_levels rows cols elevation) given))
   unfolding verdict code_test ring_test
   source-number Own = tt
   source-number Given =
@@ -153,12 +153,12 @@ module _ (rows cols : ℕ) (ground : List ℤ) (given : List ℕ) where
 
 -- ---- the whole promise, from the answer and the grids
 
-module _ (rows cols : ℕ) (source : Source) (ground : List ℤ) (g : Grids) where
+module _ (rows cols : ℕ) (source : Source) (elevation : List ℤ) (g : Grids) where
   abbrev dir : List ℕ
-  dir = directions_by source rows cols ground g.direction
+  dir = directions_by source rows cols elevation g.direction
 
   abbrev later : List Test
-  later = source_tests source rows cols (filled_levels rows cols ground) g.direction
+  later = source_tests source rows cols (filled_levels rows cols elevation) g.direction
 
   -- the grids with zeros in the workspace
   abbrev pub cleared : Grids
@@ -166,66 +166,66 @@ module _ (rows cols : ℕ) (source : Source) (ground : List ℤ) (g : Grids) whe
 
   abbrev pub Promised : Answer → Grids → Type 0
   Promised a h =
-      (a ≡ answer rows cols source ground g)
-      × (After rows cols ground (directions_by source rows cols ground g.direction) g h (judged rows cols source ground g)
-      × (accepts a ≡ true → Drainage rows cols ground h.filled h.direction h.count (valid_in a)))
+      (a ≡ answer rows cols source elevation g)
+      × (After rows cols elevation (directions_by source rows cols elevation g.direction) g h (judged rows cols source elevation g)
+      × (accepts a ≡ true → Drainage rows cols elevation h.filled h.direction h.count (valid_in a)))
 
   -- the ground's tests decide, or leave it to those of the directions
-  pub judged-before : {n p : ℕ} → ground_judged rows cols ground g ≡ failed n p → judged rows cols source ground g ≡ failed n p
+  pub judged-before : {n p : ℕ} → ground_judged rows cols elevation g ≡ failed n p → judged rows cols source elevation g ≡ failed n p
   unfolding judged tests ground_judged
-  judged-before e = verdict-before (ground_tests rows cols ground g) later e
+  judged-before e = verdict-before (ground_tests rows cols elevation g) later e
 
-  pub judged-after : ground_judged rows cols ground g ≡ passed → judged rows cols source ground g ≡ verdict (source_tests source rows cols (filled_levels rows cols ground) g.direction)
+  pub judged-after : ground_judged rows cols elevation g ≡ passed → judged rows cols source elevation g ≡ verdict (source_tests source rows cols (filled_levels rows cols elevation) g.direction)
   unfolding judged tests ground_judged
-  judged-after e = verdict-after (ground_tests rows cols ground g) later e
+  judged-after e = verdict-after (ground_tests rows cols elevation g) later e
 
   -- an accepted call: its ground, and the directions of the map
-  module _ (e : judged rows cols source ground g ≡ passed) where
-    pub passed-parts : (ground_judged rows cols ground g ≡ passed) × (verdict (source_tests source rows cols (filled_levels rows cols ground) g.direction) ≡ passed)
+  module _ (e : judged rows cols source elevation g ≡ passed) where
+    pub passed-parts : (ground_judged rows cols elevation g ≡ passed) × (verdict (source_tests source rows cols (filled_levels rows cols elevation) g.direction) ≡ passed)
     unfolding judged tests ground_judged
-    passed-parts = verdict-parts (ground_tests rows cols ground g) later e
+    passed-parts = verdict-parts (ground_tests rows cols elevation g) later e
 
-    pub accepted-ready : Ready rows cols ground
-    accepted-ready = passed-ready rows cols ground g passed-parts.0
+    pub accepted-ready : Ready rows cols elevation
+    accepted-ready = passed-ready rows cols elevation g passed-parts.0
 
-    pub accepted-chosen : Chosen rows cols ground (directions_by source rows cols ground g.direction)
-    accepted-chosen = source-chosen rows cols ground g.direction source accepted-ready (passed-room rows cols ground g passed-parts.0).direction-long passed-parts.1
+    pub accepted-chosen : Chosen rows cols elevation (directions_by source rows cols elevation g.direction)
+    accepted-chosen = source-chosen rows cols elevation g.direction source accepted-ready (passed-room rows cols elevation g passed-parts.0).direction-long passed-parts.1
 
-    pub accepted-directed : Directed rows cols (directions_by source rows cols ground g.direction)
+    pub accepted-directed : Directed rows cols (directions_by source rows cols elevation g.direction)
     accepted-directed = accepted-chosen.directed
 
   -- a refusal as the code makes it
-  pub refused-is : (f : Refusal) → Refused f ≡ answer_of rows cols ground (directions_by source rows cols ground g.direction) (failed f.number f.place)
+  pub refused-is : (f : Refusal) → Refused f ≡ answer_of rows cols elevation (directions_by source rows cols elevation g.direction) (failed f.number f.place)
   unfolding answer_of
   refused-is f = refl
 
-  refuses-with : {a : Answer} {n p : ℕ} {h : Grids} → judged rows cols source ground g ≡ failed n p → a ≡ answer_of rows cols ground dir (failed n p) → h ≡ refused_grids n g → Promised a h
+  refuses-with : {a : Answer} {n p : ℕ} {h : Grids} → judged rows cols source elevation g ≡ failed n p → a ≡ answer_of rows cols elevation dir (failed n p) → h ≡ refused_grids n g → Promised a h
   unfolding answer answer_of
-  refuses-with {a} {n} {p} {h} j e q = (e ∙ ap (answer_of rows cols ground dir) (sym j), (subst (After rows cols ground dir g h) (sym j) q, λ t. absurd (true≢false (sym t ∙ ap accepts e))))
+  refuses-with {a} {n} {p} {h} j e q = (e ∙ ap (answer_of rows cols elevation dir) (sym j), (subst (After rows cols elevation dir g h) (sym j) q, λ t. absurd (true≢false (sym t ∙ ap accepts e))))
 
-  pub refuses : {a : Answer} {n p : ℕ} → failed n p ≡ ground_judged rows cols ground g → a ≡ answer_of rows cols ground (directions_by source rows cols ground g.direction) (failed n p) → Promised a g
+  pub refuses : {a : Answer} {n p : ℕ} → failed n p ≡ ground_judged rows cols elevation g → a ≡ answer_of rows cols elevation (directions_by source rows cols elevation g.direction) (failed n p) → Promised a g
   refuses {a} {n} {p} j e =
-      refuses-with (judged-before (sym j)) e (ap (λ (b : Bool). cond b cleared g) (sym (subst (OfNumber Early) (sym j) (ground-number rows cols ground g))))
+      refuses-with (judged-before (sym j)) e (ap (λ (b : Bool). cond b cleared g) (sym (subst (OfNumber Early) (sym j) (ground-number rows cols elevation g))))
 
-  module _ (e : ground_judged rows cols ground g ≡ passed) where
-    pub refuses-later : {a : Answer} {t : Test} {n p : ℕ} {lv work : List ℕ} → t ≡ verdict (source_tests source rows cols (filled_levels rows cols ground) g.direction) → t ≡ failed n p → lv ≡ filled_levels rows cols ground → work ≡ replicate (length lv) 0 → a ≡ answer_of rows cols ground (directions_by source rows cols ground g.direction) (failed n p) → Promised a (lent g.filled g.direction g.count g.falls work)
+  module _ (e : ground_judged rows cols elevation g ≡ passed) where
+    pub refuses-later : {a : Answer} {t : Test} {n p : ℕ} {lv work : List ℕ} → t ≡ verdict (source_tests source rows cols (filled_levels rows cols elevation) g.direction) → t ≡ failed n p → lv ≡ filled_levels rows cols elevation → work ≡ replicate (length lv) 0 → a ≡ answer_of rows cols elevation (directions_by source rows cols elevation g.direction) (failed n p) → Promised a (lent g.filled g.direction g.count g.falls work)
     refuses-later {a} {t} {n} {p} {lv} {work} j f l w q =
         refuses-with (judged-after e ∙ sym j ∙ f) q
         (ap (λ (l : List ℕ). lent g.filled g.direction g.count g.falls l) zeros
-        ∙ ap (λ (b : Bool). cond b cleared g) (sym (subst (OfNumber Late) (sym j ∙ f) (source-number rows cols ground g.direction source))))
+        ∙ ap (λ (b : Bool). cond b cleared g) (sym (subst (OfNumber Late) (sym j ∙ f) (source-number rows cols elevation g.direction source))))
       where
         zeros : work ≡ replicate (length g.workspace) 0
         zeros =
-            w ∙ ap (λ (m : ℕ). replicate m 0) (ap length l ∙ filled-long rows cols ground (passed-ready rows cols ground g e) ∙ sym (passed-room rows cols ground g e).workspace-long)
+            w ∙ ap (λ (m : ℕ). replicate m 0) (ap length l ∙ filled-long rows cols elevation (passed-ready rows cols elevation g e) ∙ sym (passed-room rows cols elevation g e).workspace-long)
 
-    pub accepts-all : {a : Answer} {h : Grids} → passed ≡ verdict (source_tests source rows cols (filled_levels rows cols ground) g.direction) → a ≡ answer_of rows cols ground (directions_by source rows cols ground g.direction) passed → Mapped rows cols ground (directions_by source rows cols ground g.direction) h → Promised a h
+    pub accepts-all : {a : Answer} {h : Grids} → passed ≡ verdict (source_tests source rows cols (filled_levels rows cols elevation) g.direction) → a ≡ answer_of rows cols elevation (directions_by source rows cols elevation g.direction) passed → Mapped rows cols elevation (directions_by source rows cols elevation g.direction) h → Promised a h
     unfolding answer answer_of
     accepts-all {a} {h} j q m =
         let t = judged-after e ∙ sym j in
-        (q ∙ ap (answer_of rows cols ground dir) (sym t), (subst (After rows cols ground dir g h) (sym t) m, λ o. subst (Drainage rows cols ground h.filled h.direction h.count) (sym (ap valid_in q)) drained))
+        (q ∙ ap (answer_of rows cols elevation dir) (sym t), (subst (After rows cols elevation dir g h) (sym t) m, λ o. subst (Drainage rows cols elevation h.filled h.direction h.count) (sym (ap valid_in q)) drained))
       where
-        drained : Drainage rows cols ground h.filled h.direction h.count (ground_valids rows cols ground)
+        drained : Drainage rows cols elevation h.filled h.direction h.count (ground_valids rows cols elevation)
         drained =
-            let ready = passed-ready rows cols ground g e in
-            let c = source-chosen rows cols ground g.direction source ready (passed-room rows cols ground g e).direction-long (sym j) in
-            rw (m.filled_is, m.direction-is, m.count-is) (drainage rows cols ground dir ready c.keeping c.directed)
+            let ready = passed-ready rows cols elevation g e in
+            let c = source-chosen rows cols elevation g.direction source ready (passed-room rows cols elevation g e).direction-long (sym j) in
+            rw (m.filled_is, m.direction-is, m.count-is) (drainage rows cols elevation dir ready c.keeping c.directed)

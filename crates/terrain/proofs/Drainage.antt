@@ -19,9 +19,9 @@ use Rattle.terrain.proofs.Surfaces.{filled-le, filled-least, filled-attained, fi
 use Rattle.terrain.proofs.Trails.{code-flows, code-next, flows-code, steps-le, trail-of, leaves_at, total-leaves, counts-at}
 use Rattle.terrain.proofs.Receivers.{directed-falls}
 
-module _ (rows cols : ℕ) (ground : List ℤ) (dir : List ℕ) (ready : Ready rows cols ground) (kept : Keeping rows cols (filled_levels rows cols ground) dir) (led : Directed rows cols dir) where
+module _ (rows cols : ℕ) (elevation : List ℤ) (dir : List ℕ) (ready : Ready rows cols elevation) (kept : Keeping rows cols (filled_levels rows cols elevation) dir) (led : Directed rows cols dir) where
   abbrev lv : List ℕ
-  lv = filled_levels rows cols ground
+  lv = filled_levels rows cols elevation
 
   abbrev nb : ℕ → ℕ → ℕ
   nb = neighbour rows cols
@@ -30,11 +30,11 @@ module _ (rows cols : ℕ) (ground : List ℤ) (dir : List ℕ) (ready : Ready r
   abbrev rank : ℕ → ℕ
   rank = steps_in rows cols dir (rows * cols)
 
-  level-of : (x : ℕ) → Valid ground x → 0 < get_or lv x 0
-  level-of x v = let g = valid-level ready x v in omega (arith, filled-above rows cols ground ready x g)
+  level-of : (x : ℕ) → Valid elevation x → 0 < get_or lv x 0
+  level-of x v = let g = valid-level ready x v in omega (arith, filled-above rows cols elevation ready x g)
 
-  valid-of : (x : ℕ) → 0 < get_or lv x 0 → Valid ground x
-  valid-of x v = level-valid ready x (filled-some rows cols ground ready x v)
+  valid-of : (x : ℕ) → 0 < get_or lv x 0 → Valid elevation x
+  valid-of x v = level-valid ready x (filled-some rows cols elevation ready x v)
 
   mapped-level : (x : ℕ) → mapped_at rows cols dir x ≡ true → 0 < get_or lv x 0
   mapped-level x e = ltb-true 0 (get_or lv x 0) (sym (kept.mapped x) ∙ e)
@@ -56,31 +56,31 @@ module _ (rows cols : ℕ) (ground : List ℤ) (dir : List ℕ) (ready : Ready r
 
   -- ---- trails
 
-  trails : (x : ℕ) → Valid ground x → Trail rows cols dir x
+  trails : (x : ℕ) → Valid elevation x → Trail rows cols dir x
   trails x v = trail-of rows cols dir rank (directed-falls led) led.drawn.stops x (level-mapped x (level-of x v))
 
-  step-valid : (x k : ℕ) → Valid ground x → k < 8 → get_or dir x 255 ≡ code_of k → Valid ground (nb x k)
+  step-valid : (x k : ℕ) → Valid elevation x → k < 8 → get_or dir x 255 ≡ code_of k → Valid elevation (nb x k)
   step-valid x k v h e = valid-of (nb x k) (step_of x k h e).valid
 
-  stays : {x : ℕ} (t : Trail rows cols dir x) → Valid ground x → OnValid rows cols dir ground t
+  stays : {x : ℕ} (t : Trail rows cols dir x) → Valid elevation x → OnValid rows cols dir elevation t
   stays (ends x e) v = v
   stays (goes x k h e t) v = (v, stays t (step-valid x k v h e))
 
-  never-rises : {x : ℕ} (t : Trail rows cols dir x) → Valid ground x → TrailNeverRises rows cols dir (surface_of (filled_of rows cols ground)) t
+  never-rises : {x : ℕ} (t : Trail rows cols dir x) → Valid elevation x → TrailNeverRises rows cols dir (surface_of (filled_of rows cols elevation)) t
   never-rises (ends x e) v = tt
   never-rises (goes x k h e t) v =
       let w = step-valid x k v h e in
-      (filled-le rows cols ground ready (nb x k) w (surface_of (filled_of rows cols ground) x) (omega (arith, (step_of x k h e).le, level-filled rows cols ground ready x)), never-rises t w)
+      (filled-le rows cols elevation ready (nb x k) w (surface_of (filled_of rows cols elevation) x) (omega (arith, (step_of x k h e).le, level-filled rows cols elevation ready x)), never-rises t w)
 
-  meets-le : {x : ℕ} (t : Trail rows cols dir x) → Valid ground x → (z : ℕ) → Meets rows cols dir z t → rank z ≤ rank x
+  meets-le : {x : ℕ} (t : Trail rows cols dir x) → Valid elevation x → (z : ℕ) → Meets rows cols dir z t → rank z ≤ rank x
   meets-le (ends x e) v z m = omega (arith, ap rank m)
   meets-le (goes x k h e t) v z m = ⊎_elim (λ q. omega (arith, ap rank q)) (λ q. omega (arith, meets-le t (step-valid x k v h e) z q, (step_of x k h e).less)) m
 
-  never-twice : {x : ℕ} (t : Trail rows cols dir x) → Valid ground x → NeverTwice rows cols dir t
+  never-twice : {x : ℕ} (t : Trail rows cols dir x) → Valid elevation x → NeverTwice rows cols dir t
   never-twice (ends x e) v = tt
   never-twice (goes x k h e t) v = let w = step-valid x k v h e in ((λ m. omega (arith, meets-le t w x m, (step_of x k h e).less)), never-twice t w)
 
-  rim-of : (x : ℕ) → Valid ground x → get_or dir x 255 ≡ 0 → Rim rows cols ground x
+  rim-of : (x : ℕ) → Valid elevation x → get_or dir x 255 ≡ 0 → Rim rows cols elevation x
   rim-of x v e =
       let o = rim-open rows cols lv x (kept.leaves x e) in
       let y = nb x o.0 in
@@ -88,10 +88,10 @@ module _ (rows cols : ℕ) (ground : List ℤ) (dir : List ℕ) (ready : Ready r
         valid = v;
         bearing = o.0;
         small = o.1;
-        none = level-invalid ready y (elim (ℕ_discrete (get_or (levels_of ground) y 0) 0) [ yes z ↦ z | no f ↦ absurd (omega (arith, o.2, filled-above rows cols ground ready y (omega arith))) ]);
+        none = level-invalid ready y (elim (ℕ_discrete (get_or (levels_of elevation) y 0) 0) [ yes z ↦ z | no f ↦ absurd (omega (arith, o.2, filled-above rows cols elevation ready y (omega arith))) ]);
       }
 
-  leaves-rim : {x : ℕ} (t : Trail rows cols dir x) → Valid ground x → Rim rows cols ground (last_of rows cols dir t) × (get_or dir (last_of rows cols dir t) 255 ≡ 0)
+  leaves-rim : {x : ℕ} (t : Trail rows cols dir x) → Valid elevation x → Rim rows cols elevation (last_of rows cols dir t) × (get_or dir (last_of rows cols dir t) 255 ≡ 0)
   leaves-rim (ends x e) v = (rim-of x v e, e)
   leaves-rim (goes x k h e t) v = leaves-rim t (step-valid x k v h e)
 
@@ -121,14 +121,14 @@ module _ (rows cols : ℕ) (ground : List ℤ) (dir : List ℕ) (ready : Ready r
           ap (when (eqb (get_or dir x 255) 0)) (at ∙ when-no (count_at rows cols dir x) v) ∙ when-zero (eqb (get_or dir x 255) 0)
           ∙ sym (when-no (count_at rows cols dir x) (ap (λ (b : Bool). cond b (not (flows_at rows cols dir x)) false) v))
 
-  whole : outflow_of rows cols dir (counts_of rows cols dir) ≡ valids_of rows cols (levels_of ground)
+  whole : outflow_of rows cols dir (counts_of rows cols dir) ≡ valids_of rows cols (levels_of elevation)
   unfolding valids_of
   whole =
       sum-ext (rows * cols) (λ x. when (eqb (get_or dir x 255) 0) (get_or (counts_of rows cols dir) x 0)) (λ x. when (leaves_at rows cols dir rank (directed-falls led) x) (count_at rows cols dir x)) leaving
       ∙ total-leaves rows cols dir rank (directed-falls led) rank-le
-      ∙ sum-ext (rows * cols) (λ x. when (mapped_at rows cols dir x) 1) (λ x. when (valid_at (levels_of ground) x) 1) (λ x l. ap (λ (b : Bool). when b 1) (kept.mapped x ∙ filled-valid rows cols ground ready x))
+      ∙ sum-ext (rows * cols) (λ x. when (mapped_at rows cols dir x) 1) (λ x. when (valid_at (levels_of elevation) x) 1) (λ x l. ap (λ (b : Bool). when b 1) (kept.mapped x ∙ filled-valid rows cols elevation ready x))
 
-  pub drainage : Drainage rows cols ground (filled_of rows cols ground) dir (counts_of rows cols dir) (ground_valids rows cols ground)
+  pub drainage : Drainage rows cols elevation (filled_of rows cols elevation) dir (counts_of rows cols dir) (ground_valids rows cols elevation)
   unfolding ground_valids
   drainage =
       record {
@@ -136,9 +136,9 @@ module _ (rows cols : ℕ) (ground : List ℤ) (dir : List ℕ) (ready : Ready r
         totals = record { valids = refl; outflow = whole };
         surface =
             record {
-              drained = filled-drained rows cols ground ready;
-              lowest = filled-lowest rows cols ground ready;
-              reached = filled-attained rows cols ground ready;
-              least = filled-least rows cols ground ready;
+              drained = filled-drained rows cols elevation ready;
+              lowest = filled-lowest rows cols elevation ready;
+              reached = filled-attained rows cols elevation ready;
+              least = filled-least rows cols elevation ready;
             };
       }

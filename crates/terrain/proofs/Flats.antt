@@ -175,31 +175,31 @@ module _ (rows cols : ℕ) (lv : List ℕ) where
 
 -- ---- the filled levels: a run that never rises begins with a walk
 
-module _ (rows cols : ℕ) (ground : List ℤ) (ready : Ready rows cols ground) where
+module _ (rows cols : ℕ) (elevation : List ℤ) (ready : Ready rows cols elevation) where
   abbrev lv : List ℕ
-  lv = filled_levels rows cols ground
+  lv = filled_levels rows cols elevation
 
-  above : (x : ℕ) → 0 < get_or (levels_of ground) x 0 → 0 < get_or lv x 0
-  above x v = omega (arith, filled-above rows cols ground ready x v)
+  above : (x : ℕ) → 0 < get_or (levels_of elevation) x 0 → 0 < get_or lv x 0
+  above x v = omega (arith, filled-above rows cols elevation ready x v)
 
-  walk_of : {x : ℕ} (r : Run rows cols ground x) → RunNeverRises rows cols ground (surface_of (filled_of rows cols ground)) r → Walk rows cols lv x
+  walk_of : {x : ℕ} (r : Run rows cols elevation x) → RunNeverRises rows cols elevation (surface_of (filled_of rows cols elevation)) r → Walk rows cols lv x
   walk_of (last x r) f =
       let v = above x (valid-level ready x r.valid) in
-      there x v (low-not-flat rows cols lv x r.bearing r.small (omega (arith, filled-clear rows cols ground ready (neighbour rows cols x r.bearing) (none-level ready (neighbour rows cols x r.bearing) r.none))))
+      there x v (low-not-flat rows cols lv x r.bearing r.small (omega (arith, filled-clear rows cols elevation ready (neighbour rows cols x r.bearing) (none-level ready (neighbour rows cols x r.bearing) r.none))))
   walk_of (step x k v h r) f =
       let p = above x (valid-level ready x v) in
-      let le = level-le (surface_of (filled_of rows cols ground) (neighbour rows cols x k)) (surface_of (filled_of rows cols ground) x) f.0 in
+      let le = level-le (surface_of (filled_of rows cols elevation) (neighbour rows cols x k)) (surface_of (filled_of rows cols elevation) x) f.0 in
       elim (ℕ_discrete (get_or lv (neighbour rows cols x k) 0) (get_or lv x 0)) [
         | yes e ↦ on x k p h e (walk_of r f.1)
-        | no d ↦ there x p (low-not-flat rows cols lv x k h (omega (arith, level-filled rows cols ground ready x, level-filled rows cols ground ready (neighbour rows cols x k))))
+        | no d ↦ there x p (low-not-flat rows cols lv x k h (omega (arith, level-filled rows cols elevation ready x, level-filled rows cols elevation ready (neighbour rows cols x k))))
       ]
 
-  pub walks : (x : ℕ) → 0 < get_or (filled_levels rows cols ground) x 0 → Walk rows cols (filled_levels rows cols ground) x
-  walks x v = let q = drain rows cols ground ready x (level-valid ready x (filled-some rows cols ground ready x v)) in walk_of q.0 q.1
+  pub walks : (x : ℕ) → 0 < get_or (filled_levels rows cols elevation) x 0 → Walk rows cols (filled_levels rows cols elevation) x
+  walks x v = let q = drain rows cols elevation ready x (level-valid ready x (filled-some rows cols elevation ready x v)) in walk_of q.0 q.1
 
-  pub steps-small : (x : ℕ) → get_or (flat_steps rows cols (filled_levels rows cols ground)) x 0 < far_steps
+  pub steps-small : (x : ℕ) → get_or (flat_steps rows cols (filled_levels rows cols elevation)) x 0 < far_steps
   steps-small x =
-      let long = filled-long rows cols ground ready in
+      let long = filled-long rows cols elevation ready in
       let k = steps-kept rows cols lv long in
       ⊎_elim (λ f. omega (arith, ready.small, steps-few rows cols lv long (flat_steps rows cols lv) k (steps-still rows cols lv long) (walks x (flat-valid rows cols lv x f))))
       (λ f. omega (arith, k.clear x f)) (two (flat_at rows cols lv x))

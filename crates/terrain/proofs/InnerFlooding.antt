@@ -32,20 +32,20 @@ pub height-word : (v : ℕ) → v < top → to_z w32 (of_z w32 (to_z w32 v -ℤ 
 height-word v h = to_z-of_z (difference-fits v h) ∙ difference-word v h
 
 -- what reading the ground's level at a cell asks
-pub ground-read : {rows cols : ℕ} {ground : List ℤ} → Ready rows cols ground → (x : ℕ) → x < rows * cols → (x < length ground) × Fine (get_or ground x (pos 0))
+pub ground-read : {rows cols : ℕ} {elevation : List ℤ} → Ready rows cols elevation → (x : ℕ) → x < rows * cols → (x < length elevation) × Fine (get_or elevation x (pos 0))
 ground-read r x h = (omega (arith, r.long), r.fine x (omega (arith, r.long)))
 
 -- ---- the search for cells at fault
 
 -- one cell, as the code tells
-pub cell-faulty : (rows cols : ℕ) (ground : List ℤ) (l : List ℕ) (b m v u low : ℕ) → v ≡ get_or l b 0 → u ≡ get_or (levels_of ground) b 0 → low ≡ lowest_of rows cols l b 8 → FaultyCell v u low m → Faulty rows cols ground l b (b + 1) m
-cell-faulty rows cols ground l b m v u low p q r o = failing-one _ b m o.few (λ e. record { above = omega (arith, o.above e); still = omega (arith, o.still e) })
+pub cell-faulty : (rows cols : ℕ) (elevation : List ℤ) (l : List ℕ) (b m v u low : ℕ) → v ≡ get_or l b 0 → u ≡ get_or (levels_of elevation) b 0 → low ≡ lowest_of rows cols l b 8 → FaultyCell v u low m → Faulty rows cols elevation l b (b + 1) m
+cell-faulty rows cols elevation l b m v u low p q r o = failing-one _ b m o.few (λ e. record { above = omega (arith, o.above e); still = omega (arith, o.still e) })
 
 -- ---- filled heights
 
-module _ {rows cols : ℕ} {ground : List ℤ} (ready : Ready rows cols ground) where
+module _ {rows cols : ℕ} {elevation : List ℤ} (ready : Ready rows cols elevation) where
   -- the heights of the filled levels are the filled heights
-  pub filled-heights : map height_of (filled_levels rows cols ground) ≡ filled_of rows cols ground
+  pub filled-heights : map height_of (filled_levels rows cols elevation) ≡ filled_of rows cols elevation
   unfolding filled_of
   filled-heights = refl
 

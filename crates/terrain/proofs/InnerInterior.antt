@@ -5,7 +5,7 @@ use Rattle.terrain.specs.Cells.{row_steps, col_steps, neighbour, Shifts}
 use Rattle.terrain.specs.InnerCells.{Ready, Sized, Inside, RunsTo, beside_of, Beside}
 use Rattle.terrain.proofs.Neighbours.{each-bearing, row-step-le, col-step-le, cell_in, in-grid-lt, row_of, col-of, neighbour-cases}
 
-pub ready-sized : {rows cols : ℕ} {ground : List ℤ} → Ready rows cols ground → Sized rows cols
+pub ready-sized : {rows cols : ℕ} {elevation : List ℤ} → Ready rows cols elevation → Sized rows cols
 ready-sized r = record { rows-small = r.rows-small; cols-small = r.cols-small; cols-some = r.cols-some; small = r.small }
 
 -- ---- a place, four times the row step plus the column step

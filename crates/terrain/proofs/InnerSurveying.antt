@@ -24,55 +24,55 @@ use Rattle.terrain.proofs.Filling.{filled-long, filled-small, filled-valid}
 use Rattle.terrain.proofs.InnerFlooding.{filled-heights}
 use Rattle.terrain.proofs.Trails.{mapped_in}
 
-module _ {rows cols : ℕ} {ground : List ℤ} (ready : Ready rows cols ground) where
+module _ {rows cols : ℕ} {elevation : List ℤ} (ready : Ready rows cols elevation) where
   abbrev lv : List ℕ
-  lv = filled_levels rows cols ground
+  lv = filled_levels rows cols elevation
 
   -- ---- filled levels
 
-  pub relief-levels : {level : List ℕ} → level ≡ filled_levels rows cols ground → Levels rows cols level
+  pub relief-levels : {level : List ℕ} → level ≡ filled_levels rows cols elevation → Levels rows cols level
   relief-levels l =
-      subst (Levels rows cols) (sym l) (record { sized = ready-sized ready; long = filled-long rows cols ground ready; capped = (λ x. omega (arith, filled-small rows cols ground ready x)) })
+      subst (Levels rows cols) (sym l) (record { sized = ready-sized ready; long = filled-long rows cols elevation ready; capped = (λ x. omega (arith, filled-small rows cols elevation ready x)) })
 
-  pub relief-small : {level : List ℕ} → level ≡ filled_levels rows cols ground → (x : ℕ) → get_or level x 0 < top
-  relief-small l x = omega (arith, ap (λ (m : List ℕ). get_or m x 0) l, filled-small rows cols ground ready x)
+  pub relief-small : {level : List ℕ} → level ≡ filled_levels rows cols elevation → (x : ℕ) → get_or level x 0 < top
+  relief-small l x = omega (arith, ap (λ (m : List ℕ). get_or m x 0) l, filled-small rows cols elevation ready x)
 
   -- ---- directions
 
   -- an order of accepted directions has as many places as there are valid cells
-  downhill-valids : {dir order : List ℕ} {m : ℕ} → Keeping rows cols (filled_levels rows cols ground) dir → Downhill rows cols dir order m → m ≡ ground_valids rows cols ground
+  downhill-valids : {dir order : List ℕ} {m : ℕ} → Keeping rows cols (filled_levels rows cols elevation) dir → Downhill rows cols dir order m → m ≡ ground_valids rows cols elevation
   unfolding ground_valids valids_of
   downhill-valids {dir} k o =
       order-places o.cells (mapped_in rows cols dir k.drawn.long)
-      ∙ sum-ext (rows * cols) (λ x. when (mapped_at rows cols dir x) 1) (λ x. when (valid_at (levels_of ground) x) 1) (λ x h. ap (λ (b : Bool). when b 1) (k.mapped x ∙ filled-valid rows cols ground ready x))
+      ∙ sum-ext (rows * cols) (λ x. when (mapped_at rows cols dir x) 1) (λ x. when (valid_at (levels_of elevation) x) 1) (λ x h. ap (λ (b : Bool). when b 1) (k.mapped x ∙ filled-valid rows cols elevation ready x))
 
   -- ---- the grids and the answer
 
   -- the levels and the directions of the map
-  pub directions-for : (source : Source) (given : List ℕ) {level : List ℕ} → level ≡ filled_levels rows cols ground → directions_for source rows cols level given ≡ directions_by source rows cols ground given
+  pub directions-for : (source : Source) (given : List ℕ) {level : List ℕ} → level ≡ filled_levels rows cols elevation → directions_for source rows cols level given ≡ directions_by source rows cols elevation given
   unfolding ground_directions
   directions-for Own given l = ap (directions_of rows cols) l
   directions-for Given given l = refl
 
   -- given directions keep the rules over the levels that the code has
-  pub given-keeping : (source : Source) (given : List ℕ) {level : List ℕ} → level ≡ filled_levels rows cols ground → Keeping rows cols (filled_levels rows cols ground) (directions_by source rows cols ground given) → source ≡ Given → Keeping rows cols level given
-  given-keeping source given l k e = subst (λ (v : List ℕ). Keeping rows cols v given) (sym l) (subst (λ (o : Source). Keeping rows cols (filled_levels rows cols ground) (directions_by o rows cols ground given)) e k)
+  pub given-keeping : (source : Source) (given : List ℕ) {level : List ℕ} → level ≡ filled_levels rows cols elevation → Keeping rows cols (filled_levels rows cols elevation) (directions_by source rows cols elevation given) → source ≡ Given → Keeping rows cols level given
+  given-keeping source given l k e = subst (λ (v : List ℕ). Keeping rows cols v given) (sym l) (subst (λ (o : Source). Keeping rows cols (filled_levels rows cols elevation) (directions_by o rows cols elevation given)) e k)
 
-  pub relief-falls : (source : Source) (given : List ℕ) {level falls : List ℕ} → level ≡ filled_levels rows cols ground → falls ≡ falls_of rows cols level (directions_for source rows cols level given) → falls ≡ falls_of rows cols (filled_levels rows cols ground) (directions_by source rows cols ground given)
+  pub relief-falls : (source : Source) (given : List ℕ) {level falls : List ℕ} → level ≡ filled_levels rows cols elevation → falls ≡ falls_of rows cols level (directions_for source rows cols level given) → falls ≡ falls_of rows cols (filled_levels rows cols elevation) (directions_by source rows cols elevation given)
   relief-falls source given l f = f ∙ ap₂ (falls_of rows cols) l (directions-for source given l)
 
-  pub relief-filled : {level : List ℕ} {filled : List ℤ} → level ≡ filled_levels rows cols ground → filled ≡ map height_of level → filled ≡ filled_of rows cols ground
+  pub relief-filled : {level : List ℕ} {filled : List ℤ} → level ≡ filled_levels rows cols elevation → filled ≡ map height_of level → filled ≡ filled_of rows cols elevation
   relief-filled l f = f ∙ ap (map height_of) l ∙ filled-heights ready
 
-  module _ {dir : List ℕ} (k : Keeping rows cols (filled_levels rows cols ground) dir) {filled : List ℤ} {direction count falls order : List ℕ} {r : Answer} (f : filled ≡ filled_of rows cols ground) (d : direction ≡ dir) (w : falls ≡ falls_of rows cols (filled_levels rows cols ground) dir) (t : (count ≡ counts_of rows cols direction) × ((places : ℕ) × Downhill rows cols direction order places × (r ≡ Accepted places (longest_of rows cols direction)))) where
+  module _ {dir : List ℕ} (k : Keeping rows cols (filled_levels rows cols elevation) dir) {filled : List ℤ} {direction count falls order : List ℕ} {r : Answer} (f : filled ≡ filled_of rows cols elevation) (d : direction ≡ dir) (w : falls ≡ falls_of rows cols (filled_levels rows cols elevation) dir) (t : (count ≡ counts_of rows cols direction) × ((places : ℕ) × Downhill rows cols direction order places × (r ≡ Accepted places (longest_of rows cols direction)))) where
     places : Downhill rows cols dir order t.1.0
     places = subst (λ (v : List ℕ). Downhill rows cols v order t.1.0) d t.1.1
 
-    pub routed-answer : r ≡ answer_of rows cols ground dir passed
+    pub routed-answer : r ≡ answer_of rows cols elevation dir passed
     unfolding answer_of
     routed-answer = t.1.2 ∙ ap₂ (λ (m : ℕ) (v : List ℕ). Accepted m (longest_of rows cols v)) (downhill-valids k places) d
 
-    pub routed-mapped : Mapped rows cols ground dir (lent filled direction count falls order)
+    pub routed-mapped : Mapped rows cols elevation dir (lent filled direction count falls order)
     routed-mapped =
         record {
           filled_is = f;

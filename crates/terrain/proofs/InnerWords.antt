@@ -80,40 +80,40 @@ module _ {rows cols : ℕ} where
           here : get_or (set (done_of l) x v) x 0 ≡ v
           here = get_or-set_same (done_of l) x v 0 (in_list (done_of l) x (omega (arith, high)))
 
-          before : (ground : List ℤ) → Above ground (set (done_of l) x v) → Above ground (done_of l)
-          before ground a y q =
+          before : (elevation : List ℤ) → Above elevation (set (done_of l) x v) → Above elevation (done_of l)
+          before elevation a y q =
               elim (ℕ_discrete y x) [
                 | yes e ↦ absurd (omega (arith, high, ap (λ (z : ℕ). get_or (done_of l) z 0) e))
                 | no f ↦ (let o = get_or-set_other (done_of l) x y v 0 f in omega (arith, a y (omega arith)))
               ]
 
-          lowered : (ground : List ℤ) → Ready rows cols ground → Above ground (set (done_of l) x v) → FillKept rows cols ground (done_of l) → FillKept rows cols ground (set (done_of l) x v)
-          lowered ground ready a k =
+          lowered : (elevation : List ℤ) → Ready rows cols elevation → Above elevation (set (done_of l) x v) → FillKept rows cols elevation (done_of l) → FillKept rows cols elevation (set (done_of l) x v)
+          lowered elevation ready a k =
               let low = lowest-done rows cols l x 8 in
               let i = lowest-is rows cols (done_of l) x 8 (omega arith) in
-              let valid = ltb-true 0 (get_or (levels_of ground) x 0) (kept-active (filling rows cols (levels_of ground)) (Stands rows cols ground) (done_of l) k x (omega (arith, high))) in
-              store_kept (filling rows cols (levels_of ground)) (Stands rows cols ground) (done_of l) k x v (omega (arith, high))
-              (stands-beside rows cols ground ready (done_of l) k x i.0 v valid i.1 (omega (arith, i.2)) (omega (arith, i.2, here, a x (omega (arith, here)))))
+              let valid = ltb-true 0 (get_or (levels_of elevation) x 0) (kept-active (filling rows cols (levels_of elevation)) (Stands rows cols elevation) (done_of l) k x (omega (arith, high))) in
+              store_kept (filling rows cols (levels_of elevation)) (Stands rows cols elevation) (done_of l) k x v (omega (arith, high))
+              (stands-beside rows cols elevation ready (done_of l) k x i.0 v valid i.1 (omega (arith, i.2)) (omega (arith, i.2, here, a x (omega (arith, here)))))
 
 -- the levels that the words stand for at the start can be lowered
-pub start-done : {rows cols : ℕ} {ground : List ℤ} → Ready rows cols ground → (l : List ℕ) → done_of l ≡ start_of (filling rows cols (levels_of ground)) → FillKept rows cols ground (done_of l)
-start-done {rows} {cols} {ground} ready l e = subst (FillKept rows cols ground) (sym e) (start-kept (filling rows cols (levels_of ground)) (Stands rows cols ground) (filling-rule rows cols ground ready))
+pub start-done : {rows cols : ℕ} {elevation : List ℤ} → Ready rows cols elevation → (l : List ℕ) → done_of l ≡ start_of (filling rows cols (levels_of elevation)) → FillKept rows cols elevation (done_of l)
+start-done {rows} {cols} {elevation} ready l e = subst (FillKept rows cols elevation) (sym e) (start-kept (filling rows cols (levels_of elevation)) (Stands rows cols elevation) (filling-rule rows cols elevation ready))
 
 -- words of a flood in which no cell is at fault are the filled levels
-pub flood-filled : {rows cols : ℕ} {ground : List ℤ} → Ready rows cols ground → (l₀ l : List ℕ) → done_of l₀ ≡ start_of (filling rows cols (levels_of ground)) → Flooded rows cols l₀ l → ((x : ℕ) → x < rows * cols → Steady rows cols ground l x) → l ≡ filled_levels rows cols ground
-flood-filled {rows} {cols} {ground} ready l₀ l e f s =
-    filled_is rows cols ground ready l (subst (FillKept rows cols ground) levels kept)
-    (λ x a. (s x ((filling-rule rows cols ground ready).within x a)).still)
+pub flood-filled : {rows cols : ℕ} {elevation : List ℤ} → Ready rows cols elevation → (l₀ l : List ℕ) → done_of l₀ ≡ start_of (filling rows cols (levels_of elevation)) → Flooded rows cols l₀ l → ((x : ℕ) → x < rows * cols → Steady rows cols elevation l x) → l ≡ filled_levels rows cols elevation
+flood-filled {rows} {cols} {elevation} ready l₀ l e f s =
+    filled_is rows cols elevation ready l (subst (FillKept rows cols elevation) levels kept)
+    (λ x a. (s x ((filling-rule rows cols elevation ready).within x a)).still)
   where
-    above : Above ground (done_of l)
+    above : Above elevation (done_of l)
     above y lt =
-        elim (dec_lt 0 (get_or (levels_of ground) y 0)) [
-          | yes v ↦ omega (arith, done_at l y, (s y (omega (arith, in_list (levels_of ground) y v, levels-long ready))).above)
+        elim (dec_lt 0 (get_or (levels_of elevation) y 0)) [
+          | yes v ↦ omega (arith, done_at l y, (s y (omega (arith, in_list (levels_of elevation) y v, levels-long ready))).above)
           | no h ↦ omega arith
         ]
 
-    kept : FillKept rows cols ground (done_of l)
-    kept = f.kept ground ready above (start-done ready l₀ e)
+    kept : FillKept rows cols elevation (done_of l)
+    kept = f.kept elevation ready above (start-done ready l₀ e)
 
     levels : done_of l ≡ l
     levels = ext_get_or 0 (done_of l) l (done-long l) (λ x h. omega (arith, done_at l x, (s x (omega (arith, kept.long))).still, lowest-top rows cols l x 8, level-top ready x))

@@ -297,40 +297,40 @@ accepted-fine (negsuc n) e = go (leb 999899 n) (leb n 999899) refl (leb n 49999)
 
 -- ---- a grid of levels
 
-pub level-at : (ground : List ℤ) (x : ℕ) → get_or (levels_of ground) x 0 ≡ level_of (get_or ground x no_data)
+pub level-at : (elevation : List ℤ) (x : ℕ) → get_or (levels_of elevation) x 0 ≡ level_of (get_or elevation x no_data)
 unfolding levels_of level_of
-level-at ground x = get_or-map level_of ground x no_data
+level-at elevation x = get_or-map level_of elevation x no_data
 
 -- as the code reads it
-pub level-read : (ground : List ℤ) (x : ℕ) → x < length ground → get_or (levels_of ground) x 0 ≡ level_of (get_or ground x (pos 0))
-level-read ground x h = level-at ground x ∙ ap level_of (get_or_any ground x no_data (pos 0) h)
+pub level-read : (elevation : List ℤ) (x : ℕ) → x < length elevation → get_or (levels_of elevation) x 0 ≡ level_of (get_or elevation x (pos 0))
+level-read elevation x h = level-at elevation x ∙ ap level_of (get_or_any elevation x no_data (pos 0) h)
 
-pub levels-long : {rows cols : ℕ} {ground : List ℤ} → Ready rows cols ground → length (levels_of ground) ≡ rows * cols
+pub levels-long : {rows cols : ℕ} {elevation : List ℤ} → Ready rows cols elevation → length (levels_of elevation) ≡ rows * cols
 unfolding levels_of
-levels-long {ground = ground} r = length-map ground level_of ∙ r.long
+levels-long {elevation = elevation} r = length-map elevation level_of ∙ r.long
 
-module _ {rows cols : ℕ} {ground : List ℤ} (ready : Ready rows cols ground) where
-  pub fine-at : (x : ℕ) → Fine (get_or ground x no_data)
+module _ {rows cols : ℕ} {elevation : List ℤ} (ready : Ready rows cols elevation) where
+  pub fine-at : (x : ℕ) → Fine (get_or elevation x no_data)
   fine-at x =
-      elim (dec_lt x (length ground)) [
-        | yes h ↦ subst Fine (get_or_any ground x (pos 0) no_data h) (ready.fine x h)
-        | no f ↦ subst Fine (sym (get_or-eq_default ground no_data {n = x} (omega arith))) (omega arith)
+      elim (dec_lt x (length elevation)) [
+        | yes h ↦ subst Fine (get_or_any elevation x (pos 0) no_data h) (ready.fine x h)
+        | no f ↦ subst Fine (sym (get_or-eq_default elevation no_data {n = x} (omega arith))) (omega arith)
       ]
 
-  pub level-top : (x : ℕ) → get_or (levels_of ground) x 0 < top
-  level-top x = rw level-at (level-fine (get_or ground x no_data) (fine-at x))
+  pub level-top : (x : ℕ) → get_or (levels_of elevation) x 0 < top
+  level-top x = rw level-at (level-fine (get_or elevation x no_data) (fine-at x))
 
-  pub valid-level : (x : ℕ) → Valid ground x → 0 < get_or (levels_of ground) x 0
-  valid-level x v = elim (ℕ_discrete (get_or (levels_of ground) x 0) 0) [ yes e ↦ absurd (v (level-zero (get_or ground x no_data) (fine-at x) (sym (level-at ground x) ∙ e))) | no f ↦ omega arith ]
+  pub valid-level : (x : ℕ) → Valid elevation x → 0 < get_or (levels_of elevation) x 0
+  valid-level x v = elim (ℕ_discrete (get_or (levels_of elevation) x 0) 0) [ yes e ↦ absurd (v (level-zero (get_or elevation x no_data) (fine-at x) (sym (level-at elevation x) ∙ e))) | no f ↦ omega arith ]
 
-  pub level-valid : (x : ℕ) → 0 < get_or (levels_of ground) x 0 → Valid ground x
-  level-valid x v e = omega (arith, level-at ground x ∙ ap level_of e ∙ level-none)
+  pub level-valid : (x : ℕ) → 0 < get_or (levels_of elevation) x 0 → Valid elevation x
+  level-valid x v e = omega (arith, level-at elevation x ∙ ap level_of e ∙ level-none)
 
-  pub none-level : (x : ℕ) → get_or ground x no_data ≡ no_data → get_or (levels_of ground) x 0 ≡ 0
-  none-level x e = level-at ground x ∙ ap level_of e ∙ level-none
+  pub none-level : (x : ℕ) → get_or elevation x no_data ≡ no_data → get_or (levels_of elevation) x 0 ≡ 0
+  none-level x e = level-at elevation x ∙ ap level_of e ∙ level-none
 
-  pub level-invalid : (x : ℕ) → get_or (levels_of ground) x 0 ≡ 0 → get_or ground x no_data ≡ no_data
-  level-invalid x e = level-zero (get_or ground x no_data) (fine-at x) (sym (level-at ground x) ∙ e)
+  pub level-invalid : (x : ℕ) → get_or (levels_of elevation) x 0 ≡ 0 → get_or elevation x no_data ≡ no_data
+  level-invalid x e = level-zero (get_or elevation x no_data) (fine-at x) (sym (level-at elevation x) ∙ e)
 
 -- ---- rim cells over levels
 

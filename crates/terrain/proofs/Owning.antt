@@ -23,9 +23,9 @@ use Rattle.terrain.proofs.Rings.{directed-ringless}
 use Rattle.terrain.proofs.Keeping.{kept-none, kept_leaves, kept-points, kept-keeping, given-passes}
 use Rattle.terrain.proofs.InnerInterior.{ready-sized}
 
-module _ (rows cols : ℕ) (ground : List ℤ) (ready : Ready rows cols ground) where
+module _ (rows cols : ℕ) (elevation : List ℤ) (ready : Ready rows cols elevation) where
   abbrev lv : List ℕ
-  lv = filled_levels rows cols ground
+  lv = filled_levels rows cols elevation
 
   abbrev st : List ℕ
   st = flat_steps rows cols lv
@@ -37,18 +37,18 @@ module _ (rows cols : ℕ) (ground : List ℤ) (ready : Ready rows cols ground) 
   nb = neighbour rows cols
 
   abbrev long : length lv ≡ rows * cols
-  long = filled-long rows cols ground ready
+  long = filled-long rows cols elevation ready
 
   -- the number that falls along every trail: the level first, then the flat steps
   abbrev pub potential : ℕ → ℕ
-  potential x = get_or (filled_levels rows cols ground) x 0 * far_steps + get_or (flat_steps rows cols (filled_levels rows cols ground)) x 0
+  potential x = get_or (filled_levels rows cols elevation) x 0 * far_steps + get_or (flat_steps rows cols (filled_levels rows cols elevation)) x 0
 
   -- ---- one step of a trail
 
   kind : (x : ℕ) → 0 < get_or lv x 0 → Points rows cols lv st x (get_or dir x 255)
   kind x v =
       subst (Points rows cols lv st x) (sym (direction-at rows cols lv x (omega (arith, in_list lv x v, long))))
-      (points rows cols lv st (steps-kept rows cols lv long) (steps-still rows cols lv long) x v (steps-small rows cols ground ready x))
+      (points rows cols lv st (steps-kept rows cols lv long) (steps-still rows cols lv long) x v (steps-small rows cols elevation ready x))
 
   record Step (x y : ℕ) : Type 0 where
     valid : 0 < get_or lv y 0
@@ -65,11 +65,11 @@ module _ (rows cols : ℕ) (ground : List ℤ) (ready : Ready rows cols ground) 
       move j g q s = subst (λ (i : ℕ). Step x (nb x i)) (same-bearing j k g h (sym q ∙ e)) s
 
       go : Points rows cols lv st x (get_or dir x 255) → Step x (nb x k)
-      go (down j g q p l) = move j g q (record { valid = p; le = omega arith; less = omega (arith, steps-small rows cols ground ready (nb x j)) })
+      go (down j g q p l) = move j g q (record { valid = p; le = omega arith; less = omega (arith, steps-small rows cols elevation ready (nb x j)) })
       go (along j g q p s) = move j g q (record { valid = omega arith; le = omega arith; less = omega arith })
       go (leaves j g q o) = absurd (omega (arith, code-some k h))
 
-  pub mapped-valid : (x : ℕ) → mapped_at rows cols (directions_of rows cols (filled_levels rows cols ground)) x ≡ valid_at (filled_levels rows cols ground) x
+  pub mapped-valid : (x : ℕ) → mapped_at rows cols (directions_of rows cols (filled_levels rows cols elevation)) x ≡ valid_at (filled_levels rows cols elevation) x
   mapped-valid x =
       elim (dec_lt 0 (get_or lv x 0)) [
         | yes v ↦ is_mapped rows cols dir x (λ q. go v q (kind x v)) ∙ sym (lt-ltb 0 (get_or lv x 0) v)
@@ -87,7 +87,7 @@ module _ (rows cols : ℕ) (ground : List ℤ) (ready : Ready rows cols ground) 
   level-mapped : (x : ℕ) → 0 < get_or lv x 0 → mapped_at rows cols dir x ≡ true
   level-mapped x v = mapped-valid x ∙ lt-ltb 0 (get_or lv x 0) v
 
-  pub falls : Falls rows cols (directions_of rows cols (filled_levels rows cols ground)) potential
+  pub falls : Falls rows cols (directions_of rows cols (filled_levels rows cols elevation)) potential
   falls = record { long = directions-long rows cols lv; stays = (λ x q. level-mapped (next_at rows cols dir x) (on x q).valid); less = (λ x q. (on x q).less) }
     where
       on : (x : ℕ) → flows_at rows cols dir x ≡ true → Step x (next_at rows cols dir x)
@@ -96,7 +96,7 @@ module _ (rows cols : ℕ) (ground : List ℤ) (ready : Ready rows cols ground) 
           subst (Step x) (sym (code-next rows cols dir x (bearing_of (get_or dir x 255)) c.0 c.1)) (step_of x (bearing_of (get_or dir x 255)) (mapped-level x (flows-mapped rows cols dir x q)) c.0 c.1)
 
   -- a valid cell that points at no neighbour has direction 0
-  pub stops-zero : (x : ℕ) → mapped_at rows cols (directions_of rows cols (filled_levels rows cols ground)) x ≡ true → flows_at rows cols (directions_of rows cols (filled_levels rows cols ground)) x ≡ false → get_or (directions_of rows cols (filled_levels rows cols ground)) x 255 ≡ 0
+  pub stops-zero : (x : ℕ) → mapped_at rows cols (directions_of rows cols (filled_levels rows cols elevation)) x ≡ true → flows_at rows cols (directions_of rows cols (filled_levels rows cols elevation)) x ≡ false → get_or (directions_of rows cols (filled_levels rows cols elevation)) x 255 ≡ 0
   stops-zero x v q = go (kind x (mapped-level x v))
     where
       go : Points rows cols lv st x (get_or dir x 255) → get_or dir x 255 ≡ 0
@@ -121,18 +121,18 @@ module _ (rows cols : ℕ) (ground : List ℤ) (ready : Ready rows cols ground) 
       go v (along j g e p s) = points-at j v g e (omega arith) (omega arith)
       go v (leaves j g e o) = kept_leaves rows cols lv dir x v e ∙ open-rim rows cols lv x j v g o
 
-  pub own-levels : Levels rows cols (filled_levels rows cols ground)
-  own-levels = record { sized = ready-sized ready; long = long; capped = (λ x. omega (arith, filled-small rows cols ground ready x)) }
+  pub own-levels : Levels rows cols (filled_levels rows cols elevation)
+  own-levels = record { sized = ready-sized ready; long = long; capped = (λ x. omega (arith, filled-small rows cols elevation ready x)) }
 
-  pub own-keeping : Keeping rows cols (filled_levels rows cols ground) (ground_directions rows cols ground)
+  pub own-keeping : Keeping rows cols (filled_levels rows cols elevation) (ground_directions rows cols elevation)
   unfolding ground_directions
   own-keeping = kept-keeping rows cols lv dir own-levels (directions-long rows cols lv) own-kept
 
-  pub own-directed : Directed rows cols (ground_directions rows cols ground)
+  pub own-directed : Directed rows cols (ground_directions rows cols elevation)
   unfolding ground_directions
   own-directed = let f = rank_falls rows cols dir potential falls in record { drawn = own-keeping.drawn; less = f.less }
 
   -- the tests of a given grid are passed
-  pub own-accepted : verdict (given_tests rows cols (filled_levels rows cols ground) (ground_directions rows cols ground)) ≡ passed
+  pub own-accepted : verdict (given_tests rows cols (filled_levels rows cols elevation) (ground_directions rows cols elevation)) ≡ passed
   unfolding ground_directions
   own-accepted = given-passes rows cols lv dir own-kept (λ x h. directed-ringless own-directed x)

@@ -58,14 +58,14 @@ cardinal k = k % 2 == 0
 -- ---- A cell is valid if its ground height is not NoData.
 
 abbrev pub Valid : List ℤ → ℕ → Type 0
-Valid ground x = slice_index_or ground x no_data ≡ no_data → ⊥
+Valid elevation x = slice_index_or elevation x no_data ≡ no_data → ⊥
 
 -- A rim cell is a valid cell on the grid's edge or beside a NoData cell: at some bearing it has no cell, or NoData.
-pub record Rim (rows cols : ℕ) (ground : List ℤ) (x : ℕ) : Type 0 where
-  pub valid : Valid ground x
+pub record Rim (rows cols : ℕ) (elevation : List ℤ) (x : ℕ) : Type 0 where
+  pub valid : Valid elevation x
   pub bearing : ℕ
   pub small : bearing < 8
-  pub none : get_or ground (neighbour rows cols x bearing) no_data ≡ no_data
+  pub none : get_or elevation (neighbour rows cols x bearing) no_data ≡ no_data
 
 -- ---- the same over levels
 
@@ -80,7 +80,7 @@ height_of v = sub_ℕ v datum
 
 unfoldable pub levels_of : List ℤ → List ℕ
 unfolding level_of
-levels_of ground = map level_of ground
+levels_of elevation = map level_of elevation
 
 -- the cell x is valid
 abbrev pub valid_at : List ℕ → ℕ → Bool

@@ -14,35 +14,35 @@ abbrev pub outflow_of : ℕ → ℕ → List ℕ → List ℕ → ℕ
 outflow_of rows cols direction count = sum_to (rows * cols) (λ x. when (slice_index_or direction x 255 == 0) (slice_index count x))
 
 -- the trails of a map
-pub record Trails (rows cols : ℕ) (ground filled : List ℤ) (direction : List ℕ) : Type 0 where
+pub record Trails (rows cols : ℕ) (elevation filled : List ℤ) (direction : List ℕ) : Type 0 where
   -- each valid cell has a trail, which ends
-  pub trails : (x : ℕ) → Valid ground x → Trail rows cols direction x
+  pub trails : (x : ℕ) → Valid elevation x → Trail rows cols direction x
   -- each trail stays on valid cells
-  pub stays : {x : ℕ} (t : Trail rows cols direction x) → Valid ground x → OnValid rows cols direction ground t
+  pub stays : {x : ℕ} (t : Trail rows cols direction x) → Valid elevation x → OnValid rows cols direction elevation t
   -- never rises on the filled heights
-  pub falls : {x : ℕ} (t : Trail rows cols direction x) → Valid ground x → TrailNeverRises rows cols direction (surface_of filled) t
+  pub falls : {x : ℕ} (t : Trail rows cols direction x) → Valid elevation x → TrailNeverRises rows cols direction (surface_of filled) t
   -- never meets a cell twice
-  pub once : {x : ℕ} (t : Trail rows cols direction x) → Valid ground x → NeverTwice rows cols direction t
+  pub once : {x : ℕ} (t : Trail rows cols direction x) → Valid elevation x → NeverTwice rows cols direction t
   -- and ends at a rim cell with direction 0
-  pub leaves : {x : ℕ} (t : Trail rows cols direction x) → Valid ground x → Rim rows cols ground (last_of rows cols direction t) × (slice_index_or direction (last_of rows cols direction t) 255 ≡ 0)
+  pub leaves : {x : ℕ} (t : Trail rows cols direction x) → Valid elevation x → Rim rows cols elevation (last_of rows cols direction t) × (slice_index_or direction (last_of rows cols direction t) 255 ≡ 0)
 
 -- The flow counts of the cells where trails leave add up to the number of valid cells, and the answer gives that number
-pub record Totals (rows cols : ℕ) (ground : List ℤ) (direction count : List ℕ) (given : ℕ) : Type 0 where
-  pub valids : given ≡ valids_of rows cols (levels_of ground)
+pub record Totals (rows cols : ℕ) (elevation : List ℤ) (direction count : List ℕ) (given : ℕ) : Type 0 where
+  pub valids : given ≡ valids_of rows cols (levels_of elevation)
   pub outflow : outflow_of rows cols direction count ≡ given
 
 -- the filled surface
-pub record Surface (rows cols : ℕ) (ground filled : List ℤ) : Type 0 where
+pub record Surface (rows cols : ℕ) (elevation filled : List ℤ) : Type 0 where
   -- the filled heights are at or above the ground, and from each valid cell a run that never rises on them reaches a rim cell
-  pub drained : Drained rows cols ground (surface_of filled)
+  pub drained : Drained rows cols elevation (surface_of filled)
   -- every surface of which these two are true is at least as high at every valid cell
-  pub lowest : (s : ℕ → ℤ) → Drained rows cols ground s → (x : ℕ) → Valid ground x → surface_of filled x ≤ℤ s x
+  pub lowest : (s : ℕ → ℤ) → Drained rows cols elevation s → (x : ℕ) → Valid elevation x → surface_of filled x ≤ℤ s x
   -- the filled height is the greatest ground height of some run
-  pub reached : (x : ℕ) → Valid ground x → (r : Run rows cols ground x) × (highest_of rows cols ground r ≡ surface_of filled x)
+  pub reached : (x : ℕ) → Valid elevation x → (r : Run rows cols elevation x) × (highest_of rows cols elevation r ≡ surface_of filled x)
   -- and no run stays below it
-  pub least : {x : ℕ} (r : Run rows cols ground x) → surface_of filled x ≤ℤ highest_of rows cols ground r
+  pub least : {x : ℕ} (r : Run rows cols elevation x) → surface_of filled x ≤ℤ highest_of rows cols elevation r
 
-pub record Drainage (rows cols : ℕ) (ground filled : List ℤ) (direction count : List ℕ) (given : ℕ) : Type 0 where
-  pub trails : Trails rows cols ground filled direction
-  pub totals : Totals rows cols ground direction count given
-  pub surface : Surface rows cols ground filled
+pub record Drainage (rows cols : ℕ) (elevation filled : List ℤ) (direction count : List ℕ) (given : ℕ) : Type 0 where
+  pub trails : Trails rows cols elevation filled direction
+  pub totals : Totals rows cols elevation direction count given
+  pub surface : Surface rows cols elevation filled

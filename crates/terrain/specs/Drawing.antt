@@ -5,17 +5,17 @@ use Rattle.terrain.specs.Cells.{no_data, neighbour, code_of, Valid, Rim}
 use Rattle.terrain.specs.Drainage.{surface_of}
 
 -- the code of the cell x breaks none of the rules of refusal 17
-pub record Right (rows cols : ℕ) (ground filled : List ℤ) (dir : List ℕ) (x : ℕ) : Type 0 where
+pub record Right (rows cols : ℕ) (elevation filled : List ℤ) (dir : List ℕ) (x : ℕ) : Type 0 where
   -- every NoData cell has 255
-  pub no-data : get_or ground x no_data ≡ no_data → slice_index_or dir x 255 ≡ 255
+  pub no-data : get_or elevation x no_data ≡ no_data → slice_index_or dir x 255 ≡ 255
   -- every other code is one of the nine
-  pub nine : Valid ground x → (slice_index_or dir x 255 ≡ 0) ⊎ ((k : ℕ) × (k < 8) × (slice_index_or dir x 255 ≡ code_of k))
+  pub nine : Valid elevation x → (slice_index_or dir x 255 ≡ 0) ⊎ ((k : ℕ) × (k < 8) × (slice_index_or dir x 255 ≡ code_of k))
   -- no code points off the grid or at NoData
-  pub aim : (k : ℕ) → k < 8 → slice_index_or dir x 255 ≡ code_of k → Valid ground (neighbour rows cols x k)
+  pub aim : (k : ℕ) → k < 8 → slice_index_or dir x 255 ≡ code_of k → Valid elevation (neighbour rows cols x k)
   -- none points to a higher filled cell
   pub fall : (k : ℕ) → k < 8 → slice_index_or dir x 255 ≡ code_of k → surface_of filled (neighbour rows cols x k) ≤ℤ surface_of filled x
   -- 0 stands only on rim cells
-  pub rim : get_or dir x 255 ≡ 0 → Rim rows cols ground x
+  pub rim : get_or dir x 255 ≡ 0 → Rim rows cols elevation x
 
 module _ (rows cols : ℕ) (dir : List ℕ) where
   -- one or more steps along the codes lead from a cell to a cell
@@ -28,6 +28,6 @@ module _ (rows cols : ℕ) (dir : List ℕ) where
   GoesRound x = Leads x x
 
 -- a grid of directions that is accepted: every code is right, and no trail goes round
-pub record Acceptable (rows cols : ℕ) (ground filled : List ℤ) (dir : List ℕ) : Type 0 where
-  pub right : (x : ℕ) → x < rows * cols → Right rows cols ground filled dir x
+pub record Acceptable (rows cols : ℕ) (elevation filled : List ℤ) (dir : List ℕ) : Type 0 where
+  pub right : (x : ℕ) → x < rows * cols → Right rows cols elevation filled dir x
   pub ringless : (x : ℕ) → GoesRound rows cols dir x → ⊥

@@ -27,9 +27,9 @@ filling rows cols g =
 -- the filled levels
 unfoldable pub filled_levels : ℕ → ℕ → List ℤ → List ℕ
 unfolding settled_of lowest_of levels_of
-filled_levels rows cols ground = settled_of (filling rows cols (levels_of ground))
+filled_levels rows cols elevation = settled_of (filling rows cols (levels_of elevation))
 
 -- the filled heights; a NoData cell has filled height -999,900
 unfoldable pub filled_of : ℕ → ℕ → List ℤ → List ℤ
 unfolding filled_levels height_of
-filled_of rows cols ground = map height_of (filled_levels rows cols ground)
+filled_of rows cols elevation = map height_of (filled_levels rows cols elevation)

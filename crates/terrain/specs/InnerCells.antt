@@ -10,13 +10,13 @@ pub record Sized (rows cols : ℕ) : Type 0 where
   pub small : rows * cols ≤ 1048576
 
 -- a ground of an accepted call
-pub record Ready (rows cols : ℕ) (ground : List ℤ) : Type 0 where
+pub record Ready (rows cols : ℕ) (elevation : List ℤ) : Type 0 where
   pub rows-small : rows ≤ 1024
   pub cols-small : cols ≤ 1024
   pub cols-some : 0 < cols
   pub small : rows * cols ≤ 1048576
-  pub long : length ground ≡ rows * cols
-  pub fine : (x : ℕ) → x < length ground → Fine (slice_index_or ground x (pos 0))
+  pub long : length elevation ≡ rows * cols
+  pub fine : (x : ℕ) → x < length elevation → Fine (slice_index_or elevation x (pos 0))
 
 -- all eight neighbours of x are on the grid: x is in no outer row and in no outer column
 pub record Inside (rows cols x : ℕ) : Type 0 where

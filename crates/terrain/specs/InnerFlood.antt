@@ -16,24 +16,24 @@ pub record FaultyCell (v u low m : ℕ) : Type 0 where
 
 -- a run from x stays at or below the level v: what every lowering of x to v has to show
 abbrev pub Stands : ℕ → ℕ → List ℤ → ℕ → ℕ → Type 0
-Stands rows cols ground x v = (r : Run rows cols ground x) × (level_of (highest_of rows cols ground r) ≤ v)
+Stands rows cols elevation x v = (r : Run rows cols elevation x) × (level_of (highest_of rows cols elevation r) ≤ v)
 
-module _ (rows cols : ℕ) (ground : List ℤ) where
+module _ (rows cols : ℕ) (elevation : List ℤ) where
   -- the filling's rule: what the cell x may be lowered to
   abbrev pub offer_at : List ℕ → ℕ → ℕ
-  offer_at = (filling rows cols (levels_of ground)).offer
+  offer_at = (filling rows cols (levels_of elevation)).offer
 
   -- every list on the way down
   abbrev pub FillKept : List ℕ → Type 0
-  FillKept = Kept (filling rows cols (levels_of ground)) (Stands rows cols ground)
+  FillKept = Kept (filling rows cols (levels_of elevation)) (Stands rows cols elevation)
 
   -- a sweep
   abbrev pub FillSweeping : List ℕ → List ℕ → ℕ → Bool → Type 0
-  FillSweeping = Sweeping (filling rows cols (levels_of ground)) (Stands rows cols ground)
+  FillSweeping = Sweeping (filling rows cols (levels_of elevation)) (Stands rows cols elevation)
 
   -- the cell x is not below its ground, and cannot be lowered; and a search for cells of which this fails
   pub record Steady (l : List ℕ) (x : ℕ) : Type 0 where
-    pub above : slice_index_or (levels_of ground) x 0 ≤ slice_index l x
+    pub above : slice_index_or (levels_of elevation) x 0 ≤ slice_index l x
     pub still : slice_index_or l x 0 ≤ offer_at l x
 
   abbrev pub Faulty : List ℕ → ℕ → ℕ → ℕ → Type 0
@@ -42,7 +42,7 @@ module _ (rows cols : ℕ) (ground : List ℤ) where
   -- the cell x of l₀ was lowered, if it could be
   pub record Lowered (l₀ l : List ℕ) (x : ℕ) (lowered : Bool) : Type 0 where
     pub told : lowered ≡ nat_lt (offer_at l₀ x) (slice_index l₀ x)
-    pub is : l ≡ relaxed_of (filling rows cols (levels_of ground)) l₀ x
+    pub is : l ≡ relaxed_of (filling rows cols (levels_of elevation)) l₀ x
 
 -- ---- the words of the flood: one below `top` is the level of a cell that is done; any other is of a cell that is not, and stands for the top
 
@@ -85,13 +85,13 @@ level_in band list = (band + 926) * 1024 + list
 
 -- no cell that is done is below its ground
 abbrev pub Above : List ℤ → List ℕ → Type 0
-Above ground l = (x : ℕ) → slice_index l x < top → slice_index (levels_of ground) x ≤ slice_index l x
+Above elevation l = (x : ℕ) → slice_index l x < top → slice_index (levels_of elevation) x ≤ slice_index l x
 
 -- the words l came from l₀ by giving cells levels that are not below a neighbour's: if in the end none is below its ground, that was lowering
 pub record Flooded (rows cols : ℕ) (l₀ l : List ℕ) : Type 0 where
   pub long : length l ≡ length l₀
-  pub above : (ground : List ℤ) → Above ground (done_of l) → Above ground (done_of l₀)
-  pub kept : (ground : List ℤ) → Ready rows cols ground → Above ground (done_of l) → FillKept rows cols ground (done_of l₀) → FillKept rows cols ground (done_of l)
+  pub above : (elevation : List ℤ) → Above elevation (done_of l) → Above elevation (done_of l₀)
+  pub kept : (elevation : List ℤ) → Ready rows cols elevation → Above elevation (done_of l) → FillKept rows cols elevation (done_of l₀) → FillKept rows cols elevation (done_of l)
 
 -- and every cell that waits has one beside it that is not above b, the level in hand: what is done is not above that, and a cell is queued beside one that is done
 pub record FloodedTo (rows cols : ℕ) (l₀ l : List ℕ) (b : ℕ) : Type 0 where

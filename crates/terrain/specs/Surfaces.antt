@@ -6,17 +6,17 @@ use Rattle.terrain.specs.Cells.{no_data, neighbour, Valid, Rim}
 abbrev pub max_z : ℤ → ℤ → ℤ
 max_z a b = cond (int_le a b) b a
 
-module _ (rows cols : ℕ) (ground : List ℤ) where
+module _ (rows cols : ℕ) (elevation : List ℤ) where
   -- A run of valid neighbours is one or more valid cells, each after the first a neighbour of the one before; a rim cell alone is a run:
   -- a run from the cell x to a rim cell
   pub data Run : ℕ → Type 0 where
-    last : (x : ℕ) → Rim rows cols ground x → Run x
-    step : (x k : ℕ) → Valid ground x → k < 8 → Run (neighbour rows cols x k) → Run x
+    last : (x : ℕ) → Rim rows cols elevation x → Run x
+    step : (x k : ℕ) → Valid elevation x → k < 8 → Run (neighbour rows cols x k) → Run x
 
   -- the greatest ground height on the run, both ends counted
   abbrev pub highest_of : {x : ℕ} → Run x → ℤ
-  highest_of (last x r) = slice_index_or ground x no_data
-  highest_of (step x k v h r) = max_z (slice_index_or ground x no_data) (highest_of r)
+  highest_of (last x r) = slice_index_or elevation x no_data
+  highest_of (step x k v h r) = max_z (slice_index_or elevation x no_data) (highest_of r)
 
   -- A run never rises on a surface if no cell of it is higher there than the cell before.
   -- A surface gives every valid cell a whole number of cm, of any size; what s is at any other index does not matter.
@@ -26,5 +26,5 @@ module _ (rows cols : ℕ) (ground : List ℤ) where
 
   -- a surface at or above the ground, on which from each valid cell a run that never rises reaches a rim cell
   pub record Drained (s : ℕ → ℤ) : Type 0 where
-    pub above : (x : ℕ) → Valid ground x → slice_index_or ground x no_data ≤ℤ s x
-    pub drains : (x : ℕ) → Valid ground x → (r : Run x) × RunNeverRises s r
+    pub above : (x : ℕ) → Valid elevation x → slice_index_or elevation x no_data ≤ℤ s x
+    pub drains : (x : ℕ) → Valid elevation x → (r : Run x) × RunNeverRises s r

@@ -18,8 +18,8 @@ module _ (rows cols : ℕ) (dir : List ℕ) where
 
   -- every cell of the trail is valid
   abbrev pub OnValid : List ℤ → {x : ℕ} → Trail x → Type 0
-  OnValid ground (ends x e) = Valid ground x
-  OnValid ground (goes x k h e t) = Valid ground x × OnValid ground t
+  OnValid elevation (ends x e) = Valid elevation x
+  OnValid elevation (goes x k h e t) = Valid elevation x × OnValid elevation t
 
   -- no cell of the trail is higher on the surface s than the cell before
   abbrev pub TrailNeverRises : (ℕ → ℤ) → {x : ℕ} → Trail x → Type 0

@@ -65,7 +65,7 @@ fn pick(first: bool, a: u32, b: u32) -> u32
 }
 
 // The code of a cell, but for flats, and its fall.
-#[derive(Drop)]
+#[derive(Clone, Copy)]
 struct Fall {
     code: u8,
     fall: u32,

@@ -20,11 +20,11 @@ const DATUM: i32 = 999900;
 const UNREACHED: u32 = 1900000;
 
 // The level of the ground at the cell x.
-fn ground_level(ground: &[i32], x: usize) -> u32
-    requires { (x < length ground.now) × Fine (slice_index_or ground.now x (pos 0)) }
-    ensures { result ≡ slice_index (levels_of ground.now) x }
+fn ground_level(elevation: &[i32], x: usize) -> u32
+    requires { (x < length elevation.now) × Fine (slice_index_or elevation.now x (pos 0)) }
+    ensures { result ≡ slice_index (levels_of elevation.now) x }
 {
-    (ground[x] + DATUM) as u32
+    (elevation[x] + DATUM) as u32
 }
 
 // The height of a level.
@@ -64,15 +64,15 @@ fn lowest_near(rows: usize, columns: usize, level: &[u32], x: usize) -> u32
 }
 
 // Sets every word to where it starts from.
-fn start(ground: &[i32], words: &mut [u32])
-    requires { (rows : ℕ) × (columns : ℕ) × Ready rows columns ground.now × (length words.old ≡ rows * columns) }
+fn start(elevation: &[i32], words: &mut [u32])
+    requires { (rows : ℕ) × (columns : ℕ) × Ready rows columns elevation.now × (length words.old ≡ rows * columns) }
     ensures { ((rows columns : ℕ) → length words.old ≡ rows * columns
-        → done_of words.new ≡ start_of (filling rows columns (levels_of ground.now)))
+        → done_of words.new ≡ start_of (filling rows columns (levels_of elevation.now)))
         × ((x : ℕ) → slice_index words.new x < queued_from) }
 {
     let mut x: usize = 0;
     while x < words.len() {
-        words[x] = start_word(ground_level(ground, x));
+        words[x] = start_word(ground_level(elevation, x));
         x += 1;
     }
 }
@@ -134,10 +134,10 @@ fn flood(rows: usize, columns: usize, words: &mut [u32])
 }
 
 // 1 if a level is below its ground, or above it with a lower level beside it; else 0.
-fn faulty(v: u32, ground: u32, lower: bool) -> u32
-    ensures { (low : ℕ) → lower ≡ nat_lt low v → FaultyCell v ground low result }
+fn faulty(v: u32, elevation: u32, lower: bool) -> u32
+    ensures { (low : ℕ) → lower ≡ nat_lt low v → FaultyCell v elevation low result }
 {
-    if (v < ground) | ((ground < v) & lower) {
+    if (v < elevation) | ((elevation < v) & lower) {
         1
     } else {
         0
@@ -145,16 +145,16 @@ fn faulty(v: u32, ground: u32, lower: bool) -> u32
 }
 
 // How many cells are at fault in a run of cells that are inside.
-fn faulty_run(columns: usize, ground: &[i32], level: &[u32], from: usize, to: usize) -> u32
-    requires { (rows : ℕ) × Ready rows columns ground.now × (length level.now ≡ rows * columns) × RunsTo rows columns from to }
-    ensures { (rows : ℕ) → RunsTo rows columns from to → Faulty rows columns ground.now level.now from to result }
+fn faulty_run(columns: usize, elevation: &[i32], level: &[u32], from: usize, to: usize) -> u32
+    requires { (rows : ℕ) × Ready rows columns elevation.now × (length level.now ≡ rows * columns) × RunsTo rows columns from to }
+    ensures { (rows : ℕ) → RunsTo rows columns from to → Faulty rows columns elevation.now level.now from to result }
 {
     let mut sum: u32 = 0;
     let mut x = from;
     while x < to {
         sum += faulty(
             level[x],
-            ground_level(ground, x),
+            ground_level(elevation, x),
             has_lower(columns, level, x, level[x]),
         );
         x += 1;
@@ -163,18 +163,18 @@ fn faulty_run(columns: usize, ground: &[i32], level: &[u32], from: usize, to: us
 }
 
 // How many cells are at fault.
-fn faulty_cells(rows: usize, columns: usize, ground: &[i32], level: &[u32]) -> u32
-    requires { Ready rows columns ground.now × (length level.now ≡ rows * columns) }
-    ensures { Faulty rows columns ground.now level.now 0 (rows * columns) result }
+fn faulty_cells(rows: usize, columns: usize, elevation: &[i32], level: &[u32]) -> u32
+    requires { Ready rows columns elevation.now × (length level.now ≡ rows * columns) }
+    ensures { Faulty rows columns elevation.now level.now 0 (rows * columns) result }
 {
     let mut sum: u32 = 0;
     let mut x: usize = 0;
     while x < level.len() {
         let end = run_end(rows, columns, x);
-        sum += faulty_run(columns, ground, level, x, end);
+        sum += faulty_run(columns, elevation, level, x, end);
         sum += faulty(
             level[end],
-            ground_level(ground, end),
+            ground_level(elevation, end),
             lowest_near(rows, columns, level, end) < level[end],
         );
         x = end + 1;
@@ -183,12 +183,12 @@ fn faulty_cells(rows: usize, columns: usize, ground: &[i32], level: &[u32]) -> u
 }
 
 // Lowers the cell x to what its ground and its neighbours allow. True if it was higher.
-fn lower(rows: usize, columns: usize, ground: &[i32], level: &mut [u32], x: usize) -> bool
-    requires { Ready rows columns ground.now × (length level.old ≡ rows * columns) × (x < rows * columns) }
-    ensures { Lowered rows columns ground.now level.old level.new x result }
+fn lower(rows: usize, columns: usize, elevation: &[i32], level: &mut [u32], x: usize) -> bool
+    requires { Ready rows columns elevation.now × (length level.old ≡ rows * columns) × (x < rows * columns) }
+    ensures { Lowered rows columns elevation.now level.old level.new x result }
 {
     let v = larger(
-        ground_level(ground, x),
+        ground_level(elevation, x),
         lowest_near(rows, columns, level, x),
     );
     if level[x] <= v {
@@ -199,14 +199,14 @@ fn lower(rows: usize, columns: usize, ground: &[i32], level: &mut [u32], x: usiz
 }
 
 // Lowers every cell once. True if some cell was lowered.
-fn sweep(rows: usize, columns: usize, ground: &[i32], level: &mut [u32]) -> bool
-    requires { Ready rows columns ground.now × (length level.old ≡ rows * columns) }
-    ensures { FillSweeping rows columns ground.now level.old level.new (length level.old) result }
+fn sweep(rows: usize, columns: usize, elevation: &[i32], level: &mut [u32]) -> bool
+    requires { Ready rows columns elevation.now × (length level.old ≡ rows * columns) }
+    ensures { FillSweeping rows columns elevation.now level.old level.new (length level.old) result }
 {
     let mut lowered = false;
     let mut x: usize = 0;
     while x < level.len() {
-        if lower(rows, columns, ground, level, x) {
+        if lower(rows, columns, elevation, level, x) {
             lowered = true;
         }
         x += 1;
@@ -215,39 +215,39 @@ fn sweep(rows: usize, columns: usize, ground: &[i32], level: &mut [u32]) -> bool
 }
 
 // Sets every level to where sweeps start from.
-fn restart(ground: &[i32], level: &mut [u32])
-    requires { (rows : ℕ) × (columns : ℕ) × Ready rows columns ground.now × (length level.old ≡ rows * columns) }
+fn restart(elevation: &[i32], level: &mut [u32])
+    requires { (rows : ℕ) × (columns : ℕ) × Ready rows columns elevation.now × (length level.old ≡ rows * columns) }
     ensures { (rows columns : ℕ) → length level.old ≡ rows * columns
-        → level.new ≡ start_of (filling rows columns (levels_of ground.now)) }
+        → level.new ≡ start_of (filling rows columns (levels_of elevation.now)) }
 {
     let mut x: usize = 0;
     while x < level.len() {
-        level[x] = smaller(start_word(ground_level(ground, x)), UNREACHED);
+        level[x] = smaller(start_word(ground_level(elevation, x)), UNREACHED);
         x += 1;
     }
 }
 
 // The levels of the filled heights, by sweeps alone until no cell can be lowered.
-fn settle(rows: usize, columns: usize, ground: &[i32], level: &mut [u32])
-    requires { Ready rows columns ground.now × (length level.old ≡ rows * columns) }
-    ensures { level.new ≡ filled_levels rows columns ground.now }
+fn settle(rows: usize, columns: usize, elevation: &[i32], level: &mut [u32])
+    requires { Ready rows columns elevation.now × (length level.old ≡ rows * columns) }
+    ensures { level.new ≡ filled_levels rows columns elevation.now }
 {
-    restart(ground, level);
+    restart(elevation, level);
     let mut again = true;
     while again {
-        again = sweep(rows, columns, ground, level);
+        again = sweep(rows, columns, elevation, level);
     }
 }
 
 // The levels of the filled heights.
-pub(crate) fn fill(rows: usize, columns: usize, ground: &[i32], level: &mut [u32])
-    requires { Ready rows columns ground.now × (length level.old ≡ rows * columns) }
-    ensures { level.new ≡ filled_levels rows columns ground.now }
+pub(crate) fn fill(rows: usize, columns: usize, elevation: &[i32], level: &mut [u32])
+    requires { Ready rows columns elevation.now × (length level.old ≡ rows * columns) }
+    ensures { level.new ≡ filled_levels rows columns elevation.now }
 {
-    start(ground, level);
+    start(elevation, level);
     flood(rows, columns, level);
-    if 0 < faulty_cells(rows, columns, ground, level) {
-        settle(rows, columns, ground, level);
+    if 0 < faulty_cells(rows, columns, elevation, level) {
+        settle(rows, columns, elevation, level);
     }
 }
 

@@ -3,6 +3,8 @@
 //
 // Every input gets an answer: the call has no `requires`. The modules follow docs/RULES.md: cells, filled heights, steps over
 // flats, directions, the order from the ridges down, trails.
+#![tactic(auto)]
+
 mod cells;
 mod direction;
 mod downhill;
@@ -35,21 +37,21 @@ pub use cells::shifts_of;
 use text::Refusal;
 
 // The answer of the call: the number of valid cells and the steps of the longest trail, or why there is no map.
-#[derive(Drop)]
+#[derive(Clone, Copy)]
 pub enum Answer {
     Accepted { valid: u32, longest: u32 },
     Refused(Refusal),
 }
 
 // Whose directions a map takes: our own, or those that the lent grid holds at the call.
-#[derive(Drop)]
+#[derive(Clone, Copy)]
 pub enum Source {
     Own,
     Given,
 }
 
 // What is found of a call: that its tests pass, or why it is refused.
-#[derive(Drop)]
+#[derive(Clone, Copy)]
 pub(crate) enum Judgement {
     Sound,
     Unsound(Refusal),
@@ -67,7 +69,7 @@ pub(crate) fn unsound(number: u32, place: usize) -> Judgement
 // Whether every lent slice has one place per cell.
 fn are_long(
     cells: usize,
-    ground: &[i32],
+    elevation: &[i32],
     filled: &[i32],
     direction: &[u8],
     count: &[u32],
@@ -75,9 +77,9 @@ fn are_long(
     workspace: &[u32],
 ) -> bool
     ensures { result ≡ all_long cells
-        (places_of ground.now (lent_at filled.entry direction.entry count.entry falls.entry workspace.entry)) }
+        (places_of elevation.now (lent_at filled.entry direction.entry count.entry falls.entry workspace.entry)) }
 {
-    (ground.len() == cells)
+    (elevation.len() == cells)
         & (filled.len() == cells)
         & (direction.len() == cells)
         & (count.len() == cells)
@@ -89,14 +91,14 @@ fn are_long(
 fn judge(
     rows: usize,
     columns: usize,
-    ground: &[i32],
+    elevation: &[i32],
     filled: &[i32],
     direction: &[u8],
     count: &[u32],
     falls: &[u32],
     workspace: &[u32],
 ) -> Judgement
-    ensures { found result ≡ ground_judged rows columns ground.now
+    ensures { found result ≡ ground_judged rows columns elevation.now
         (lent_at filled.entry direction.entry count.entry falls.entry workspace.entry) }
 {
     if !text::is_size(rows) {
@@ -106,10 +108,10 @@ fn judge(
         return unsound(1, 0);
     }
     let cells = rows * columns;
-    if !are_long(cells, ground, filled, direction, count, falls, workspace) {
+    if !are_long(cells, elevation, filled, direction, count, falls, workspace) {
         return unsound(2, 0);
     }
-    let bad = text::first_bad(ground);
+    let bad = text::first_bad(elevation);
     if bad < cells {
         return unsound(5, bad);
     }
@@ -121,15 +123,15 @@ fn survey(
     rows: usize,
     columns: usize,
     source: Source,
-    ground: &[i32],
+    elevation: &[i32],
     direction: &[u8],
     level: &mut [u32],
 ) -> Judgement
-    requires { Ready rows columns ground.now × (length direction.now ≡ rows * columns) × (length level.old ≡ rows * columns) }
-    ensures { (found result ≡ verdict (source_tests source rows columns (filled_levels rows columns ground.now) direction.now))
-        × (level.new ≡ filled_levels rows columns ground.now) }
+    requires { Ready rows columns elevation.now × (length direction.now ≡ rows * columns) × (length level.old ≡ rows * columns) }
+    ensures { (found result ≡ verdict (source_tests source rows columns (filled_levels rows columns elevation.now) direction.now))
+        × (level.new ≡ filled_levels rows columns elevation.now) }
 {
-    filled::fill(rows, columns, ground, level);
+    filled::fill(rows, columns, elevation, level);
     if let Source::Given = source {
         return given::judge(rows, columns, direction, level);
     }
@@ -213,27 +215,27 @@ pub fn map(
     rows: usize,
     columns: usize,
     source: Source,
-    ground: &[i32],
+    elevation: &[i32],
     filled: &mut [i32],
     direction: &mut [u8],
     count: &mut [u32],
     falls: &mut [u32],
     workspace: &mut [u32],
 ) -> Answer
-    ensures answers { result ≡ answer rows columns source ground.now (lent_before filled direction count falls workspace) }
-    ensures leaves { After rows columns ground.now (directions_by source rows columns ground.now direction.old)
+    ensures answers { result ≡ answer rows columns source elevation.now (lent_before filled direction count falls workspace) }
+    ensures leaves { After rows columns elevation.now (directions_by source rows columns elevation.now direction.old)
         (lent_before filled direction count falls workspace) (lent_after filled direction count falls workspace)
-        (judged rows columns source ground.now (lent_before filled direction count falls workspace)) }
+        (judged rows columns source elevation.now (lent_before filled direction count falls workspace)) }
     ensures drains { accepts result ≡ true
-        → Drainage rows columns ground.now filled.new direction.new count.new (valid_in result) }
+        → Drainage rows columns elevation.now filled.new direction.new count.new (valid_in result) }
 {
     let judgement = judge(
-        rows, columns, ground, filled, direction, count, falls, workspace,
+        rows, columns, elevation, filled, direction, count, falls, workspace,
     );
     if let Judgement::Unsound(refusal) = judgement {
         return Answer::Refused(refusal);
     }
-    let surveyed = survey(rows, columns, source, ground, direction, workspace);
+    let surveyed = survey(rows, columns, source, elevation, direction, workspace);
     if let Judgement::Unsound(refusal) = surveyed {
         cells::clear(workspace);
         return Answer::Refused(refusal);

@@ -6,7 +6,7 @@ use crate::{drawn, spiral};
 use text::NO_DATA;
 
 // The kinds of field: drawn, or worked out from a cell's row and column, its index, or its seed.
-#[derive(Drop)]
+#[derive(Clone, Copy)]
 pub enum Land {
     Drawn,
     SpiralOut,

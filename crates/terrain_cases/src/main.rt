@@ -1,5 +1,7 @@
 // Maps fields of every kind with the map call and writes its answers and its grids up to the counts, for RULES 3 and 4. What
 // must be written, the file `stdout`, is worked out from those. Then the same with given directions.
+#![tactic(auto)]
+
 mod back;
 mod drawn;
 mod given;

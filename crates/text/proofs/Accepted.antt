@@ -140,20 +140,20 @@ same_not (negsuc n) d =
     and-off true = refl
     and-off false = refl
 
-module _ (n : ℕ) (ground : List ℤ) where
-  pub good-before : (x : ℕ) → x < first_bad n ground → height_accepted (get_or ground x no_data_height) ≡ true
+module _ (n : ℕ) (elevation : List ℤ) where
+  pub good-before : (x : ℕ) → x < first_bad n elevation → height_accepted (get_or elevation x no_data_height) ≡ true
   unfolding first_bad
-  good-before x h = not-false (height_accepted (get_or ground x no_data_height)) (first-before (λ y. not (height_accepted (get_or ground y no_data_height))) n x h)
+  good-before x h = not-false (height_accepted (get_or elevation x no_data_height)) (first-before (λ y. not (height_accepted (get_or elevation y no_data_height))) n x h)
 
-  pub height-passed : height_test n ground ≡ passed → (x : ℕ) → x < n → height_accepted (get_or ground x no_data_height) ≡ true
+  pub height-passed : height_test n elevation ≡ passed → (x : ℕ) → x < n → height_accepted (get_or elevation x no_data_height) ≡ true
   unfolding height_test
   height-passed e x h =
-      good-before x (omega (arith, ltb-false (first_bad n ground) n (not-true (ltb (first_bad n ground) n) (test-passed (not (ltb (first_bad n ground) n)) 5 (first_bad n ground) e))))
+      good-before x (omega (arith, ltb-false (first_bad n elevation) n (not-true (ltb (first_bad n elevation) n) (test-passed (not (ltb (first_bad n elevation) n)) 5 (first_bad n elevation) e))))
 
-  pub height-passes : n ≤ first_bad n ground → height_test n ground ≡ passed
+  pub height-passes : n ≤ first_bad n elevation → height_test n elevation ≡ passed
   unfolding height_test
-  height-passes h = test-yes 5 (first_bad n ground) (ap not (le-ltb (first_bad n ground) n h))
+  height-passes h = test-yes 5 (first_bad n elevation) (ap not (le-ltb (first_bad n elevation) n h))
 
-  pub height-fails : first_bad n ground < n → height_test n ground ≡ failed 5 (first_bad n ground)
+  pub height-fails : first_bad n elevation < n → height_test n elevation ≡ failed 5 (first_bad n elevation)
   unfolding height_test
-  height-fails h = test-no 5 (first_bad n ground) (ap not (lt-ltb (first_bad n ground) n h))
+  height-fails h = test-no 5 (first_bad n elevation) (ap not (lt-ltb (first_bad n elevation) n h))

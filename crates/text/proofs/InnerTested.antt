@@ -60,19 +60,19 @@ height-high z d h = and-true-left (le_z (negsuc 49999) z) (le_z z (pos 900000)) 
 
 -- every height before the cell x is accepted
 abbrev pub GoodTo : List ℤ → ℕ → Type 0
-GoodTo ground x = (y : ℕ) → y < x → height_accepted (get_or ground y no_data_height) ≡ true
+GoodTo elevation x = (y : ℕ) → y < x → height_accepted (get_or elevation y no_data_height) ≡ true
 
-pub good_none : (ground : List ℤ) → GoodTo ground 0
-good_none ground y h = absurd (omega arith)
+pub good_none : (elevation : List ℤ) → GoodTo elevation 0
+good_none elevation y h = absurd (omega arith)
 
-pub good_more : (ground : List ℤ) (x : ℕ) → x < length ground → GoodTo ground x → true ≡ height_accepted (get_or ground x (pos 0)) → GoodTo ground (x + 1)
-good_more ground x h g e = below_more (λ (y : ℕ). height_accepted (get_or ground y no_data_height) ≡ true) x g (ap height_accepted (get_or_any ground x no_data_height (pos 0) h) ∙ sym e)
+pub good_more : (elevation : List ℤ) (x : ℕ) → x < length elevation → GoodTo elevation x → true ≡ height_accepted (get_or elevation x (pos 0)) → GoodTo elevation (x + 1)
+good_more elevation x h g e = below_more (λ (y : ℕ). height_accepted (get_or elevation y no_data_height) ≡ true) x g (ap height_accepted (get_or_any elevation x no_data_height (pos 0) h) ∙ sym e)
 
-pub first-bad : (ground : List ℤ) (x : ℕ) → x < length ground → GoodTo ground x → false ≡ height_accepted (get_or ground x (pos 0)) → x ≡ first_bad (length ground) ground
+pub first-bad : (elevation : List ℤ) (x : ℕ) → x < length elevation → GoodTo elevation x → false ≡ height_accepted (get_or elevation x (pos 0)) → x ≡ first_bad (length elevation) elevation
 unfolding first_bad
-first-bad ground x h g e =
-    sym (first-is (λ y. not (height_accepted (get_or ground y no_data_height))) (length ground) x (λ y l. ap not (g y l)) h (ap not (ap height_accepted (get_or_any ground x no_data_height (pos 0) h) ∙ sym e)))
+first-bad elevation x h g e =
+    sym (first-is (λ y. not (height_accepted (get_or elevation y no_data_height))) (length elevation) x (λ y l. ap not (g y l)) h (ap not (ap height_accepted (get_or_any elevation x no_data_height (pos 0) h) ∙ sym e)))
 
-pub all-good : (ground : List ℤ) (x : ℕ) → x ≡ length ground → GoodTo ground x → x ≡ first_bad (length ground) ground
+pub all-good : (elevation : List ℤ) (x : ℕ) → x ≡ length elevation → GoodTo elevation x → x ≡ first_bad (length elevation) elevation
 unfolding first_bad
-all-good ground x e g = e ∙ sym (first-none (λ y. not (height_accepted (get_or ground y no_data_height))) (length ground) (λ y l. ap not (g y (omega arith))))
+all-good elevation x e g = e ∙ sym (first-none (λ y. not (height_accepted (get_or elevation y no_data_height))) (length elevation) (λ y l. ap not (g y (omega arith))))

@@ -20,7 +20,7 @@ height_accepted z = same z no_data_height || height_in z
 -- the first cell whose height is out of range and not NoData; n where there is none
 unfoldable pub first_bad : ℕ → List ℤ → ℕ
 unfolding first_of height_accepted
-first_bad n ground = first_of (λ x. not (height_accepted (get_or ground x no_data_height))) n
+first_bad n elevation = first_of (λ x. not (height_accepted (get_or elevation x no_data_height))) n
 
 -- each length is n
 unfoldable pub all_long : ℕ → List ℕ → Bool
@@ -47,4 +47,4 @@ side_test side = test (side_accepted side) 3 0
 -- 5: height out of range and not NoData; place: cell index, at the first bad cell in row order
 unfoldable pub height_test : ℕ → List ℤ → Test
 unfolding first_bad
-height_test n ground = test (not (ltb (first_bad n ground) n)) 5 (first_bad n ground)
+height_test n elevation = test (not (ltb (first_bad n elevation) n)) 5 (first_bad n elevation)

@@ -16,87 +16,87 @@ use crate::{Corners, Header, Refusal, Span, numbers, words};
 const ABSENT_NO_DATA: i64 = -9999 * 100;
 
 // The moved cursor, or the refusal.
-#[derive(Drop)]
+#[derive(Clone, Copy)]
 pub(crate) enum Moved {
     On(Cursor),
     Off(Refusal),
 }
 
 // The extent with the cursor after it.
-#[derive(Drop)]
+#[derive(Clone, Copy)]
 pub(crate) struct Extent {
     pub(crate) rows: usize,
     pub(crate) columns: usize,
     pub(crate) rest: Cursor,
 }
 
-#[derive(Drop)]
+#[derive(Clone, Copy)]
 pub(crate) enum Extended {
     Extent(Extent),
     NoExtent(Refusal),
 }
 
 // The cell side with the cursor after it.
-#[derive(Drop)]
+#[derive(Clone, Copy)]
 pub(crate) struct Side {
     pub(crate) cm: u32,
     pub(crate) rest: Cursor,
 }
 
-#[derive(Drop)]
+#[derive(Clone, Copy)]
 pub(crate) enum Sided {
     Side(Side),
     NoSide(Refusal),
 }
 
 // The NoData number or a height, in cm, with the cursor after it.
-#[derive(Drop)]
+#[derive(Clone, Copy)]
 pub(crate) struct Length {
     pub(crate) cm: i64,
     pub(crate) rest: Cursor,
 }
 
-#[derive(Drop)]
+#[derive(Clone, Copy)]
 pub(crate) enum Lengthed {
     Length(Length),
     NoLength(Refusal),
 }
 
 // Where a corner number's word stands, with the cursor after it.
-#[derive(Drop)]
+#[derive(Clone, Copy)]
 pub(crate) struct Corner {
     pub(crate) span: Span,
     pub(crate) rest: Cursor,
 }
 
-#[derive(Drop)]
+#[derive(Clone, Copy)]
 pub(crate) enum Cornered {
     Corner(Corner),
     NoCorner(Refusal),
 }
 
 // Where both corner words stand, with the cursor after them.
-#[derive(Drop)]
+#[derive(Clone, Copy)]
 pub(crate) struct Pair {
     pub(crate) corners: Corners,
     pub(crate) rest: Cursor,
 }
 
-#[derive(Drop)]
+#[derive(Clone, Copy)]
 pub(crate) enum Paired {
     Pair(Pair),
     NoPair(Refusal),
 }
 
 // The header and its corner words with the cursor after it.
-#[derive(Drop)]
+#[derive(Clone, Copy)]
 pub(crate) struct Head {
     pub(crate) header: Header,
     pub(crate) corners: Corners,
     pub(crate) rest: Cursor,
 }
 
-#[derive(Drop)]
+#[derive(Clone, Copy)]
 pub(crate) enum Headed {
     Head(Head),
     NoHead(Refusal),

@@ -2,6 +2,8 @@
 //
 // Every text gets an answer: no call has a `requires`. The modules follow docs/RULES.md: words, numbers, the header, the heights. The
 // ranges are tested here for the calls of the layers above too.
+#![tactic(auto)]
+
 mod headers;
 mod heights;
 mod numbers;
@@ -20,14 +22,14 @@ use words::Cursor;
 pub const NO_DATA: i32 = -999900;
 
 // RULES 3: the number and the place.
-#[derive(Drop)]
+#[derive(Clone, Copy)]
 pub struct Refusal {
     pub number: u32,
     pub place: usize,
 }
 
 // What the header says; the side and the NoData number are in cm.
-#[derive(Drop)]
+#[derive(Clone, Copy)]
 pub struct Header {
     pub rows: usize,
     pub columns: usize,
@@ -36,28 +38,28 @@ pub struct Header {
 }
 
 // What a call that reads a text answers.
-#[derive(Drop)]
+#[derive(Clone, Copy)]
 pub enum Answer {
     Accepted(Header),
     Refused(Refusal),
 }
 
 // Where a word stands: its first byte and its length.
-#[derive(Drop)]
+#[derive(Clone, Copy)]
 pub struct Span {
     pub first: usize,
     pub length: usize,
 }
 
 // Where the words of the two corner numbers stand; zeros at a refusal.
-#[derive(Drop)]
+#[derive(Clone, Copy)]
 pub struct Corners {
     pub x: Span,
     pub y: Span,
 }
 
 // The answer of the header call.
-#[derive(Drop)]
+#[derive(Clone, Copy)]
 pub struct HeaderAnswer {
     pub answer: Answer,
     pub corners: Corners,

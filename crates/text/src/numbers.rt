@@ -10,21 +10,21 @@ use crate::words::Cursor;
 use crate::{Refusal, words};
 
 // Digits that were read: what they stand for, and the place after them.
-#[derive(Drop)]
+#[derive(Clone, Copy)]
 pub(crate) struct Digits {
     pub(crate) value: u64,
     pub(crate) end: usize,
 }
 
 // What follows the first two decimals: the place after all of them, and whether a digit past the second is not 0.
-#[derive(Drop)]
+#[derive(Clone, Copy)]
 pub(crate) struct Tail {
     pub(crate) end: usize,
     pub(crate) fine: bool,
 }
 
 // A word's form: a number of `size` cm, `fine` where a digit past the second decimal is not 0; or the place at which it stops being a number.
-#[derive(Drop)]
+#[derive(Clone, Copy)]
 pub(crate) enum Form {
     Number {
         minus: bool,
@@ -284,7 +284,7 @@ fn refuse(s: &[u8], a: usize, place: usize, point: bool) -> Refusal
 }
 
 // A number with the place of its word and the cursor after it.
-#[derive(Drop)]
+#[derive(Clone, Copy)]
 pub(crate) struct Number {
     pub(crate) start: usize,
     pub(crate) minus: bool,
@@ -293,7 +293,7 @@ pub(crate) struct Number {
     pub(crate) rest: Cursor,
 }
 
-#[derive(Drop)]
+#[derive(Clone, Copy)]
 pub(crate) enum Numbered {
     Number(Number),
     NoNumber(Refusal),
@@ -344,14 +344,14 @@ fn signed(minus: bool, size: u64) -> i64
 }
 
 // A number in whole cm with the place of its word and the cursor after it.
-#[derive(Drop)]
+#[derive(Clone, Copy)]
 pub(crate) struct Measure {
     pub(crate) start: usize,
     pub(crate) cm: i64,
     pub(crate) rest: Cursor,
 }
 
-#[derive(Drop)]
+#[derive(Clone, Copy)]
 pub(crate) enum Measured {
     Measure(Measure),
     NoMeasure(Refusal),
@@ -382,13 +382,13 @@ pub(crate) fn read_measure(s: &[u8], k: Cursor) -> Measured
 }
 
 // A count of rows or columns with the cursor after it.
-#[derive(Drop)]
+#[derive(Clone, Copy)]
 pub(crate) struct Count {
     pub(crate) n: usize,
     pub(crate) rest: Cursor,
 }
 
-#[derive(Drop)]
+#[derive(Clone, Copy)]
 pub(crate) enum Counted {
     Count(Count),
     NoCount(Refusal),

@@ -4,20 +4,20 @@ ghost use Rattle.text.specs.Words.{blank, word_start, word_end, word};
 ghost use Rattle.text.specs.InnerWords.{word_of, Inside};
 
 // Where reading goes on.
-#[derive(Drop)]
+#[derive(Clone, Copy)]
 pub(crate) struct Cursor {
     pub(crate) at: usize,
 }
 
 // A word: its first byte, the place after it, and the cursor moved there.
-#[derive(Drop)]
+#[derive(Clone, Copy)]
 pub(crate) struct Word {
     pub(crate) start: usize,
     pub(crate) end: usize,
     pub(crate) rest: Cursor,
 }
 
-#[derive(Drop)]
+#[derive(Clone, Copy)]
 pub(crate) enum Next {
     Word(Word),
     End,

@@ -1,5 +1,7 @@
 // Runs both calls of `text` on small texts and writes what they answer, for RULES 2 and 3. What must be written, the file
 // `stdout`, is worked out from those.
+#![tactic(auto)]
+
 mod counts;
 mod ends;
 mod forms;

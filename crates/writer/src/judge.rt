@@ -8,7 +8,7 @@ ghost use Rattle.writer.specs.InnerJudging.{found};
 use text::Refusal;
 
 // What is found of a call's header.
-#[derive(Drop)]
+#[derive(Clone, Copy)]
 pub(crate) enum Judgement {
     Sound,
     Unsound(Refusal),

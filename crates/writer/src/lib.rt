@@ -1,6 +1,8 @@
 // The writer: grids as text, in the form of the text that was read. RULES 10.
 //
 // Every grid gets an answer: no call has a `requires`. A call judges everything, the room too, before it writes the first byte.
+#![tactic(auto)]
+
 mod cells;
 mod header;
 mod judge;
@@ -18,7 +20,7 @@ use text::Refusal;
 use words::Kind;
 
 // The answer of each call: how many bytes the text has, or why there is none.
-#[derive(Drop)]
+#[derive(Clone, Copy)]
 pub enum Answer {
     Accepted { length: usize },
     Refused(Refusal),

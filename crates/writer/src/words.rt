@@ -12,7 +12,7 @@ use text::NO_DATA;
 const NO_CODE: u8 = 255;
 
 // What a grid of numbers from 0 on holds: flow counts or LS.
-#[derive(Drop)]
+#[derive(Clone, Copy)]
 pub(crate) enum Kind {
     Count,
     Factor,

@@ -1,5 +1,7 @@
 // Runs the calls of `writer` on small grids and writes what they answer and what becomes of the lent room, for RULES 10. What
 // must be written, the file `stdout`, is worked out from those.
+#![tactic(auto)]
+
 mod refusals;
 mod rooms;
 mod shapes;
