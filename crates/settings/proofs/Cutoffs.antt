@@ -53,13 +53,13 @@ whole_at d n = eqb (den (quotient d n) * units (quotient d n)) unit
 abbrev rises_at : ℕ → ℕ → Bool
 rises_at d n = ltb (size_of d n) (size_of d (suc n))
 
-abbrev test_at_lem : ℕ → ℕ → Bool
-test_at_lem d n = finite_at d n && whole_at d n && rises_at d n
+abbrev test_at : ℕ → ℕ → Bool
+test_at d n = finite_at d n && whole_at d n && rises_at d n
 
 -- the same at each of k numbers from n on
 abbrev test_from : ℕ → ℕ → ℕ → Bool
 test_from d n zero = true
-test_from d n (suc k) = test_at_lem d n && test_from d (suc n) k
+test_from d n (suc k) = test_at d n && test_from d (suc n) k
 
 -- the quotients up to top rise
 pub record Rising (d top : ℕ) : Type 0 where
@@ -75,11 +75,11 @@ tenths = record { test = tt }
 
 -- ---- what the test says of each number
 
-test_at_lem : (d n k : ℕ) → T (test_from d n k) → (i : ℕ) → n ≤ i → i < n + k → T (test_at_lem d i)
+test_at_lem : (d n k : ℕ) → T (test_from d n k) → (i : ℕ) → n ≤ i → i < n + k → T (test_at d i)
 test_at_lem d n zero t i h l = absurd (omega arith)
 test_at_lem d n (suc k) t i h l =
-    ⊎_elim (λ e. subst (λ (m : ℕ). T (test_at_lem d m)) e (and_l (test_at_lem d n) (test_from d (suc n) k) t))
-    (λ g. test_at_lem d (suc n) k (and_r (test_at_lem d n) (test_from d (suc n) k) t) i g (omega arith)) (eq-or-lt_of_le h)
+    ⊎_elim (λ e. subst (λ (m : ℕ). T (test_at d m)) e (and_l (test_at d n) (test_from d (suc n) k) t))
+    (λ g. test_at_lem d (suc n) k (and_r (test_at d n) (test_from d (suc n) k) t) i g (omega arith)) (eq-or-lt_of_le h)
 
 -- equal floats are equal fractions
 cross : (x q : Float) → T (finite q) → T (eq x q) → num x * den q ≡ num q * den x
@@ -97,7 +97,7 @@ regroup x p q u f e h =
     ∙ ap (λ (z : ℕ). q * z) (mul_comm u f) ∙ sym (mul_assoc q f u)
 
 module _ (d top : ℕ) (rising : Rising d top) where
-  here : (i : ℕ) → i ≤ top → T (test_at_lem d i)
+  here : (i : ℕ) → i ≤ top → T (test_at d i)
   here i h = test_at_lem d 0 (suc top) rising.test i (omega arith) (omega arith)
 
   rises : (i : ℕ) → i ≤ top → size_of d i < size_of d (suc i)

@@ -11,7 +11,7 @@ use lib.Dec.{eqb, ltb}
 use lib.ListN.{length, get_or, set}
 use lib.Seq.{get_or-set_same, get_or-set_other}
 use Rattle.laws.proofs.Tests.{two, and-false-left, and-false-right, and-true-left}
-use Rattle.text.specs.Words.{solid, run, word_end_lem}
+use Rattle.text.specs.Words.{solid, run, word_end}
 use Rattle.text.specs.Numbers.{Form, formed, malformed, digit, value, after_sign, decimals, whole_and_decimals, number_at, count_form_at, is_formed, comma, first_comma, comma_decimal}
 use Rattle.text.proofs.Bytes.{digit-range}
 use Rattle.text.proofs.InnerRuns.{run-stop, run-lower, run-fails, run-passes, run-after, run-same}
@@ -112,7 +112,7 @@ stop_of (malformed p) = p
 
 module _ (s : List ℕ) (a b : ℕ) (h : a < length s) (first : solid (get_or s a 0) ≡ true) (sign : b ≡ after_sign s a) (d : ℕ) (ends : d ≡ run digit s b 9) where
   abbrev e : ℕ
-  e = word_end_lem s a
+  e = word_end s a
 
   b-from : a ≤ b
   b-from = subst (λ (j : ℕ). a ≤ j) (sym sign) (go (eqb (get_or s a 0) 45))
@@ -124,7 +124,7 @@ module _ (s : List ℕ) (a b : ℕ) (h : a < length s) (first : solid (get_or s 
   d-from : b ≤ d
   d-from = subst (λ (j : ℕ). b ≤ j) (sym ends) (run-lower digit s b 9)
 
-  word_end_lem : e ≡ word_end_lem s d
+  word_end_lem : e ≡ word_end s d
   word_end_lem = sign-end s a b h first sign ∙ end-digits s b 9 d (sign-within s a b h sign) ends
 
   d-within : d ≤ e
@@ -151,7 +151,7 @@ module _ (s : List ℕ) (a b : ℕ) (h : a < length s) (first : solid (get_or s 
       ]
 
   module _ (z : get_or s d 0 ≡ 44) where
-    pub comma-end : e ≡ word_end_lem s (d + 1)
+    pub comma-end : e ≡ word_end s (d + 1)
     comma-end = word_end_lem ∙ end-byte s d (byte-within s d (λ n. omega arith)) (rw z)
 
     pub comma-inside : d < e
@@ -202,9 +202,9 @@ module _ (s : List ℕ) (a b : ℕ) (h : a < length s) (first : solid (get_or s 
     pub comma-short : f ≡ d + 1 → false ≡ comma_decimal number_at s a e
     comma-short q = subst (λ (x : Bool). cond x false (eqb f e) ≡ comma_decimal number_at s a e) (eq-eqb f (d + 1) q) comma-is
 
-    pub comma-on : (f ≡ d + 1 → ⊥) → (r : Bool) → r ≡ eqb f (word_end_lem s f) → r ≡ comma_decimal number_at s a e
+    pub comma-on : (f ≡ d + 1 → ⊥) → (r : Bool) → r ≡ eqb f (word_end s f) → r ≡ comma_decimal number_at s a e
     comma-on n r q =
-        let ends : e ≡ word_end_lem s f = comma-end z ∙ end-digits s (d + 1) 6 f (comma-next s d z) tail in
+        let ends : e ≡ word_end s f = comma-end z ∙ end-digits s (d + 1) 6 f (comma-next s d z) tail in
         q ∙ ap (eqb f) (sym ends) ∙ subst (λ (x : Bool). cond x false (eqb f e) ≡ comma_decimal number_at s a e) (ne_eqb f (d + 1) n) comma-is
 
   -- the number breaks at the comma

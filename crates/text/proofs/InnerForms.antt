@@ -8,7 +8,7 @@ use native.Mathlib.Omega.{arith}
 use borrow.Author.Tests.{le-ltb, eq-eqb, ne_eqb, eqb-true}
 use lib.Dec.{eqb, ltb}
 use lib.ListN.{length, get_or}
-use Rattle.text.specs.Words.{solid, run, word_end_lem}
+use Rattle.text.specs.Words.{solid, run, word_end}
 use Rattle.text.specs.Numbers.{digit, zero, value, after_sign, decimals, whole_and_decimals, number_at}
 use Rattle.text.specs.declared.numbers.Form.{Form}
 use Rattle.text.specs.declared.numbers.Form.TheVariants as F
@@ -79,7 +79,7 @@ module _ (s : List ℕ) (p q : ℕ) (h : p ≤ length s) (e : q ≡ run digit s 
 
 module _ (s : List ℕ) (p x q : ℕ) (w : HundredthsFrom s p x q) (minus : Bool) (size : ℕ) where
   abbrev e : ℕ
-  e = word_end_lem s p
+  e = word_end s p
 
   pub decimals-none : p ≤ length s → q ≡ p → Parsed e (decimals s e minus size p) (F.Malformed p)
   unfolding decimals
@@ -99,19 +99,19 @@ module _ (s : List ℕ) (p x q : ℕ) (w : HundredthsFrom s p x q) (minus : Bool
           | no g ↦ value-wider s f q p 2 (omega (arith, q-le, w.short)) (omega arith) ∙ sym w.is
         ]
 
-    e-is : e ≡ word_end_lem s f
+    e-is : e ≡ word_end s f
     e-is = end-digits s p 6 f h t.ends
 
     apart : eqb f p ≡ false
     apart = ne_eqb f p (λ z. some (omega (arith, q-le, w.from)))
 
-    pub decimals-off : eqb f (word_end_lem s f) ≡ false → Parsed e (decimals s e minus size p) (F.Malformed f)
+    pub decimals-off : eqb f (word_end s f) ≡ false → Parsed e (decimals s e minus size p) (F.Malformed f)
     unfolding decimals
     decimals-off b = record { is = rw (← t.ends, apart, e-is, b); ends = tt }
 
-    pub decimals-on : size < 100000000000 → eqb f (word_end_lem s f) ≡ true → Parsed e (decimals s e minus size p) (F.Number minus (size + x) fine f)
+    pub decimals-on : size < 100000000000 → eqb f (word_end s f) ≡ true → Parsed e (decimals s e minus size p) (F.Number minus (size + x) fine f)
     unfolding decimals
-    decimals-on l b = record { is = rw (← t.ends, apart, e-is, b, same-value, t.is); ends = (eqb-true f (word_end_lem s f) b ∙ sym e-is, omega (arith, w.small)) }
+    decimals-on l b = record { is = rw (← t.ends, apart, e-is, b, same-value, t.is); ends = (eqb-true f (word_end s f) b ∙ sym e-is, omega (arith, w.small)) }
 
 -- ---- the whole number: the sign ends at b and the digits at d
 
@@ -129,42 +129,42 @@ module _ (s : List ℕ) (a b : ℕ) (h : a < length s) (sign : b ≡ after_sign 
       go false = omega arith
 
 module _ (s : List ℕ) (a b : ℕ) (h : a < length s) (first : solid (get_or s a 0) ≡ true) (sign : b ≡ after_sign s a) where
-  pub sign-end : word_end_lem s a ≡ word_end_lem s b
+  pub sign-end : word_end s a ≡ word_end s b
   sign-end = go (eqb (get_or s a 0) 45) sign
     where
-      go : (t : Bool) → b ≡ cond t (a + 1) a → word_end_lem s a ≡ word_end_lem s b
-      go true e = end-byte s a h first ∙ ap (word_end_lem s) (sym e)
-      go false e = ap (word_end_lem s) (sym e)
+      go : (t : Bool) → b ≡ cond t (a + 1) a → word_end s a ≡ word_end s b
+      go true e = end-byte s a h first ∙ ap (word_end s) (sym e)
+      go false e = ap (word_end s) (sym e)
 
   module _ (v d : ℕ) (w : DigitsFrom s b 9 v d) where
-    word_end_lem : word_end_lem s a ≡ word_end_lem s d
+    word_end_lem : word_end s a ≡ word_end s d
     word_end_lem = sign-end ∙ end-digits s b 9 d (sign-within s a b h sign) w.ends
 
-    at : number_at s a (word_end_lem s a) ≡ whole_and_decimals s (word_end_lem s a) (ltb a b) b d
-    at = number-at s a (word_end_lem s a) b d sign w.ends
+    at : number_at s a (word_end s a) ≡ whole_and_decimals s (word_end s a) (ltb a b) b d
+    at = number-at s a (word_end s a) b d sign w.ends
 
     pub point-within : get_or s d 0 ≡ 46 → d + 1 ≤ length s
     point-within z = omega (arith, byte-within s d (λ n. omega arith))
 
-    pub form-none : d ≡ b → Parsed (word_end_lem s a) (number_at s a (word_end_lem s a)) (F.Malformed d)
+    pub form-none : d ≡ b → Parsed (word_end s a) (number_at s a (word_end s a)) (F.Malformed d)
     form-none z = record { is = sym (at ∙ rw (eq-eqb d b z)); ends = tt }
 
     module _ (some : d ≡ b → ⊥) where
-      pub form-point : get_or s d 0 ≡ 46 → (r : Form) → Parsed (word_end_lem s (d + 1)) (decimals s (word_end_lem s (d + 1)) (ltb a b) (v * 100) (d + 1)) r
-          → Parsed (word_end_lem s a) (number_at s a (word_end_lem s a)) r
+      pub form-point : get_or s d 0 ≡ 46 → (r : Form) → Parsed (word_end s (d + 1)) (decimals s (word_end s (d + 1)) (ltb a b) (v * 100) (d + 1)) r
+          → Parsed (word_end s a) (number_at s a (word_end s a)) r
       form-point z r m =
-          let e : word_end_lem s a ≡ word_end_lem s (d + 1) = word_end_lem ∙ end-byte s d (omega (arith, point-within z)) (rw z) in
-          let is : decimals s (word_end_lem s a) (ltb a b) (value s d b (d - b) * 100) (d + 1) ≡ number_at s a (word_end_lem s a) = sym (at ∙ rw (ne_eqb d b some, eq-eqb (get_or s d 0) 46 z)) in
-          subst (λ (j : ℕ). Parsed j (number_at s a (word_end_lem s a)) r) (sym e)
+          let e : word_end s a ≡ word_end s (d + 1) = word_end_lem ∙ end-byte s d (omega (arith, point-within z)) (rw z) in
+          let is : decimals s (word_end s a) (ltb a b) (value s d b (d - b) * 100) (d + 1) ≡ number_at s a (word_end s a) = sym (at ∙ rw (ne_eqb d b some, eq-eqb (get_or s d 0) 46 z)) in
+          subst (λ (j : ℕ). Parsed j (number_at s a (word_end s a)) r) (sym e)
           (record { is = m.is ∙ rw (← e, w.is) is; ends = m.ends })
 
       module _ (z : get_or s d 0 ≡ 46 → ⊥) where
-        pub form-off : eqb d (word_end_lem s d) ≡ false → Parsed (word_end_lem s a) (number_at s a (word_end_lem s a)) (F.Malformed d)
+        pub form-off : eqb d (word_end s d) ≡ false → Parsed (word_end s a) (number_at s a (word_end s a)) (F.Malformed d)
         form-off t = record { is = sym (at ∙ rw (ne_eqb d b some, ne_eqb (get_or s d 0) 46 z, word_end_lem, t)); ends = tt }
 
-        pub form-on : eqb d (word_end_lem s d) ≡ true → Parsed (word_end_lem s a) (number_at s a (word_end_lem s a)) (F.Number (ltb a b) (v * 100) false d)
+        pub form-on : eqb d (word_end s d) ≡ true → Parsed (word_end s a) (number_at s a (word_end s a)) (F.Number (ltb a b) (v * 100) false d)
         form-on t =
             record {
               is = sym (at ∙ rw (ne_eqb d b some, ne_eqb (get_or s d 0) 46 z, word_end_lem, t, w.is));
-              ends = (eqb-true d (word_end_lem s d) t ∙ sym word_end_lem, omega (arith, w.small));
+              ends = (eqb-true d (word_end s d) t ∙ sym word_end_lem, omega (arith, w.small));
             }

@@ -11,7 +11,7 @@ use borrow.Author.Tests.{lt-ltb, le-ltb}
 use lib.Dec.{lit<}
 use lib.ListN.{length, get_or}
 use Rattle.text.specs.Words.{run}
-use Rattle.text.specs.Numbers.{digit, digit_of, digit_at_lem, value}
+use Rattle.text.specs.Numbers.{digit, digit_of, digit_at, value}
 use Rattle.text.specs.InnerNumbers.{Limit, DigitsFrom, HundredthsFrom}
 use Rattle.text.proofs.Bytes.{digit-range}
 use Rattle.text.proofs.InnerRuns.{Along, along-none, along-more, along-stop, along-end}
@@ -24,13 +24,13 @@ digit-small b = go (digit b) refl
     go false e = omega arith
 
 module _ (s : List ℕ) where
-  digit_at_lem : (e i : ℕ) → i < e → digit_at_lem s e i ≡ digit_of (get_or s i 0)
+  digit_at_lem : (e i : ℕ) → i < e → digit_at s e i ≡ digit_of (get_or s i 0)
   digit_at_lem e i h = rw (lt-ltb i e h)
 
-  digit-past : (e i : ℕ) → e ≤ i → digit_at_lem s e i ≡ 0
+  digit-past : (e i : ℕ) → e ≤ i → digit_at s e i ≡ 0
   digit-past e i h = rw (le-ltb i e h)
 
-  digit-at-small : (e i : ℕ) → digit_at_lem s e i ≤ 9
+  digit-at-small : (e i : ℕ) → digit_at s e i ≤ 9
   digit-at-small e i =
       elim (dec_lt i e) [ yes h ↦ rw (digit_at_lem e i h) (digit-small (get_or s i 0)) | no f ↦ rw (digit-past e i (omega arith)) (omega arith) ]
 
@@ -38,7 +38,7 @@ module _ (s : List ℕ) where
   unfolding value
   value_none e i = refl
 
-  value-more : (e i n : ℕ) → value s e i (n + 1) ≡ value s e i n * 10 + digit_at_lem s e (i + n)
+  value-more : (e i n : ℕ) → value s e i (n + 1) ≡ value s e i n * 10 + digit_at s e (i + n)
   unfolding value
   value-more e i n = rw (add-one n, value)
 
@@ -73,11 +73,11 @@ module _ (s : List ℕ) (a most : ℕ) where
         let q : i + 1 - a ≡ i - a + 1 = omega arith in
         let r : a + (i - a) ≡ i = omega arith in
         let wide = value-wider s i (i + 1) a (i - a) (omega arith) (omega arith) in
-        let last = ap (digit_at_lem s (i + 1)) r ∙ digit_at_lem s (i + 1) i (omega arith) in
+        let last = ap (digit_at s (i + 1)) r ∙ digit_at_lem s (i + 1) i (omega arith) in
         record {
           along = along-more digit s a most i l h k t;
           is = sym (ap (value s (i + 1) a) q ∙ value-more s (i + 1) a (i - a)
-              ∙ ap (λ (x : ℕ). x * 10 + digit_at_lem s (i + 1) (a + (i - a))) (sym (w.is ∙ wide))
+              ∙ ap (λ (x : ℕ). x * 10 + digit_at s (i + 1) (a + (i - a))) (sym (w.is ∙ wide))
               ∙ ap (λ (x : ℕ). v * 10 + x) (last ∙ sym e));
         }
 

@@ -1,0 +1,22 @@
+-- `text::ranges::first_bad` meets its contract. Assumes nothing.
+use mathlib.Core.Path.{◌≡◌, sym, ap, ◌∙◌}
+use Prim.Native.Nat.{◌-◌}
+use native.Mathlib.Omega.{arith}
+use lib.ListN.{get_or}
+use lib.IntN.{pos}
+use mir.Syntax.{w32}
+use mir.Val.{to_z, of_z}
+use borrow.Author.Tests.{not-true}
+use borrow.Author.Rules.{rules}
+use Rattle.text.specs.Ranges.{height_accepted}
+use Rattle.text.proofs.InnerTested.{first-bad, all-good}
+use Rattle.text.proofs.ranges.first_bad.Goals as goal
+
+pub returns-then-not-is_height : goal.returns-then-not-is_height
+returns-then-not-is_height c =
+    let z = get_or c.args.heights.now c.loop-x.x (pos 0) in
+    let e : to_z w32 (of_z w32 z) ≡ z = search rules in
+    first-bad c.args.heights.now c.loop-x.x c.loop-x-test.true c.loop-x.invariant.1 (sym (not-true c.is_height.result c.if-not-is_height.true) ∙ c.is_height.ensures ∙ ap height_accepted e)
+
+pub returns : goal.returns
+returns c = all-good c.args.heights.now c.loop-x.x (omega arith) c.loop-x.invariant.1
