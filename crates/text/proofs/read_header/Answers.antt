@@ -15,7 +15,11 @@ unfolding header
 head-answers s x e = (ap (λ (y : Step Head). header_outcome (after y (λ h. give h.header) s)) e, ap corners_outcome e)
 
 pub returns-in-NoHead : goal.returns-in-NoHead
-returns-in-NoHead c = head-answers _ _ (sym (ap headed_of c.in-NoHead.is) ∙ c.read-h.ensures.0)
+returns-in-NoHead c =
+    let e = head-answers _ _ (sym (ap headed_of c.in-NoHead.is) ∙ c.read-h.ensures.0) in
+    record { answers = e.0; corners = e.1 }
 
 pub returns-in-Head : goal.returns-in-Head
-returns-in-Head c = head-answers _ _ (sym (ap headed_of c.in-Head.is) ∙ c.read-h.ensures.0)
+returns-in-Head c =
+    let e = head-answers _ _ (sym (ap headed_of c.in-Head.is) ∙ c.read-h.ensures.0) in
+    record { answers = e.0; corners = e.1 }

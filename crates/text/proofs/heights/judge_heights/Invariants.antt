@@ -7,7 +7,7 @@ use Rattle.text.specs.InnerHeights.{forget}
 use Rattle.text.proofs.heights.judge_heights.Given as goal
 
 abbrev pub invariant-loop-left : goal.invariant-loop-left
-invariant-loop-left l = forget (heights (to_z w64 l.n) l.count l.s l.initial.at) ≡ forget (heights (to_z w64 l.n) l.left l.s l.at)
+invariant-loop-left l = forget (heights l.n l.count l.s l.initial.at) ≡ forget (heights l.n l.left l.s l.at)
 
 abbrev pub decreases-loop-left : goal.decreases-loop-left
 decreases-loop-left l = l.left

@@ -10,7 +10,7 @@ use Rattle.text.proofs.InnerGrids.{Storing}
 use Rattle.text.proofs.heights.store_heights.Given as goal
 
 abbrev pub invariant-loop-i : goal.invariant-loop-i
-invariant-loop-i l = (length l.out ≡ length l.initial.out) × (l.i ≤ length l.out) × Storing (to_z w64 l.n) l.s (values_of (heights (to_z w64 l.n) (length l.initial.out) l.s l.initial.at)) l.at l.i l.out
+invariant-loop-i l = (length l.out ≡ length l.initial.out) × (l.i ≤ length l.out) × Storing l.n l.s (values_of (heights l.n (length l.initial.out) l.s l.initial.at)) l.at l.i l.out
 
 abbrev pub decreases-loop-i : goal.decreases-loop-i
 decreases-loop-i l = length l.out - l.i

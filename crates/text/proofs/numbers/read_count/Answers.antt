@@ -21,14 +21,14 @@ pub returns-then-not-ends : goal.returns-then-not-ends
 returns-then-not-ends c =
     (
       c.malformed_count-then-not-ends.ensures.0 ∙ count-off _ _ _ c.word_start-a.ensures c.if-s-a.false _ _ c.read_digits-d.ensures c.if-e-a.false
-          (sym c.ends.ensures ∙ not-true _ c.if-not-ends.true),
+          (sym c.ends.ensures ∙ c.if-not-ends.true),
       c.malformed_count-then-not-ends.ensures.1,
     )
 
 pub returns-then-n-lt1 : goal.returns-then-n-lt1
 returns-then-n-lt1 c =
     (
-      count_low _ _ _ c.word_start-a.ensures c.if-s-a.false _ _ c.read_digits-d.ensures c.if-e-a.false (sym c.ends.ensures ∙ not-false _ c.if-not-ends.false)
+      count_low _ _ _ c.word_start-a.ensures c.if-s-a.false _ _ c.read_digits-d.ensures c.if-e-a.false (sym c.ends.ensures ∙ c.if-not-ends.false)
           c.if-n-lt1.true,
       tt,
     )
@@ -36,7 +36,7 @@ returns-then-n-lt1 c =
 pub returns-then-n-gt1024 : goal.returns-then-n-gt1024
 returns-then-n-gt1024 c =
     (
-      count-high _ _ _ c.word_start-a.ensures c.if-s-a.false _ _ c.read_digits-d.ensures c.if-e-a.false (sym c.ends.ensures ∙ not-false _ c.if-not-ends.false)
+      count-high _ _ _ c.word_start-a.ensures c.if-s-a.false _ _ c.read_digits-d.ensures c.if-e-a.false (sym c.ends.ensures ∙ c.if-not-ends.false)
           c.if-n-lt1.false c.if-n-gt1024.true,
       tt,
     )
@@ -44,7 +44,7 @@ returns-then-n-gt1024 c =
 pub returns : goal.returns
 returns c =
     (
-      count-on _ _ _ c.word_start-a.ensures c.if-s-a.false _ _ c.read_digits-d.ensures c.if-e-a.false (sym c.ends.ensures ∙ not-false _ c.if-not-ends.false)
+      count-on _ _ _ c.word_start-a.ensures c.if-s-a.false _ _ c.read_digits-d.ensures c.if-e-a.false (sym c.ends.ensures ∙ c.if-not-ends.false)
           c.if-n-lt1.false c.if-n-gt1024.false,
       c.if-n-gt1024.false,
     )

@@ -15,5 +15,5 @@ returns-in-NoNumber c = measure-none _ _ _ c.number-n.ensures.0 _ c.in-NoNumber.
 
 pub returns-else-x : goal.returns-else-x
 returns-else-x c =
-    ap (λ (z : ℤ). got (record { place = c.in-Number.x.start; is = z }) c.in-Number.x.rest.at) (to_z-of_z {w = w64} (record { sfits = c.signed.type-inv }) ∙ c.signed.ensures)
+    ap (λ (z : ℤ). got (record { place = c.in-Number.x.start; is = z }) c.in-Number.x.rest.at) (to_z-of_z {w = w64} (record { sfits = c.signed.type_inv }) ∙ c.signed.ensures)
     ∙ measure-on _ _ _ c.number-n.ensures.0 _ c.in-Number.is c.if-x.false

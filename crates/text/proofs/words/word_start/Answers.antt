@@ -11,10 +11,10 @@ unfolding word_start
 loop-i-init c = refl
 
 pub returns-then-not-is_blank : goal.returns-then-not-is_blank
-returns-then-not-is_blank c = sym (c.loop-i.invariant ∙ run-stop blank _ _ _ (sym c.is_blank.ensures ∙ not-true _ c.if-not-is_blank.true))
+returns-then-not-is_blank c = sym (c.loop-i.invariant ∙ run-stop blank _ _ _ (sym c.is_blank.ensures ∙ c.if-not-is_blank.true))
 
 pub loop-i-preserved : goal.loop-i-preserved
-loop-i-preserved c = c.loop-i.invariant ∙ run_step blank _ _ _ c.loop-i-test.true (sym c.is_blank.ensures ∙ not-false _ c.if-not-is_blank.false)
+loop-i-preserved c = c.loop-i.invariant ∙ run_step blank _ _ _ c.loop-i-test.true (sym c.is_blank.ensures ∙ c.if-not-is_blank.false)
 
 pub returns : goal.returns
 returns c = sym (c.loop-i.invariant ∙ run_end blank _ _ _ c.loop-i-test.false)
