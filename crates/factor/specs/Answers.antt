@@ -1,6 +1,6 @@
 -- RULES 3 and 7.2 to 7.4: what the map call answers, and what each lent grid holds afterwards; and the tests 1 to 4 by themselves. Assumes nothing.
 use Rattle.std.specs.Prelude.{List, [], ◌∷◌, ◌++◌, ◌≡◌, Bool, true, false, cond, ℕ, ◌*◌, length, replicate, ℤ}
-use Rattle.std.specs.Borrow.{MutBor}
+use Rattle.std.specs.Borrow.{Bor}
 use Rattle.laws.specs.Slices.{Slice}
 use Rattle.laws.specs.Tests.{Test, passed, failed, verdict}
 use Rattle.text.specs.Ranges.{size_test, length_test, side_test, height_test}
@@ -36,17 +36,17 @@ lent filled direction count lengths factors workspace =
     record { filled = filled; direction = direction; count = count; lengths = lengths; factors = factors; workspace = workspace }
 
 -- the lent slices together: as they stand, as they are at the call, and as they are at the return
-abbrev pub lent_at : MutBor (List ℤ) → MutBor (List ℕ) → MutBor (List ℕ) → MutBor (List ℕ) → MutBor (List ℕ) → MutBor (List ℕ) → Grids
+abbrev pub lent_at : Bor (List ℤ) → Bor (List ℕ) → Bor (List ℕ) → Bor (List ℕ) → Bor (List ℕ) → Bor (List ℕ) → Grids
 lent_at filled direction count lengths factors workspace =
     lent filled.now direction.now count.now lengths.now factors.now workspace.now
 
 abbrev pub lent_before : Slice ℤ → Slice ℕ → Slice ℕ → Slice ℕ → Slice ℕ → Slice ℕ → Grids
 lent_before filled direction count lengths factors workspace =
-    lent_at filled.entry direction.entry count.entry lengths.entry factors.entry workspace.entry
+    lent filled.entry.now direction.entry.now count.entry.now lengths.entry.now factors.entry.now workspace.entry.now
 
 abbrev pub lent_after : Slice ℤ → Slice ℕ → Slice ℕ → Slice ℕ → Slice ℕ → Slice ℕ → Grids
 lent_after filled direction count lengths factors workspace =
-    lent_at filled.exit direction.exit count.exit lengths.exit factors.exit workspace.exit
+    lent filled.exit.now direction.exit.now count.exit.now lengths.exit.now factors.exit.now workspace.exit.now
 
 -- how many places the ground and each lent grid have
 abbrev pub places_of : List ℤ → Grids → List ℕ

@@ -1,6 +1,6 @@
 -- RULES 3 and 7.2: what terrain's call answers, and what each lent grid holds afterwards. Assumes nothing.
 use Rattle.std.specs.Prelude.{◌≡◌, ℕ, ◌*◌, Bool, true, false, cond, ◌||◌, List, [], ◌∷◌, ◌++◌, length, replicate, ℤ, ◌==◌}
-use Rattle.std.specs.Borrow.{MutBor}
+use Rattle.std.specs.Borrow.{Bor}
 use Rattle.laws.specs.Slices.{Slice}
 use Rattle.laws.specs.Tests.{Test, passed, failed, verdict}
 use Rattle.text.specs.Ranges.{size_test, length_test, height_test}
@@ -29,14 +29,14 @@ abbrev pub lent : List ℤ → List ℕ → List ℕ → List ℕ → List ℕ �
 lent filled direction count falls workspace = record { filled = filled; direction = direction; count = count; falls = falls; workspace = workspace }
 
 -- as they stand, as they are at the call, and as they are at the return
-abbrev pub lent_at : MutBor (List ℤ) → MutBor (List ℕ) → MutBor (List ℕ) → MutBor (List ℕ) → MutBor (List ℕ) → Grids
+abbrev pub lent_at : Bor (List ℤ) → Bor (List ℕ) → Bor (List ℕ) → Bor (List ℕ) → Bor (List ℕ) → Grids
 lent_at filled direction count falls workspace = lent filled.now direction.now count.now falls.now workspace.now
 
 abbrev pub lent_before : Slice ℤ → Slice ℕ → Slice ℕ → Slice ℕ → Slice ℕ → Grids
-lent_before filled direction count falls workspace = lent_at filled.entry direction.entry count.entry falls.entry workspace.entry
+lent_before filled direction count falls workspace = lent filled.entry.now direction.entry.now count.entry.now falls.entry.now workspace.entry.now
 
 abbrev pub lent_after : Slice ℤ → Slice ℕ → Slice ℕ → Slice ℕ → Slice ℕ → Grids
-lent_after filled direction count falls workspace = lent_at filled.exit direction.exit count.exit falls.exit workspace.exit
+lent_after filled direction count falls workspace = lent filled.exit.now direction.exit.now count.exit.now falls.exit.now workspace.exit.now
 
 -- how many places the ground and each lent grid have
 abbrev pub places_of : List ℤ → Grids → List ℕ

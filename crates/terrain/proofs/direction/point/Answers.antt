@@ -1,0 +1,14 @@
+-- `terrain::direction::point` meets its contract. Assumes nothing.
+use Rattle.std.proofs.Common.{◌∙◌}
+use Rattle.terrain.proofs.InnerPointing.{down-codes, down-falls, down-starts}
+use Rattle.terrain.proofs.Dropping.{falls-written}
+use Rattle.terrain.proofs.direction.point.Goals as goal
+
+pub measure-requires : goal.measure-requires
+measure-requires c = (c.requires.0, down-starts (c.point_down.auto.steps ∙ c.requires.3) c.point_down.ensures)
+
+pub point_flats-requires : goal.point_flats-requires
+point_flats-requires c = (c.requires.0, c.measure.ensures, down-codes (c.point_down.kept.1.1.1.0 ∙ c.requires.1) c.point_down.ensures)
+
+pub returns : goal.returns
+returns c = (c.point_flats.ensures, down-falls (c.point_down.kept.1.1.1.1.0 ∙ c.requires.2) c.point_down.ensures ∙ falls-written c.args.rows c.args.columns c.args.level.now)

@@ -1,0 +1,19 @@
+-- `terrain::direction::point_run` meets its contract. Assumes nothing.
+use Rattle.std.proofs.Common.{◌-◌, arith, length-set}
+use Rattle.terrain.proofs.InnerStepping.{start-told}
+use Rattle.terrain.proofs.InnerPointing.{down-more}
+use Rattle.terrain.proofs.direction.point_run.Goals as goal
+
+pub loop-x-preserved : goal.loop-x-preserved
+loop-x-preserved c =
+    let t = c.requires in
+    let a = c.args in
+    (
+      rw length-set c.loop-x.invariant.0,
+      rw length-set c.loop-x.invariant.1,
+      rw length-set c.loop-x.invariant.2,
+      omega arith,
+      omega arith,
+      down-more (omega (arith, c.loop-x.invariant.0, t.2, t.1.within)) (omega (arith, c.loop-x.invariant.1, t.3, t.1.within)) (omega (arith, c.loop-x.invariant.2, t.4, t.1.within)) c.loop-x.invariant.5 c.fall_at-fall.ensures
+          (start-told a.rows a.columns a.level.now c.loop-x.x c.fall_at-fall.ensures.code c.is_open.ensures c.start_steps.ensures),
+    )
