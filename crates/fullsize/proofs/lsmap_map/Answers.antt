@@ -13,18 +13,11 @@ returns c =
     let formulas = one_formula a.formula in
     let accepted = accepts-of a.rows a.columns a.side (one c.settings_of-settings.result) formulas c.source_of-source.result a.elevation.now ((lent c.args.filled.now c.args.direction.now c.args.count.now c.args.lengths.now c.args.factors.now c.args.workspace.now))
     (λ P h. one_number P a.formula h) c.hand_out_mapping.ensures c.map-answer.ensures.answers in
-    let all = (
-      answers_of a.rows a.columns a.side formulas a.elevation.now ((lent c.args.filled.now c.args.direction.now c.args.count.now c.args.lengths.now c.args.factors.now c.args.workspace.now)) (ap one c.settings_of-settings.ensures) c.source_of-source.ensures c.hand_out_mapping.ensures c.map-answer.ensures.answers,
-      (
-        leaves_of a.rows a.columns a.side formulas a.elevation.now ((lent c.args.filled.now c.args.direction.now c.args.count.now c.args.lengths.now c.args.factors.now c.args.workspace.now)) (ap one c.settings_of-settings.ensures) c.source_of-source.ensures c.map-answer.ensures.leaves,
-        (
-          (λ z. c.map-answer.ensures.trails (accepted z)),
-          (
-            (λ z. totals-of a.rows a.columns a.side (one c.settings_of-settings.result) formulas c.source_of-source.result a.elevation.now
-                ((lent c.args.filled.now c.args.direction.now c.args.count.now c.args.lengths.now c.args.factors.now c.args.workspace.now)) (λ P h. one_number P a.formula h) c.hand_out_mapping.ensures c.map-answer.ensures.answers z (c.map-answer.ensures.totals (accepted z))),
-            (λ z. c.map-answer.ensures.surface (accepted z)),
-          ),
-        ),
-      ),
-    ) in
-    record { answers = all.0; leaves = all.1.0; trails = all.1.1.0; totals = all.1.1.1.0; surface = all.1.1.1.1 }
+    record {
+      answers = answers_of a.rows a.columns a.side formulas a.elevation.now ((lent c.args.filled.now c.args.direction.now c.args.count.now c.args.lengths.now c.args.factors.now c.args.workspace.now)) (ap one c.settings_of-settings.ensures) c.source_of-source.ensures c.hand_out_mapping.ensures c.map-answer.ensures.answers;
+      leaves = leaves_of a.rows a.columns a.side formulas a.elevation.now ((lent c.args.filled.now c.args.direction.now c.args.count.now c.args.lengths.now c.args.factors.now c.args.workspace.now)) (ap one c.settings_of-settings.ensures) c.source_of-source.ensures c.map-answer.ensures.leaves;
+      trails = (λ z. c.map-answer.ensures.trails (accepted z));
+      totals = (λ z. totals-of a.rows a.columns a.side (one c.settings_of-settings.result) formulas c.source_of-source.result a.elevation.now
+                ((lent c.args.filled.now c.args.direction.now c.args.count.now c.args.lengths.now c.args.factors.now c.args.workspace.now)) (λ P h. one_number P a.formula h) c.hand_out_mapping.ensures c.map-answer.ensures.answers z (c.map-answer.ensures.totals (accepted z)));
+      surface = (λ z. c.map-answer.ensures.surface (accepted z));
+    }
