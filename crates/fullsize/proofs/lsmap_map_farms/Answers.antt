@@ -22,6 +22,6 @@ returns c =
       leaves = leaves_of a.rows a.columns a.side formulas a.elevation.now (lent c.args.filled.now c.args.direction.now c.args.count.now c.args.lengths.now c.args.factors.now c.args.workspace.now) same c.source_of-source.ensures c.map-answer.ensures.leaves;
       trails = (λ z. c.map-answer.ensures.trails (accepted z));
       totals = (λ z. totals-of a.rows a.columns a.side farms formulas c.source_of-source.result a.elevation.now (lent c.args.filled.now c.args.direction.now c.args.count.now c.args.lengths.now c.args.factors.now c.args.workspace.now)
-                (λ P h. two-number a.formula a.formula1 P h) c.hand_out_mapping.ensures c.map-answer.ensures.answers z (c.map-answer.ensures.totals (accepted z)));
+          (λ P h. two-number a.formula a.formula1 P h) c.hand_out_mapping.ensures c.map-answer.ensures.answers z (c.map-answer.ensures.totals (accepted z)));
       surface = (λ z. c.map-answer.ensures.surface (accepted z));
     }

@@ -20,7 +20,7 @@ returns-then-place-gt0 c =
       answers = two-answers a.rows a.columns a.side a.first a.second a.marks.now a.formula a.formula1 a.source a.elevation.now
           (lent c.args.filled.now c.args.direction.now c.args.count.now c.args.lengths.now c.args.factors.now c.args.workspace.now) h c.judge_farms-judgement.ensures e;
       leaves = two-leaves a.rows a.columns a.side a.first a.second a.marks.now a.formula a.formula1 a.source a.elevation.now
-            (lent c.args.filled.now c.args.direction.now c.args.count.now c.args.lengths.now c.args.factors.now c.args.workspace.now) h c.judge_farms-judgement.ensures;
+          (lent c.args.filled.now c.args.direction.now c.args.count.now c.args.lengths.now c.args.factors.now c.args.workspace.now) h c.judge_farms-judgement.ensures;
       trails = (λ z. absurd (true≢false (sym z)));
       totals = (λ z. absurd (true≢false (sym z)));
       surface = (λ z. absurd (true≢false (sym z)));
@@ -34,7 +34,7 @@ returns c =
     record {
       answers = answer-is a.rows a.columns a.side farms (two_formulas a.formula a.formula1) a.source a.elevation.now (lent c.args.filled.now c.args.direction.now c.args.count.now c.args.lengths.now c.args.factors.now c.args.workspace.now) passes c.map_farms.ensures.answers;
       leaves = after_is a.rows a.columns a.side farms (two_formulas a.formula a.formula1) a.source a.elevation.now (lent c.args.filled.now c.args.direction.now c.args.count.now c.args.lengths.now c.args.factors.now c.args.workspace.now) passes
-            c.map_farms.ensures.leaves;
+          c.map_farms.ensures.leaves;
       trails = c.map_farms.ensures.trails;
       totals = c.map_farms.ensures.totals;
       surface = c.map_farms.ensures.surface;

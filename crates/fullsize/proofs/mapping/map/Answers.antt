@@ -12,7 +12,7 @@ returns-then-formula-gt1 c =
     record {
       answers = one-answers a.rows a.columns a.side a.settings a.formula a.source a.elevation.now (lent c.args.filled.now c.args.direction.now c.args.count.now c.args.lengths.now c.args.factors.now c.args.workspace.now) c.if-formula-gt1.true c.judge-judgement.ensures c.without_formula.ensures;
       leaves = none-leaves a.rows a.columns a.side (one a.settings) (one_formula a.formula) a.source a.elevation.now (lent c.args.filled.now c.args.direction.now c.args.count.now c.args.lengths.now c.args.factors.now c.args.workspace.now)
-            (one-fails a.formula c.if-formula-gt1.true) c.judge-judgement.ensures.verdict-is;
+          (one-fails a.formula c.if-formula-gt1.true) c.judge-judgement.ensures.verdict-is;
       trails = (λ z. absurd (none-accepted c.judge-judgement.result c.without_formula.ensures z));
       totals = (λ z. absurd (none-accepted c.judge-judgement.result c.without_formula.ensures z));
       surface = (λ z. absurd (none-accepted c.judge-judgement.result c.without_formula.ensures z));
