@@ -8,7 +8,7 @@ pub measure-requires : goal.measure-requires
 measure-requires c = (c.requires.0, down-starts (c.point_down.auto.steps ∙ c.requires.3) c.point_down.ensures)
 
 pub point_flats-requires : goal.point_flats-requires
-point_flats-requires c = (c.requires.0, c.measure.ensures, down-codes (c.point_down.kept.1.1.1.0 ∙ c.requires.1) c.point_down.ensures)
+point_flats-requires c = (c.requires.0, c.measure.ensures, down-codes (c.point_down.auto.direction ∙ c.requires.1) c.point_down.ensures)
 
 pub returns : goal.returns
-returns c = (c.point_flats.ensures, down-falls (c.point_down.kept.1.1.1.1.0 ∙ c.requires.2) c.point_down.ensures ∙ falls-written c.args.rows c.args.columns c.args.level.now)
+returns c = (c.point_flats.ensures, down-falls (c.point_down.auto.falls ∙ c.requires.2) c.point_down.ensures ∙ falls-written c.args.rows c.args.columns c.args.level.now)

@@ -7,9 +7,9 @@ use Rattle.terrain.proofs.direction.point_down.Goals as goal
 pub loop-x-preserved : goal.loop-x-preserved
 loop-x-preserved c =
     let a = c.args in
-    let long = c.point_run.kept.1.1.1.0 ∙ c.loop-x.invariant.0 in
-    let falls-long = c.point_run.kept.1.1.1.1.0 ∙ c.loop-x.invariant.1 in
-    let steps-long = c.point_run.kept.1.1.1.1.1.0 ∙ c.loop-x.invariant.2 in (
+    let long = c.point_run.auto.direction ∙ c.loop-x.invariant.0 in
+    let falls-long = c.point_run.auto.falls ∙ c.loop-x.invariant.1 in
+    let steps-long = c.point_run.auto.steps ∙ c.loop-x.invariant.2 in (
       rw length-set long,
       rw length-set falls-long,
       rw length-set steps-long,

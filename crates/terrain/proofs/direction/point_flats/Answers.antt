@@ -5,6 +5,7 @@ use Rattle.terrain.specs.InnerFlats.{StepsKept}
 use Rattle.terrain.specs.Direction.{nearer_at}
 use Rattle.terrain.proofs.InnerPointing.{nearer-told, nearer-none, nearer-found, point-none, point-flat, point-kept, point-all, given-kept}
 use Rattle.terrain.proofs.InnerWading.{steps-flat, flat_near, flat-beside, flat-is-beside}
+use Rattle.terrain.proofs.direction.point_flats.Goals.{then-steps-x-gt0, else-steps-x-gt0, then-k-ge8, else-k-ge8+then-is_nearer}
 use Rattle.terrain.proofs.direction.point_flats.Goals as goal
 
 pub loop-x-init : goal.loop-x-init
@@ -47,18 +48,18 @@ loop-x-preserved c =
     let a = c.args in
     let k = kept in
     let l : c.loop-x.x < a.rows * a.columns = omega (arith, c.loop-x.invariant.0.long) in (
-      ⊎_elim
-          (λ w. point-flat c.loop-x.invariant.0 k l w.0.taken
-          (⊎_elim
-          (λ v. v.1 ∙ nearer-none a.rows a.columns a.level.now c.loop-x.x a.steps.now w.3.k w.3.inv.1 v.0.taken)
-          (λ v.
-          let is = flat-is-beside c.requires.0 c.loop-x.x w.3.k (flat w.0.taken) v.0.left in
-          v.5 ∙ v.4.ensures ∙ nearer-found a.rows a.columns a.level.now c.loop-x.x a.steps.now w.3.k w.3.inv.1 v.0.left
-          (sym (nearer-told a.rows a.columns a.level.now c.loop-x.x a.steps.now w.3.k (v.1.ensures ∙ is) w.0.taken v.2.ensures) ∙ v.3.taken))
-          w.4.came)
-          w.5)
-          (λ w. point-kept c.loop-x.invariant.0 k l w.0.left w.1)
-          c.if-steps-x-gt0.branch,
+      elim c.if-steps-x-gt0.branch [
+        | then-steps-x-gt0 w ↦ point-flat c.loop-x.invariant.0 k l w.if-steps-x-gt0.true
+          (elim w.if-k-ge8.branch [
+            | then-k-ge8 v ↦ v.code-is ∙ nearer-none a.rows a.columns a.level.now c.loop-x.x a.steps.now w.loop-k.k w.loop-k.invariant.1 v.if-k-ge8.true
+            | else-k-ge8+then-is_nearer v ↦ (
+              let is = flat-is-beside c.requires.0 c.loop-x.x w.loop-k.k (flat w.if-steps-x-gt0.true) v.if-k-ge8.false in
+              v.code-is ∙ v.code_of-code.ensures ∙ nearer-found a.rows a.columns a.level.now c.loop-x.x a.steps.now w.loop-k.k w.loop-k.invariant.1 v.if-k-ge8.false
+              (sym (nearer-told a.rows a.columns a.level.now c.loop-x.x a.steps.now w.loop-k.k (v.beside.ensures ∙ is) w.if-steps-x-gt0.true v.is_nearer.ensures) ∙ v.if-is_nearer.true))
+          ])
+          w.direction-is
+        | else-steps-x-gt0 w ↦ point-kept c.loop-x.invariant.0 k l w.if-steps-x-gt0.false w.direction-is
+      ],
       omega arith,
     )
 

@@ -5,6 +5,7 @@ use Rattle.laws.proofs.Settle.{sweep-more}
 use Rattle.terrain.specs.Flat.{flat_stepping}
 use Rattle.terrain.specs.InnerFlats.{Within}
 use Rattle.terrain.proofs.Flats.{flat-rule}
+use Rattle.terrain.proofs.flat.sweep.Goals.{then-lower, else-lower}
 use Rattle.terrain.proofs.flat.sweep.Goals as goal
 
 pub loop-x-preserved : goal.loop-x-preserved
@@ -12,6 +13,6 @@ loop-x-preserved c =
     let a = c.args in
     (
       sweep-more (flat_stepping a.rows a.columns a.level.now) (Within a.rows a.columns a.level.now) (flat-rule a.rows a.columns a.level.now c.requires.0.long) a.steps.now c.loop-x.steps c.loop-x.x c.loop-x.lowered c.if-lower.lowered c.lower.result _ c.loop-x.invariant.0 c.lower.ensures.told c.lower.ensures.is
-          (⊎_elim (λ w. or_set c.loop-x.lowered c.if-lower.lowered c.lower.result w.1 w.0.taken) (λ w. or-keep c.loop-x.lowered c.if-lower.lowered c.lower.result w.1 w.0.left) c.if-lower.branch),
+          (elim c.if-lower.branch [ then-lower w ↦ or_set c.loop-x.lowered c.if-lower.lowered c.lower.result w.lowered-is w.if-lower.true | else-lower w ↦ or-keep c.loop-x.lowered c.if-lower.lowered c.lower.result w.lowered-is w.if-lower.false ]),
       omega (arith, c.loop-x.invariant.0.eased.long),
     )

@@ -12,7 +12,7 @@ loop-at-preserved c =
       c.spread-end.auto.steps ∙ c.loop-at.invariant.0,
       c.spread-end.auto.queue ∙ c.loop-at.invariant.1,
       omega (arith, (c.spread-end.ensures c.requires.0 c.requires.1 _ c.requires.2 t).fits, c.spread-end.auto.queue, c.loop-at.invariant.1),
-      λ rows lv l c. c.spread-end.ensures rows lv _ l (wading-take l (c.loop-at.invariant.3 rows lv l c) c.loop-at-test.true c.cell_in-x.ensures),
+      λ rows lv l s. c.spread-end.ensures rows lv _ l (wading-take l (c.loop-at.invariant.3 rows lv l s) c.loop-at-test.true c.cell_in-x.ensures),
     )
 
 pub returns : goal.returns

@@ -9,7 +9,7 @@ unfolding first_broken
 returns-then-not-is_kept c =
     let here : c.loop-x.x < c.args.rows * c.args.columns = omega (arith, c.requires.1) in
     let a = c.args in
-    sym (first-is (λ x. not (kept_at a.rows a.columns a.level.now a.direction.now x)) (a.rows * a.columns) c.loop-x.x c.loop-x.invariant.1 here (ap not (sym c.is_kept.ensures) ∙ c.if-not-is_kept.true))
+    sym (first-is (λ x. not (kept_at a.rows a.columns a.level.now a.direction.now x)) (a.rows * a.columns) c.loop-x.x c.loop-x.invariant.1 here (ap not (sym c.is_kept.ensures ∙ c.if-not-is_kept.true)))
 
 pub returns : goal.returns
 unfolding first_broken

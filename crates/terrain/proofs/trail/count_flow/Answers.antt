@@ -13,14 +13,14 @@ receiver-y-requires c = (c.requires.0.drawn, place-valid c.requires.0.drawn c.re
 pub hand_on-requires : goal.hand_on-requires
 hand_on-requires c =
     (
-      omega (arith, place-cell c.requires.0.drawn {c.loop-place = c.loop-place.place} c.requires.1 (omega arith) refl, c.loop-place.invariant.0.long),
+      omega (arith, place-cell c.requires.0.drawn {p = c.loop-place.place} c.requires.1 (omega arith) refl, c.loop-place.invariant.0.long),
       (λ h. omega (arith, pass_fits c.requires.0 c.requires.1 c.loop-place.invariant.0 (omega arith) refl c.receiver-y.ensures (omega (arith, c.loop-place.invariant.0.long)), c.requires.0.drawn.sized.small)),
     )
 
 pub loop-place-preserved : goal.loop-place-preserved
 loop-place-preserved c =
     let on = pass_step c.requires.0 c.requires.1 c.loop-place.invariant.0 (omega arith) refl c.receiver-y.ensures in
-    (subst (λ (c : List ℕ). Passing c.args.rows c.args.columns c.args.direction.now c.args.order.now c (c.loop-place.place + 1)) (sym c.hand_on.ensures) on, omega arith)
+    (subst (λ (l : List ℕ). Passing c.args.rows c.args.columns c.args.direction.now c.args.order.now l (c.loop-place.place + 1)) (sym c.hand_on.ensures) on, omega arith)
 
 pub returns : goal.returns
 returns c = pass_all c.requires.0 c.requires.1 (omega (arith, c.loop-place.invariant.1)) c.loop-place.invariant.0

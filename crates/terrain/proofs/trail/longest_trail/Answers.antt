@@ -11,7 +11,7 @@ pub overflow_add-cells : goal.overflow_add-cells
 overflow_add-cells c = omega (arith, back-small c.requires.0 c.requires.1 c.loop-place.invariant.0 (omega arith) c.loop-place.invariant.1 refl c.receiver-y.ensures c.value_at-cells.ensures, c.requires.0.drawn.sized.small)
 
 pub bounds-workspace-x : goal.bounds-workspace-x
-bounds-workspace-x c = omega (arith, place-cell c.requires.0.drawn {c.loop-place = c.loop-place.place - 1} c.requires.1 (omega arith) refl, c.loop-place.invariant.0.long)
+bounds-workspace-x c = omega (arith, place-cell c.requires.0.drawn {p = c.loop-place.place - 1} c.requires.1 (omega arith) refl, c.loop-place.invariant.0.long)
 
 pub loop-place-preserved : goal.loop-place-preserved
 loop-place-preserved c = (back_more c.requires.0 c.requires.1 c.loop-place.invariant.0 (omega arith) c.loop-place.invariant.1 refl c.receiver-y.ensures c.value_at-cells.ensures c.larger-most.ensures, omega arith)
