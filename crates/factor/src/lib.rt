@@ -23,7 +23,7 @@ mod thresholds;
 ghost use Rattle.std.specs.Prelude.{◌≡◌, true, ◌*◌, length, replicate};
 ghost use Rattle.terrain.specs.Drainage.{Trails, Totals, Surface};
 ghost use Rattle.factor.specs.Farms.{Farms, one, two, of_farm};
-ghost use Rattle.factor.specs.Answers.{lent_at, lent_before, lent_after, answer, after, told, accepts};
+ghost use Rattle.factor.specs.Answers.{lent, lent_before, lent_after, answer, after, told, accepts};
 ghost use Rattle.factor.specs.Inner.{Passing, Promised};
 ghost use Rattle.factor.specs.InnerPass.{farm_by, Naming};
 
@@ -73,7 +73,7 @@ fn map_sound(
 ) -> Answer
     requires { ((farms : Farms) ×
         Passing rows columns side farms (λ x. of_farm first second (farm_by marks.now each x)) elevation.now
-        (lent_at filled direction count lengths factors workspace))
+        (lent filled.old direction.old count.old lengths.old factors.old workspace.old))
         × Naming (rows * columns) marks.now each }
     ensures { (farms : Farms) →
         Passing rows columns side farms (λ x. of_farm first second (farm_by marks.now each x)) elevation.now

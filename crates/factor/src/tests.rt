@@ -4,7 +4,7 @@ ghost use Rattle.laws.specs.Tests.{failed};
 ghost use Rattle.text.specs.Ranges.{all_long};
 ghost use Rattle.settings.specs.declared.Settings.{Settings};
 ghost use Rattle.factor.specs.Farms.{first_mark};
-ghost use Rattle.factor.specs.Answers.{lent_before, places_of, found, Judges, found_in, JudgesFarms, JudgesRest};
+ghost use Rattle.factor.specs.Answers.{lent_at, places_of, found, Judges, found_in, JudgesFarms, JudgesRest};
 
 use settings::{Judged, Rules, Settings};
 use text::Refusal;
@@ -36,7 +36,7 @@ fn are_long(
     factors: &[u32],
     workspace: &[u32],
 ) -> bool
-    ensures { result ≡ all_long cells (places_of elevation.now (lent_before filled direction count lengths factors workspace)) }
+    ensures { result ≡ all_long cells (places_of elevation.now (lent_at filled.entry direction.entry count.entry lengths.entry factors.entry workspace.entry)) }
 {
     (elevation.len() == cells)
         & (filled.len() == cells)
@@ -61,7 +61,7 @@ pub fn judge(
     factors: &[u32],
     workspace: &[u32],
 ) -> Judgement
-    ensures { Judges rows columns side settings elevation.now (lent_before filled direction count lengths factors workspace) result }
+    ensures { Judges rows columns side settings elevation.now (lent_at filled.entry direction.entry count.entry lengths.entry factors.entry workspace.entry) result }
 {
     if !text::is_size(rows) {
         return unsound(1, 0);
@@ -120,7 +120,7 @@ fn are_long_in(
     workspace: &[u32],
 ) -> bool
     ensures { result ≡ all_long cells
-        (length marks.now ∷ places_of elevation.now (lent_before filled direction count lengths factors workspace)) }
+        (length marks.now ∷ places_of elevation.now (lent_at filled.entry direction.entry count.entry lengths.entry factors.entry workspace.entry)) }
 {
     (marks.len() == cells)
         & are_long(
@@ -179,7 +179,7 @@ pub fn judge_farms(
     workspace: &[u32],
 ) -> FarmJudgement
     ensures { JudgesFarms rows columns side first second marks.now elevation.now
-        (lent_before filled direction count lengths factors workspace) result }
+        (lent_at filled.entry direction.entry count.entry lengths.entry factors.entry workspace.entry) result }
 {
     if !text::is_size(rows) {
         return unsound_farms(1, 0);

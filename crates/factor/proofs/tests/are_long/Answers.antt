@@ -1,0 +1,6 @@
+-- `factor::tests::are_long` meets its contract. Assumes nothing.
+use Rattle.text.proofs.Accepted.{joined-long}
+use Rattle.factor.proofs.tests.are_long.Goals as goal
+
+pub returns : goal.returns
+returns c = joined-long c.args.cells _
