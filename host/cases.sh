@@ -266,7 +266,7 @@ full_size() {
     "$lsmap" --floats as.flt as.hdr | cmp - out || fail "the sheet of full size from floats"
     [ "$(wc -l <out)" -eq 1048577 ] || fail "the sheet of full size"
     [ "$(wc -c <grids/length.bin)" -eq 8388608 ] || fail "the grids of full size"
-    wanted=$(nm -u "$root/target/staticlib/libfullsize.a" | grep ' U ' | grep -v ' mem[a-z]*$' || true)
+    wanted=$(nm -u "$root/crates/fullsize/out/libfullsize.a" | grep ' U ' | grep -v ' mem[a-z]*$' || true)
     [ -z "$wanted" ] || fail "the library calls $wanted"
 }
 
