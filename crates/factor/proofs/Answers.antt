@@ -19,13 +19,12 @@ use Rattle.terrain.specs.Drainage.{Drainage}
 use Rattle.terrain.specs.Answers.{Mapped, After, ground_valids, directions_by, leaves_zeros}
 use Rattle.terrain.specs.declared.Source.{Source}
 use Rattle.terrain.specs.Answers as terrain
-use Rattle.terrain.specs.declared.Answer as Drained
 use Rattle.terrain.specs.declared.Answer.TheVariants as drained
 use Rattle.terrain.proofs.Public.{accepted-ready, accepted-directed, filled-small, counts-long}
 use Rattle.factor.specs.Farms.{Farms, one, two, farm_at, Marked, of_farm, rules_in}
 use Rattle.factor.specs.Length.{lengths_of}
 use Rattle.factor.specs.Grid.{factors_of}
-use Rattle.factor.specs.Answers.{Grids, lent, judged, map_of, answer_of, refused_grids, grids_of, answer, after, first_tests, accepts}
+use Rattle.factor.specs.Answers.{Grids, lent, judged, map_of, answer_of, refused_grids, grids_of, answer, after, first_tests}
 use Rattle.factor.specs.Inner.{Promised}
 use Rattle.factor.specs.InnerPass.{farm_by, Naming, Measuring}
 use Rattle.factor.specs.declared.Answer.{Answer}

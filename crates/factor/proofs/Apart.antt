@@ -2,39 +2,38 @@
 -- and on no other. Assumes nothing.
 use mathlib.Core.Path.{◌≡◌, refl, sym, ap, ap₂, ◌∙◌, subst}
 use mathlib.Core.List.{List}
-use mathlib.Core.Logic.{◌⊎◌, inl, inr, ⊎_elim}
-use mathlib.Core.Bool.{Bool, true, false, cond, ◌&&◌, true≢false}
+use mathlib.Core.Logic.{inl, inr, ⊎_elim}
+use mathlib.Core.Bool.{true, false, cond, true≢false}
 use Prim.Native.Nat.{ℕ, zero, suc, ◌*◌, ◌<◌}
 use lib.IntN.{ℤ}
 use native.Mathlib.Omega.{arith}
 use borrow.Author.Tests.{ltb-true, eqb-true, eq-eqb, ne_eqb}
-use lib.Dec.{ltb, eqb}
+use lib.Dec.{eqb}
 use lib.ListN.{get_or}
 use Rattle.laws.specs.First.{some_of}
 use Rattle.laws.specs.Sums.{greatest_to, when}
-use Rattle.laws.specs.Tests.{passed, verdict}
+use Rattle.laws.specs.Tests.{passed}
 use Rattle.laws.proofs.First.{first_holds}
 use Rattle.laws.proofs.Lists.{get_or-tab}
 use Rattle.laws.proofs.Sums.{when-ext, greatest-ext}
 use Rattle.laws.proofs.Tests.{two as two_cases, and_both}
 use Rattle.settings.specs.declared.Settings.{Settings}
 use Rattle.settings.specs.declared.Rules.{Rules}
-use Rattle.settings.specs.Settings.{rules_of}
 use Rattle.terrain.specs.Cells.{neighbour, code_of, bearing_of}
 use Rattle.terrain.specs.Trail.{mapped_at, flows_at, next_at, steps_in, into_at, counts_of, Trail, ends, goes, Meets}
 use Rattle.terrain.specs.InnerTrail.{Directed}
-use Rattle.terrain.specs.Filled.{filled_levels, filled_of}
-use Rattle.terrain.specs.Answers.{directions_by, ground_valids, ground_directions}
+use Rattle.terrain.specs.Filled.{filled_levels}
+use Rattle.terrain.specs.Answers.{directions_by}
 use Rattle.terrain.specs.declared.Source.{Source}
 use Rattle.terrain.proofs.Public.{accepted-directed}
-use Rattle.factor.specs.Farms.{Farms, two, farm_at, of_farm, rules_in}
+use Rattle.factor.specs.Farms.{Farms, two, farm_at, rules_in}
 use Rattle.factor.specs.Channel.{channel_at}
 use Rattle.factor.specs.Inflow.{start_length}
 use Rattle.factor.specs.Length.{brought_to, length_from, length_in, lengths_of}
 use Rattle.factor.specs.Slope.{steepness_at}
 use Rattle.factor.specs.Cell.{factor_of}
 use Rattle.factor.specs.Grid.{no_data_factor, factor_at, factors_of}
-use Rattle.factor.specs.Answers.{Grids, judged, first_tests, map_of, answer_of, grids_of, answer, after}
+use Rattle.factor.specs.Answers.{Grids, judged, map_of, answer_of, grids_of, answer, after}
 use Rattle.factor.specs.Apart.{OnTrailInto, Same}
 use Rattle.factor.proofs.Judging.{lent_on, first_passes, first-of, first-marked}
 

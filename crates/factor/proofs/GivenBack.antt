@@ -4,7 +4,7 @@ use mathlib.Core.List.{List, [], ◌∷◌, ◌++◌, append_assoc}
 use Prim.Native.Nat.{ℕ, ◌*◌}
 use lib.IntN.{ℤ}
 use Rattle.laws.specs.Tests.{Test, passed, failed, verdict}
-use Rattle.laws.proofs.Verdicts.{verdict-none, verdict-before, verdict-after, verdict-parts}
+use Rattle.laws.proofs.Verdicts.{verdict-before, verdict-after, verdict-parts}
 use Rattle.text.specs.Ranges.{height_test}
 use Rattle.terrain.specs.Filled.{filled_levels}
 use Rattle.terrain.specs.Given.{given_tests}

@@ -6,14 +6,13 @@ use mathlib.Core.Bool.{Bool, true, false, not, cond, ◌&&◌}
 use Prim.Native.Nat.{ℕ, ◌+◌, ◌*◌, ◌≤◌, ◌<◌}
 use native.Mathlib.Omega.{arith}
 use native.Mathlib.Decide.{dec_lt}
-use lib.ListN.{length, get_or, get_or-eq_default}
+use lib.ListN.{length, get_or-eq_default}
 use lib.IntN.{ℤ}
 use lib.Dec.{ltb, leb}
 use borrow.Author.Tests.{eq-eqb, lt-ltb, le-ltb, ltb-false, not-true}
 use Rattle.laws.specs.Tests.{Test, passed, failed, verdict}
-use Rattle.laws.specs.First.{first_of}
-use Rattle.laws.proofs.First.{first-top, first-before}
-use Rattle.laws.proofs.Verdicts.{passed-failed, verdict-none, verdict-next, verdict-stops, verdict-passed, verdict-parts, verdict-before, verdict-after, test-yes, test-no, test-passed, Numbered, test-numbered, verdict-numbered, OfNumber, test-number, verdict-number}
+use Rattle.laws.proofs.First.{first-before}
+use Rattle.laws.proofs.Verdicts.{passed-failed, verdict-none, verdict-next, verdict-stops, verdict-passed, verdict-parts, verdict-before, verdict-after, test-yes, test-no, test-passed, Numbered, OfNumber, test-number, verdict-number}
 use Rattle.text.specs.Ranges.{size_accepted, side_accepted, first_bad, all_long, size_test, length_test, side_test, height_test}
 use Rattle.text.proofs.Accepted.{size-passes, size-passed, area-few, rows-fail, columns-fail, AllLong, lengths-pass, lengths-fail, lengths-passed, side-is, side-passed, side-passes, side-fails}
 use Rattle.settings.specs.declared.Settings.{Settings}
@@ -22,7 +21,7 @@ use Rattle.settings.specs.declared.Judged.{Judged}
 use Rattle.settings.specs.declared.Judged.TheVariants.{Accepted, Refused}
 use Rattle.settings.specs.Settings.{threshold_accepted, rules_of, verdict_of, judged_of, settings_test, told as test_of}
 use Rattle.settings.proofs.Verdicts.{judged-passed, judged-failed}
-use Rattle.terrain.specs.Answers.{Grids as TerrainGrids, lent as lent_terrain, places_of as terrain_places, ground_tests, tests as terrain_tests, judged as terrain_judged, source_tests, directions_by, leaves_zeros}
+use Rattle.terrain.specs.Answers.{Grids as TerrainGrids, lent as lent_terrain, places_of as terrain_places, ground_tests, tests as terrain_tests, judged as terrain_judged, source_tests, directions_by}
 use Rattle.terrain.specs.Filled.{filled_levels}
 use Rattle.terrain.specs.Given.{first_broken, first_ring, code_test, ring_test}
 use Rattle.terrain.specs.declared.Source.{Source}

@@ -6,7 +6,6 @@ use native.Mathlib.Nat.{mul-le-mul, mul-le-mul_right, mul-add}
 use native.Mathlib.Decide.{dec_lt, ℕ_discrete}
 use native.Mathlib.Omega.{arith}
 use borrow.Author.Tests.{le-leb, leb-true, leb-false}
-use lib.Dec.{leb}
 use Rattle.settings.specs.declared.Formula.{Formula}
 use Rattle.settings.specs.declared.Formula.TheVariants.{Older, Newer}
 use Rattle.factor.specs.Percent.{at_least}

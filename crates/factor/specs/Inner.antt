@@ -6,7 +6,6 @@ use Rattle.factor.specs.Inflow.{cutoff_for, step_over, amount_of}
 use Rattle.factor.specs.LengthFactor.{greatest_mm, reached}
 use Rattle.terrain.specs.Filled.{top}
 use Rattle.terrain.specs.Drainage.{Trails, Totals, Surface}
-use Rattle.terrain.specs.Answers.{ground_valids}
 use Rattle.terrain.specs.declared.Source.{Source}
 use Rattle.factor.specs.Farms.{Farms, rules_in}
 use Rattle.factor.specs.Answers.{Grids, first_tests, answer, after, accepts, told}

@@ -11,7 +11,7 @@ use mir.Val.{SFits, to_z, of_z}
 use mir.Facts.{to_z-of_z}
 use Rattle.text.specs.Quantities.{height_in, no_data_height}
 use Rattle.text.specs.Numbers.{centimetres}
-use Rattle.floats.specs.Floats.{sign, magnitude, finite, units, metre, equal}
+use Rattle.floats.specs.Floats.{magnitude, finite, units, metre, equal}
 use Rattle.floats.specs.Rounding.{nearest, cm}
 use Rattle.floats.specs.Answers.{fault_of, height_of}
 use Rattle.floats.proofs.Units.{plus-in, plus-out, minus-in, minus-out}

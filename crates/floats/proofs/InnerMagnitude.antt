@@ -8,7 +8,7 @@ use native.Mathlib.Decide.{dec_le}
 use lib.Dec.{lit≤, lit<}
 use lib.Pow.{pow_pos, pow_mono, pow-add}
 use Rattle.floats.specs.Floats.{metre}
-use Rattle.floats.specs.Rounding.{nearest, doublings, nearest_magnitude}
+use Rattle.floats.specs.Rounding.{nearest, nearest_magnitude}
 use Rattle.floats.proofs.Nearest.{nearest-scale}
 use Rattle.floats.proofs.Units.{doublings-is}
 

@@ -1,6 +1,6 @@
 -- Laws for the reader of RULES 4.7: a given grid is accepted exactly if every code is right and no trail goes round; 17 names the first cell whose code is not right, 18 the
 -- first that lies on a ring. Assumes nothing.
-use Rattle.std.proofs.Common.{◌≡◌, ℕ, zero, suc, ◌-◌, ◌*◌, ◌<◌, ◌≤◌, Bool, true, false, not, ◌&&◌, List, [], ◌∷◌, length, get_or, ℤ, sym, refl, ap, ◌∙◌, subst, ap₂, inl, inr, ⊎_elim, true≢false, arith, ltb-false, ltb-true, eq-eqb, le-leb}
+use Rattle.std.proofs.Common.{◌≡◌, ℕ, zero, suc, ◌-◌, ◌*◌, ◌<◌, ◌≤◌, true, false, not, ◌&&◌, List, [], ◌∷◌, get_or, ℤ, sym, refl, ap, ◌∙◌, subst, ap₂, inl, inr, ⊎_elim, true≢false, arith, ltb-false, ltb-true, eq-eqb, le-leb}
 use native.Mathlib.Decide.{dec_lt}
 use borrow.Author.Tests.{not-true, not-false}
 use Rattle.laws.specs.Tests.{Test, passed, failed, verdict}
@@ -11,7 +11,7 @@ use Rattle.laws.proofs.Rings.{walk_none, walk_first, ring-inside}
 use Rattle.laws.proofs.Verdicts.{verdict-next, verdict-stops, verdict-none, verdict-passed, OfNumber}
 use Rattle.terrain.specs.Cells.{no_data, neighbour, code_of, bearing_of, Valid, levels_of, valid_at}
 use Rattle.terrain.specs.Filled.{filled_levels, filled_of}
-use Rattle.terrain.specs.Trail.{flows_at, next_at, receiver_of}
+use Rattle.terrain.specs.Trail.{flows_at, receiver_of}
 use Rattle.terrain.specs.Drainage.{surface_of}
 use Rattle.terrain.specs.Given.{kept_at, first_broken, ring_at, first_ring, code_test, ring_test, given_tests}
 use Rattle.terrain.specs.Drawing.{Right, Leads, once, more, GoesRound, Acceptable}

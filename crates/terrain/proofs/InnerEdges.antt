@@ -1,8 +1,8 @@
 -- Laws of the grid's edge: which cells are on it, and that what lies around a cell is a neighbour of it or on the edge. Assumes nothing.
-use Rattle.std.proofs.Common.{◌≡◌, ℕ, ◌+◌, ◌-◌, ◌*◌, ◌/◌, ◌%◌, ◌<◌, ◌≤◌, ◌⊎◌, List, get_or, sym, refl, ap, ◌∙◌, inl, inr, ⊎_elim, mul-le-mul_right, mod-lt, add-mul, arith}
+use Rattle.std.proofs.Common.{◌≡◌, ℕ, ◌+◌, ◌-◌, ◌*◌, ◌/◌, ◌%◌, ◌<◌, ◌≤◌, ◌⊎◌, get_or, ap, ◌∙◌, inl, inr, ⊎_elim, mul-le-mul_right, mod-lt, add-mul, arith}
 use native.Mathlib.Decide.{dec_lt}
 use Rattle.terrain.specs.Cells.{row_steps, col_steps, neighbour}
-use Rattle.terrain.specs.InnerCells.{Sized, beside_of, Beside, Around, Edge}
+use Rattle.terrain.specs.InnerCells.{Sized, beside_of, Beside, Edge}
 use Rattle.terrain.proofs.Neighbours.{col-of, row_of, cell_in, in-grid-lt, col-step-le, neighbour-cases}
 use Rattle.terrain.proofs.InnerInterior.{by_row, beside-is}
 

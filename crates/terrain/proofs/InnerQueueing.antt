@@ -1,16 +1,16 @@
 -- Laws of the cells that wait in the flood's lists: beside each lies one that is not above the level in hand. Assumes nothing.
-use Rattle.std.proofs.Common.{◌≡◌, ℕ, zero, suc, ◌+◌, ◌-◌, ◌*◌, ◌%◌, ◌<◌, ◌≤◌, min, List, length, get_or, set, sym, refl, ap, ◌∙◌, ⊎_elim, suc-mul, arith, get_or-set_other, get_or-set_same}
+use Rattle.std.proofs.Common.{◌≡◌, ℕ, zero, suc, ◌+◌, ◌*◌, ◌%◌, ◌<◌, ◌≤◌, min, List, length, get_or, set, sym, refl, ap, ◌∙◌, ⊎_elim, suc-mul, arith, get_or-set_other, get_or-set_same}
 use native.Mathlib.Decide.{dec_lt, ℕ_discrete}
 use lib.ListN.{get_or-eq_default}
 use Rattle.laws.proofs.Lists.{in_list}
 use Rattle.terrain.specs.Cells.{neighbour}
 use Rattle.terrain.specs.Filled.{top, lowest_of}
 use Rattle.terrain.specs.InnerCells.{Sized, beside_of, Around, Edge}
-use Rattle.terrain.specs.InnerFlood.{done_of, queued_from, Queueing, OnLine, Waiting, Rimming, Flooded, FloodedTo}
+use Rattle.terrain.specs.InnerFlood.{queued_from, Queueing, OnLine, Waiting, Rimming, Flooded, FloodedTo}
 use Rattle.terrain.proofs.Neighbours.{across, across-small, neighbour-back, col-of}
 use Rattle.terrain.proofs.Filling.{lowest-le, lowest-top}
 use Rattle.terrain.proofs.InnerEdges.{around-cases, edge-north, edge-south, edge-west, edge-east}
-use Rattle.terrain.proofs.InnerWords.{done_at, done-long, done-same, lowest-done, flooded-none, flooded-then, flooded-same, flooded-done}
+use Rattle.terrain.proofs.InnerWords.{done-long, done-same, lowest-done, flooded-none, flooded-then, flooded-same, flooded-done}
 
 -- ---- cells that are queued
 

@@ -1,6 +1,6 @@
 -- Laws for the reader: what the definitions compute is what docs/RULES.md says in words of trails, walks and runs, for every ground that the call accepts
 -- (`passed-ready`). Assumes nothing.
-use Rattle.std.proofs.Common.{◌≡◌, ℕ, ◌*◌, ◌<◌, ◌≤◌, true, false, List, length, get_or, ℤ, sym, ap, ◌∙◌, ⊎_elim, arith, ltb-true, lt-ltb}
+use Rattle.std.proofs.Common.{◌≡◌, ℕ, ◌*◌, ◌<◌, ◌≤◌, true, false, List, length, get_or, ℤ, sym, ◌∙◌, ⊎_elim, arith, ltb-true, lt-ltb}
 use native.Mathlib.Decide.{dec_lt}
 use Rattle.laws.specs.Sums.{when}
 use Rattle.laws.specs.Tests.{passed}

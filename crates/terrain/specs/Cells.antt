@@ -1,6 +1,6 @@
 -- RULES 4.1: neighbours, valid cells, rim cells, codes. A grid is a list, row after row from the north, and a cell is an index.
 -- Heights are whole numbers; a level is a height counted from NoData, so that NoData is 0, and what is no cell is at level 0 too. Assumes nothing.
-use Rattle.std.specs.Prelude.{◌≡◌, ℕ, ◌+◌, ◌-◌, ◌*◌, ◌/◌, ◌%◌, ◌<◌, ◌≤◌, Bool, cond, not, ◌&&◌, List, [], ◌∷◌, map, length, get_or, ℤ, pos, negsuc, ◌==◌, nat_eq, nat_lt, slice_index, slice_index_or}
+use Rattle.std.specs.Prelude.{◌≡◌, ℕ, ◌+◌, ◌-◌, ◌*◌, ◌/◌, ◌%◌, ◌<◌, ◌≤◌, Bool, cond, not, ◌&&◌, List, [], ◌∷◌, map, get_or, ℤ, pos, negsuc, ◌==◌, nat_eq, nat_lt, slice_index, slice_index_or}
 use Rattle.std.proofs.Math.IntN.{sub_ℕ}
 use Rattle.laws.specs.First.{first_of, some_of}
 use Rattle.text.specs.Quantities.{datum, no_data_height}

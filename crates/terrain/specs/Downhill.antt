@@ -1,8 +1,6 @@
 -- RULES 4.5: The valid cells in an order from the ridges down. Assumes nothing.
-use Rattle.std.specs.Prelude.{◌≡◌, ℕ, ◌*◌, ◌<◌, ◌≤◌, true, eqb, List, length, get_or}
-use Rattle.laws.specs.Sums.{sum_to, when}
+use Rattle.std.specs.Prelude.{ℕ, ◌≤◌, List, length}
 use Rattle.laws.specs.Orders.{Ordered}
-use Rattle.laws.specs.Peel.{Peeling}
 use Rattle.terrain.specs.Trail.{mapped_at, receiver_of}
 
 -- The first m places of the order hold every valid cell once and nothing else, each after all the cells that point at it. Which of the many such orders it is, and what

@@ -1,8 +1,8 @@
 -- RULES 4.2: Filled height: over all runs of valid neighbours from the cell to a rim cell, the least possible greatest ground height on the run.
 -- Here as a computation, lowered until still; `Drainage` states that it is that least height. Assumes nothing.
-use Rattle.std.specs.Prelude.{ℕ, zero, suc, ◌*◌, ◌≤◌, min, max, List, map, ℤ, slice_index}
+use Rattle.std.specs.Prelude.{ℕ, zero, suc, ◌*◌, min, max, List, map, ℤ, slice_index}
 use Rattle.laws.specs.Settle.{Lowering, settled_of}
-use Rattle.terrain.specs.Cells.{neighbour, level_of, levels_of, height_of, valid_at}
+use Rattle.terrain.specs.Cells.{neighbour, levels_of, height_of, valid_at}
 
 -- above every accepted height's level
 abbrev pub top : ℕ

@@ -1,6 +1,6 @@
 -- RULES 4.4: lower neighbours, and the steps of cells that have none: Any other cell with no lower neighbour counts the fewest steps, over valid cells of its own
 -- filled height, to a cell with a lower neighbour or to a rim cell. Over filled levels. Assumes nothing.
-use Rattle.std.specs.Prelude.{◌≡◌, ℕ, zero, suc, ◌+◌, ◌*◌, ◌<◌, ◌≤◌, min, Bool, false, cond, not, ◌&&◌, ◌||◌, List, ◌==◌, nat_lt, slice_index}
+use Rattle.std.specs.Prelude.{◌≡◌, ℕ, zero, suc, ◌+◌, ◌*◌, ◌<◌, min, Bool, false, cond, not, ◌&&◌, ◌||◌, List, ◌==◌, nat_lt, slice_index}
 use Rattle.laws.specs.First.{some_of}
 use Rattle.laws.specs.Settle.{Lowering, settled_of}
 use Rattle.terrain.specs.Cells.{neighbour, valid_at, rim_at}

@@ -1,5 +1,5 @@
 -- The order from the ridges down on the way there: only inner functions cite this file. Assumes nothing.
-use Rattle.std.specs.Prelude.{◌≡◌, ℕ, ◌*◌, ◌<◌, ◌≤◌, true, List, length, ◌==◌, slice_index}
+use Rattle.std.specs.Prelude.{◌≡◌, ℕ, ◌*◌, ◌<◌, true, List, length, ◌==◌, slice_index}
 use Rattle.laws.specs.Sums.{sum_to, when}
 use Rattle.laws.specs.Peel.{Peeling}
 use Rattle.terrain.specs.Trail.{mapped_at, receiver_of}

@@ -1,6 +1,6 @@
 -- Steps over flats on the way, as the functions of `flat` leave them: only inner functions cite this file. A cell whose steps were lowered waits in a queue until its neighbours are
 -- reached from it; unless the queue is full, every other cell is calm. Assumes nothing.
-use Rattle.std.specs.Prelude.{◌≡◌, ℕ, ◌+◌, ◌*◌, ◌<◌, ◌≤◌, true, ◌⊎◌, List, length, set, ℤ, pos, ◌≢◌, slice_index, slice_index_or, slice_set}
+use Rattle.std.specs.Prelude.{◌≡◌, ℕ, ◌+◌, ◌*◌, ◌<◌, ◌≤◌, true, ◌⊎◌, List, length, ℤ, pos, ◌≢◌, slice_index, slice_index_or, slice_set}
 use Rattle.laws.specs.Settle.{Kept, Still}
 use Rattle.terrain.specs.Cells.{neighbour}
 use Rattle.terrain.specs.Flat.{far_steps, flat_at, nearest_of, flat_stepping, Walk, walked}

@@ -12,7 +12,7 @@ use lib.ListN.{length}
 use Rattle.laws.proofs.Tests.{and_both}
 use Rattle.text.specs.Bytes.{bytes}
 use Rattle.text.specs.Quantities.{extent_in, side_in, height_in, no_data_height}
-use Rattle.text.specs.Reader.{Step, got, refused, Reader, ◌>>=◌, ◌>>◌, give, here, check}
+use Rattle.text.specs.Reader.{Step, got, refused, Reader, ◌>>=◌, give, here, check}
 use Rattle.text.specs.Words.{Word, word, word_start, word_end}
 use Rattle.text.specs.Numbers.{Form, formed, malformed, Number, Placed, number_at, count_form_at, first_comma, comma_decimal, formed_or, read}
 use Rattle.text.specs.Numbers.{count, number, centimetres, measure}

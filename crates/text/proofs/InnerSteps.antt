@@ -7,7 +7,7 @@ use native.Mathlib.Omega.{arith}
 use borrow.Author.Tests.{le-leb, lt-leb, eq-eqb, ne_eqb, eqb-true}
 use lib.ListN.{length}
 use lib.Dec.{eqb}
-use Rattle.text.specs.Reader.{got, refused, ◌>>=◌, ◌>>◌}
+use Rattle.text.specs.Reader.{got, refused}
 use Rattle.text.specs.Words.{word_start, word_end, word}
 use Rattle.text.specs.Numbers.{malformed, number_at, count_form_at, comma_decimal, read, number, measure, count, centimetres}
 use Rattle.text.specs.declared.words.Next.TheVariants.{Word}

@@ -1,6 +1,5 @@
 -- `factor::map` meets its contract. Assumes nothing.
 use mathlib.Core.Path.{sym, ap, ◌∙◌}
-use borrow.Author.Rules.{rules}
 use Rattle.factor.specs.Farms.{one, of_farm}
 use Rattle.factor.specs.InnerPass.{farm_by}
 use mathlib.Core.List.{[], ◌∷◌}

@@ -17,10 +17,10 @@ map_sound-requires c =
           (c.judge_farms-judgement.ensures.rules-are c.in-Sound.first c.in-Sound.second c.in-Sound.is);
     } in
     let a = c.args in (
-  (two a.first a.second a.marks.now, passing),
-  two-naming (first-cells a.rows a.columns a.side (two a.first a.second a.marks.now) a.elevation.now ((lent c.args.filled.now c.args.direction.now c.args.count.now c.args.lengths.now c.args.factors.now c.args.workspace.now)) passing.passes)
-      (first-marked a.rows a.columns a.side a.first a.second a.marks.now a.elevation.now ((lent c.args.filled.now c.args.direction.now c.args.count.now c.args.lengths.now c.args.factors.now c.args.workspace.now)) passing.passes),
-)
+      (two a.first a.second a.marks.now, passing),
+      two-naming (first-cells a.rows a.columns a.side (two a.first a.second a.marks.now) a.elevation.now ((lent c.args.filled.now c.args.direction.now c.args.count.now c.args.lengths.now c.args.factors.now c.args.workspace.now)) passing.passes)
+          (first-marked a.rows a.columns a.side a.first a.second a.marks.now a.elevation.now ((lent c.args.filled.now c.args.direction.now c.args.count.now c.args.lengths.now c.args.factors.now c.args.workspace.now)) passing.passes),
+    )
 
 pub returns-in-Unsound : goal.returns-in-Unsound
 returns-in-Unsound c =

@@ -1,5 +1,4 @@
 -- `numerals::put_all` meets its contract. Assumes nothing.
-use Prim.Native.Nat.{◌-◌}
 use native.Mathlib.Omega.{arith}
 use Rattle.numerals.proofs.Writing.{wrote-more}
 use Rattle.numerals.proofs.put_all.Goals as goal

@@ -1,6 +1,5 @@
 -- `factor::channel::largest` meets its contract. Assumes nothing.
 use mathlib.Core.Path.{sym}
-use Prim.Native.Nat.{◌-◌}
 use native.Mathlib.Omega.{arith}
 use lib.ListN.{get_or}
 use Rattle.laws.proofs.Sums.{greatest-none, greatest-more}

@@ -4,7 +4,6 @@ use Rattle.factor.specs.Inner.{brought_by}
 use Rattle.factor.specs.Inflow.{cutoff_for}
 use native.Mathlib.Omega.{arith}
 use mathlib.Core.Path.{◌∙◌}
-use borrow.Author.Rules.{rules}
 use Rattle.factor.proofs.pass.brought.Goals as goal
 
 pub amount_of-requires : goal.amount_of-requires

@@ -6,7 +6,6 @@ use Rattle.factor.specs.Inflow.{start_length}
 use lib.ListN.{get_or}
 use native.Mathlib.Omega.{arith}
 use mathlib.Core.Path.{◌≡◌, ◌∙◌, ap}
-use borrow.Author.Rules.{rules}
 use Rattle.factor.proofs.pass.hand_on.Goals as goal
 
 pub brought-amount-requires : goal.brought-amount-requires

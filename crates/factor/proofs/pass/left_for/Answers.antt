@@ -2,7 +2,6 @@
 use Rattle.factor.proofs.Percents.{cutoff-chosen}
 use Rattle.factor.specs.Inner.{left_by}
 use mathlib.Core.Path.{sym, ap, ◌∙◌}
-use borrow.Author.Rules.{rules}
 use Rattle.factor.proofs.pass.left_for.Goals as goal
 
 pub returns-then-is_at_least : goal.returns-then-is_at_least

@@ -3,10 +3,9 @@ use Rattle.factor.specs.Farms.{of_farm}
 use Rattle.factor.proofs.InnerWalking.{Walking, measure-charted, walk_start, walk-turning, walk_turn, walk-all}
 use Rattle.factor.specs.InnerPass.{farm_by, Naming, Bounds}
 use Rattle.factor.specs.Channel.{largest_of}
-use borrow.Author.Rules.{rules}
 use lib.ListN.{length}
 use native.Mathlib.Omega.{arith}
-use Prim.Native.Nat.{ℕ, ◌-◌}
+use Prim.Native.Nat.{ℕ}
 use mathlib.Core.Path.{◌≡◌, refl, sym, subst, ◌∙◌}
 use Rattle.factor.proofs.pass.measure.Goals as goal
 
@@ -26,13 +25,12 @@ turn-requires c =
     )
 
 pub loop-place-preserved : goal.loop-place-preserved
-loop-place-preserved c =
-    (
-      c.lengths-in-loop-place-1.given ∙ c.loop-place.invariant.0,
-      c.factors-1.given ∙ c.loop-place.invariant.1,
-      omega (arith, c.loop-place-test.true),
-      λ rows lv rules m w. walk_turn m (c.loop-place.invariant.3 rows lv rules m w) c.loop-place-test.true refl c.turn.ensures,
-    )
+loop-place-preserved c = (
+  c.lengths-in-loop-place-1.given ∙ c.loop-place.invariant.0,
+  c.factors-1.given ∙ c.loop-place.invariant.1,
+  omega (arith, c.loop-place-test.true),
+  λ rows lv rules m w. walk_turn m (c.loop-place.invariant.3 rows lv rules m w) c.loop-place-test.true refl c.turn.ensures,
+)
 
 pub returns : goal.returns
 returns c =

@@ -2,7 +2,6 @@
 use Rattle.factor.proofs.InnerWalking.{Walking, Charted}
 use Rattle.factor.specs.InnerPass.{farm_by}
 use Rattle.settings.specs.declared.Rules.{Rules}
-use borrow.Author.Rules.{rules}
 use lib.ListN.{length}
 use Prim.Native.Nat.{ℕ, ◌-◌, ◌≤◌}
 use mathlib.Core.List.{List}

@@ -3,7 +3,6 @@ use mathlib.Core.Path.{sym, ap, ◌∙◌}
 use mathlib.Core.Bool.{Bool, cond}
 use Prim.Native.Nat.{◌+◌, ◌/◌}
 use native.Mathlib.Omega.{arith}
-use Rattle.factor.specs.Steepness.{sine_reaches}
 use Rattle.laws.proofs.Greatest.{among-half, among_one}
 use Rattle.factor.proofs.Sines.{sine-falling, sine-wide}
 use Rattle.factor.proofs.sine.sine_by_halves.Goals as goal

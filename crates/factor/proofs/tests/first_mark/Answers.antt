@@ -5,7 +5,6 @@ use borrow.Author.Tests.{lt-ltb}
 use lib.ListN.{length, get_or}
 use lib.Dec.{ltb}
 use native.Mathlib.Omega.{arith}
-use Prim.Native.Nat.{◌-◌}
 use mathlib.Core.Path.{◌≡◌, sym, ◌∙◌}
 use Rattle.factor.proofs.tests.first_mark.Goals as goal
 

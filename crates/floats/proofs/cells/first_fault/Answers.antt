@@ -1,6 +1,5 @@
 -- `floats::cells::first_fault` meets its contract. Assumes nothing.
 use mathlib.Core.Path.{ap, ◌∙◌}
-use Prim.Native.Nat.{◌-◌}
 use native.Mathlib.Omega.{arith}
 use Rattle.floats.specs.Answers.{fault_of}
 use Rattle.floats.proofs.InnerCells.{first-fault, all-clear}

@@ -1,11 +1,10 @@
 -- `floats::cells::store` meets its contract. Assumes nothing.
 use mathlib.Core.Path.{ap, ◌∙◌, subst}
-use Prim.Native.Nat.{◌-◌, ◌<◌}
+use Prim.Native.Nat.{◌<◌}
 use native.Mathlib.Omega.{arith}
 use lib.ListN.{length}
 use Rattle.laws.specs.Lists.{Agrees}
 use Rattle.laws.proofs.Lists.{agrees-tab}
-use Rattle.floats.specs.Floats.{bits_at}
 use Rattle.floats.specs.Answers.{fault_of, first_fault}
 use Rattle.floats.proofs.InnerCells.{clear-before}
 use Rattle.floats.proofs.cells.store.Goals as goal

@@ -1,6 +1,6 @@
 -- `floats::rounding::nearest_magnitude` meets its contract. Assumes nothing.
 use mathlib.Core.Path.{◌≡◌, sym, ap, ◌∙◌, subst}
-use Prim.Native.Nat.{ℕ, ◌+◌, ◌-◌, ◌*◌}
+use Prim.Native.Nat.{ℕ, ◌+◌, ◌*◌}
 use native.Mathlib.Omega.{arith}
 use Rattle.floats.specs.Rounding.{nearest_magnitude}
 use Rattle.floats.proofs.InnerMagnitude.{raised-pos, raised-more}
@@ -24,9 +24,8 @@ pub overflow_add-result : goal.overflow_add-result
 overflow_add-result c = omega (arith, c.quotient.ensures.1, doubled-few _ _ _ _ _ c.loop-d.invariant)
 
 pub returns : goal.returns
-returns c =
-    (
-      ap (λ (k : ℕ). c.loop-d.e * 8388608 + k) c.quotient.ensures.0
-          ∙ magnitude-is _ _ _ _ _ c.loop-d.invariant (omega (arith, c.if-n-eq0.false)) (omega (arith, c.loop-d-test.false)),
-      omega (arith, c.quotient.ensures.1, doubled-few _ _ _ _ _ c.loop-d.invariant),
-    )
+returns c = (
+  ap (λ (k : ℕ). c.loop-d.e * 8388608 + k) c.quotient.ensures.0
+      ∙ magnitude-is _ _ _ _ _ c.loop-d.invariant (omega (arith, c.if-n-eq0.false)) (omega (arith, c.loop-d-test.false)),
+  omega (arith, c.quotient.ensures.1, doubled-few _ _ _ _ _ c.loop-d.invariant),
+)

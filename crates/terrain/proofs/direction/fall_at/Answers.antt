@@ -1,5 +1,5 @@
 -- `terrain::direction::fall_at` meets its contract. Assumes nothing.
-use Rattle.std.proofs.Common.{◌≡◌, ◌-◌, max, refl, ap, ◌∙◌, arith}
+use Rattle.std.proofs.Common.{◌≡◌, max, refl, ap, ◌∙◌, arith}
 use Rattle.terrain.proofs.InnerKeys.{keys_none, keys-more, keys-small, keys-fall}
 use Rattle.terrain.proofs.direction.fall_at.Goals as goal
 
@@ -7,11 +7,10 @@ pub loop-i-init : goal.loop-i-init
 loop-i-init c = (omega arith, keys_none refl refl)
 
 pub loop-i-preserved : goal.loop-i-preserved
-loop-i-preserved c =
-    (
-      omega arith,
-      keys-more c.loop-i.invariant.1 (c.larger-cardinal.ensures ∙ ap (max c.loop-i.cardinal) c.key_at.ensures) (c.larger-diagonal.ensures ∙ ap (max c.loop-i.diagonal) c.key_at-in-loop-i.ensures),
-    )
+loop-i-preserved c = (
+  omega arith,
+  keys-more c.loop-i.invariant.1 (c.larger-cardinal.ensures ∙ ap (max c.loop-i.cardinal) c.key_at.ensures) (c.larger-diagonal.ensures ∙ ap (max c.loop-i.diagonal) c.key_at-in-loop-i.ensures),
+)
 
 pub chosen-requires : goal.chosen-requires
 chosen-requires c = keys-small (c.requires.0.capped c.args.x) c.loop-i.invariant.1

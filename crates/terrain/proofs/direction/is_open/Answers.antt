@@ -1,5 +1,5 @@
 -- `terrain::direction::is_open` meets its contract. Assumes nothing.
-use Rattle.std.proofs.Common.{◌-◌, arith}
+use Rattle.std.proofs.Common.{arith}
 use Rattle.terrain.proofs.InnerStepping.{open_none, open_more}
 use Rattle.terrain.proofs.direction.is_open.Goals as goal
 

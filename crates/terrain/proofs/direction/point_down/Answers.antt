@@ -1,5 +1,5 @@
 -- `terrain::direction::point_down` meets its contract. Assumes nothing.
-use Rattle.std.proofs.Common.{◌-◌, ◌∙◌, arith, length-set}
+use Rattle.std.proofs.Common.{◌∙◌, arith, length-set}
 use Rattle.terrain.proofs.InnerStepping.{start-told}
 use Rattle.terrain.proofs.InnerPointing.{down-more}
 use Rattle.terrain.proofs.direction.point_down.Goals as goal

@@ -1,5 +1,5 @@
 -- `terrain::direction::point_flats` meets its contract. Assumes nothing.
-use Rattle.std.proofs.Common.{◌≡◌, ℕ, ◌-◌, ◌*◌, ◌<◌, true, false, get_or, sym, ◌∙◌, ⊎_elim, arith, below_more}
+use Rattle.std.proofs.Common.{◌≡◌, ℕ, ◌*◌, ◌<◌, true, false, get_or, sym, ◌∙◌, arith, below_more}
 use Rattle.terrain.specs.Flat.{flat_at}
 use Rattle.terrain.specs.InnerFlats.{StepsKept}
 use Rattle.terrain.specs.Direction.{nearer_at}
@@ -50,14 +50,14 @@ loop-x-preserved c =
     let l : c.loop-x.x < a.rows * a.columns = omega (arith, c.loop-x.invariant.0.long) in (
       elim c.if-steps-x-gt0.branch [
         | then-steps-x-gt0 w ↦ point-flat c.loop-x.invariant.0 k l w.if-steps-x-gt0.true
-          (elim w.if-k-ge8.branch [
-            | then-k-ge8 v ↦ v.code-is ∙ nearer-none a.rows a.columns a.level.now c.loop-x.x a.steps.now w.loop-k.k w.loop-k.invariant.1 v.if-k-ge8.true
-            | else-k-ge8+then-is_nearer v ↦ (
-              let is = flat-is-beside c.requires.0 c.loop-x.x w.loop-k.k (flat w.if-steps-x-gt0.true) v.if-k-ge8.false in
-              v.code-is ∙ v.code_of-code.ensures ∙ nearer-found a.rows a.columns a.level.now c.loop-x.x a.steps.now w.loop-k.k w.loop-k.invariant.1 v.if-k-ge8.false
-              (sym (nearer-told a.rows a.columns a.level.now c.loop-x.x a.steps.now w.loop-k.k (v.beside.ensures ∙ is) w.if-steps-x-gt0.true v.is_nearer.ensures) ∙ v.if-is_nearer.true))
-          ])
-          w.direction-is
+            (elim w.if-k-ge8.branch [
+              | then-k-ge8 v ↦ v.code-is ∙ nearer-none a.rows a.columns a.level.now c.loop-x.x a.steps.now w.loop-k.k w.loop-k.invariant.1 v.if-k-ge8.true
+              | else-k-ge8+then-is_nearer v ↦ (
+                  let is = flat-is-beside c.requires.0 c.loop-x.x w.loop-k.k (flat w.if-steps-x-gt0.true) v.if-k-ge8.false in
+                  v.code-is ∙ v.code_of-code.ensures ∙ nearer-found a.rows a.columns a.level.now c.loop-x.x a.steps.now w.loop-k.k w.loop-k.invariant.1 v.if-k-ge8.false
+                  (sym (nearer-told a.rows a.columns a.level.now c.loop-x.x a.steps.now w.loop-k.k (v.beside.ensures ∙ is) w.if-steps-x-gt0.true v.is_nearer.ensures) ∙ v.if-is_nearer.true))
+            ])
+            w.direction-is
         | else-steps-x-gt0 w ↦ point-kept c.loop-x.invariant.0 k l w.if-steps-x-gt0.false w.direction-is
       ],
       omega arith,

@@ -1,5 +1,5 @@
 -- `terrain::direction::point_run` meets its contract. Assumes nothing.
-use Rattle.std.proofs.Common.{◌-◌, arith, length-set}
+use Rattle.std.proofs.Common.{arith, length-set}
 use Rattle.terrain.proofs.InnerStepping.{start-told}
 use Rattle.terrain.proofs.InnerPointing.{down-more}
 use Rattle.terrain.proofs.direction.point_run.Goals as goal
@@ -7,8 +7,7 @@ use Rattle.terrain.proofs.direction.point_run.Goals as goal
 pub loop-x-preserved : goal.loop-x-preserved
 loop-x-preserved c =
     let t = c.requires in
-    let a = c.args in
-    (
+    let a = c.args in (
       rw length-set c.loop-x.invariant.0,
       rw length-set c.loop-x.invariant.1,
       rw length-set c.loop-x.invariant.2,

@@ -1,6 +1,6 @@
 -- `terrain::downhill::descend` meets its contract. Assumes nothing.
 use Rattle.terrain.proofs.InnerDescending.{await-peeled, peeled-all}
-use Rattle.std.proofs.Common.{◌-◌, arith}
+use Rattle.std.proofs.Common.{arith}
 use Rattle.terrain.proofs.downhill.descend.Goals as goal
 
 pub loop-x-init : goal.loop-x-init

@@ -1,5 +1,5 @@
 -- `terrain::downhill::follow` meets its contract. Assumes nothing.
-use Rattle.std.proofs.Common.{◌+◌, ◌-◌, ◌*◌, refl, arith}
+use Rattle.std.proofs.Common.{◌+◌, ◌*◌, refl, arith}
 use Rattle.laws.proofs.Peel.{hand-room}
 use Rattle.terrain.proofs.Receivers.{pointing}
 use Rattle.terrain.proofs.downhill.follow.Goals as goal
@@ -19,8 +19,7 @@ pub loop-rows-smaller : goal.loop-rows-smaller
 loop-rows-smaller c = omega (arith, hand-room (pointing c.requires.0) c.loop-rows.invariant.0 c.loop-rows.invariant.1)
 
 pub loop-rows-preserved : goal.loop-rows-preserved
-loop-rows-preserved c =
-    (
-      c.take-y.ensures (c.args.start + 1) c.take-y.result c.loop-rows.invariant.0 (record { some = (λ h. (refl, omega (arith, c.if-waiting-y-gt0.false))); none = (λ l z. refl) }),
-      omega (arith, c.if-start-y.false, c.requires.2),
-    )
+loop-rows-preserved c = (
+  c.take-y.ensures (c.args.start + 1) c.take-y.result c.loop-rows.invariant.0 (record { some = (λ h. (refl, omega (arith, c.if-waiting-y-gt0.false))); none = (λ l z. refl) }),
+  omega (arith, c.if-start-y.false, c.requires.2),
+)

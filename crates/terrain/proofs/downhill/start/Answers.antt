@@ -1,6 +1,6 @@
 -- `terrain::downhill::start` meets its contract. Assumes nothing.
 use Rattle.terrain.proofs.InnerDescending.{await-start}
-use Rattle.std.proofs.Common.{◌-◌, ◌∙◌, arith}
+use Rattle.std.proofs.Common.{◌∙◌, arith}
 use Rattle.terrain.proofs.downhill.start.Goals as goal
 
 pub returns : goal.returns

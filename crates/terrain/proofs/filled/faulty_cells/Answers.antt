@@ -1,5 +1,5 @@
 -- `terrain::filled::faulty_cells` meets its contract. Assumes nothing.
-use Rattle.std.proofs.Common.{◌-◌, get_or, refl, arith}
+use Rattle.std.proofs.Common.{get_or, refl, arith}
 use Rattle.laws.proofs.Search.{failing-join}
 use Rattle.terrain.specs.InnerFlood.{FaultyCell}
 use Rattle.terrain.proofs.InnerFlooding.{cell-faulty}
@@ -12,8 +12,7 @@ overflow_add-sum-in-loop-x c =
 
 pub loop-x-preserved : goal.loop-x-preserved
 loop-x-preserved c =
-    let told : FaultyCell (get_or c.args.level.now c.run_end-end.result 0) c.ground_level.result c.lowest_near.result c.faulty-sum.result = c.faulty-sum.ensures _ refl in
-    (
+    let told : FaultyCell (get_or c.args.level.now c.run_end-end.result 0) c.ground_level.result c.lowest_near.result c.faulty-sum.result = c.faulty-sum.ensures _ refl in (
       omega (arith, c.run_end-end.ensures.within, c.requires.1),
       failing-join (failing-join c.loop-x.invariant.1 (c.faulty_run-sum.ensures c.args.rows c.run_end-end.ensures))
           (cell-faulty c.args.rows c.args.columns c.args.elevation.now c.args.level.now c.run_end-end.result _ _ _ _ refl c.ground_level.ensures c.lowest_near.ensures told),

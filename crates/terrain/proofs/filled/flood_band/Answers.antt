@@ -1,6 +1,6 @@
 -- `terrain::filled::flood_band` meets its contract. Assumes nothing.
 use Rattle.terrain.proofs.InnerQueueing.{to_none, to-moved}
-use Rattle.std.proofs.Common.{◌-◌, arith}
+use Rattle.std.proofs.Common.{arith}
 use Rattle.terrain.proofs.filled.flood_band.Goals as goal
 
 pub loop-list-init : goal.loop-list-init

@@ -1,5 +1,5 @@
 -- `terrain::filled::lowest_near` meets its contract. Assumes nothing.
-use Rattle.std.proofs.Common.{◌-◌, sym, arith}
+use Rattle.std.proofs.Common.{sym, arith}
 use Rattle.terrain.proofs.Filling.{lowest-none, lowest-more}
 use Rattle.terrain.proofs.filled.lowest_near.Goals as goal
 

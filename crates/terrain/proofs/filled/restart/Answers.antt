@@ -3,7 +3,7 @@ use Rattle.terrain.proofs.Neighbours.{level-top}
 use Rattle.terrain.specs.Filled.{top}
 use Rattle.terrain.specs.Cells.{levels_of, valid_at}
 use Rattle.laws.proofs.Lists.{agrees-tab}
-use Rattle.std.proofs.Common.{ℕ, ◌-◌, ◌*◌, cond, ◌∙◌, arith}
+use Rattle.std.proofs.Common.{ℕ, ◌*◌, cond, ◌∙◌, arith}
 use Rattle.terrain.proofs.filled.restart.Goals as goal
 
 pub start_word-requires : goal.start_word-requires

@@ -1,5 +1,5 @@
 -- `terrain::filled::write_heights` meets its contract. Assumes nothing.
-use Rattle.std.proofs.Common.{◌-◌, pos, arith}
+use Rattle.std.proofs.Common.{pos, arith}
 use Rattle.laws.proofs.Lists.{agrees-map}
 use Rattle.terrain.specs.Cells.{height_of}
 use Rattle.terrain.proofs.filled.write_heights.Goals as goal

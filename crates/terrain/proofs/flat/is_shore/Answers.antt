@@ -1,5 +1,5 @@
 -- `terrain::flat::is_shore` meets its contract. Assumes nothing.
-use Rattle.std.proofs.Common.{◌-◌, ◌<◌, length, ◌∙◌, arith}
+use Rattle.std.proofs.Common.{◌<◌, length, ◌∙◌, arith}
 use Rattle.terrain.proofs.InnerWading.{flat-lt, flat_near, flat-beside, flat-is-beside, shore-none, shore-more}
 use Rattle.terrain.proofs.flat.is_shore.Goals as goal
 

@@ -1,5 +1,5 @@
 -- `terrain::flat::nearest_near` meets its contract. Assumes nothing.
-use Rattle.std.proofs.Common.{◌-◌, sym, arith}
+use Rattle.std.proofs.Common.{sym, arith}
 use Rattle.terrain.proofs.Flats.{nearest-none, nearest-more}
 use Rattle.terrain.proofs.flat.nearest_near.Goals as goal
 

@@ -1,5 +1,5 @@
 -- `terrain::flat::reach_around` meets its contract. Assumes nothing.
-use Rattle.std.proofs.Common.{◌-◌, ◌∙◌, arith}
+use Rattle.std.proofs.Common.{◌∙◌, arith}
 use Rattle.terrain.proofs.InnerWading.{flat_near, flat-beside, flat-is-beside, spreading-more, spreading-all}
 use Rattle.terrain.proofs.flat.reach_around.Goals as goal
 

@@ -1,5 +1,5 @@
 -- `terrain::flat::reach_shores` meets its contract. Assumes nothing.
-use Rattle.std.proofs.Common.{◌-◌, refl, arith}
+use Rattle.std.proofs.Common.{refl, arith}
 use Rattle.terrain.proofs.InnerWading.{shores-none, shores-all}
 use Rattle.terrain.proofs.flat.reach_shores.Goals as goal
 

@@ -1,5 +1,5 @@
 -- `terrain::flat::wade` meets its contract. Assumes nothing.
-use Rattle.std.proofs.Common.{◌-◌, ◌∙◌, arith}
+use Rattle.std.proofs.Common.{◌∙◌, arith}
 use Rattle.terrain.proofs.InnerWading.{wading-take, waded}
 use Rattle.terrain.proofs.flat.wade.Goals as goal
 

@@ -1,5 +1,5 @@
 -- `terrain::given::first_broken` meets its contract. Assumes nothing.
-use Rattle.std.proofs.Common.{◌-◌, ◌*◌, ◌<◌, not, sym, ap, ◌∙◌, arith}
+use Rattle.std.proofs.Common.{◌*◌, ◌<◌, not, sym, ap, ◌∙◌, arith}
 use Rattle.laws.proofs.First.{first-is, first-none}
 use Rattle.terrain.specs.Given.{kept_at, first_broken}
 use Rattle.terrain.proofs.given.first_broken.Goals as goal

@@ -1,5 +1,5 @@
 -- `terrain::given::is_beside_none` meets its contract. Assumes nothing.
-use Rattle.std.proofs.Common.{ℕ, ◌-◌, get_or, ap, ◌∙◌, arith}
+use Rattle.std.proofs.Common.{ℕ, get_or, ap, ◌∙◌, arith}
 use Rattle.terrain.proofs.InnerStepping.{open_none, open_more}
 use Rattle.terrain.proofs.given.is_beside_none.Goals as goal
 

@@ -1,5 +1,5 @@
 -- `terrain::given::write_falls` meets its contract. Assumes nothing.
-use Rattle.std.proofs.Common.{◌-◌, ◌*◌, arith}
+use Rattle.std.proofs.Common.{◌*◌, arith}
 use Rattle.laws.proofs.Lists.{agrees-tab}
 use Rattle.terrain.specs.Falls.{fall_at, falls_of}
 use Rattle.terrain.proofs.given.write_falls.Goals as goal

@@ -1,5 +1,5 @@
 -- `terrain::ring::first_left` meets its contract. Assumes nothing.
-use Rattle.std.proofs.Common.{◌≡◌, ◌-◌, length, sym, arith}
+use Rattle.std.proofs.Common.{◌≡◌, length, sym, arith}
 use Rattle.laws.proofs.First.{first-is, first-none}
 use Rattle.terrain.specs.InnerGiven.{left_at}
 use Rattle.terrain.proofs.ring.first_left.Goals as goal

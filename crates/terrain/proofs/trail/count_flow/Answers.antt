@@ -1,7 +1,7 @@
 -- `terrain::trail::count_flow` meets its contract. Assumes nothing.
 use Rattle.terrain.proofs.InnerDescending.{place-valid, place-cell}
 use Rattle.terrain.proofs.InnerPassing.{Passing, pass-start, pass_step, pass_fits, pass_all}
-use Rattle.std.proofs.Common.{ℕ, ◌+◌, ◌-◌, List, sym, refl, subst, arith}
+use Rattle.std.proofs.Common.{ℕ, ◌+◌, List, sym, refl, subst, arith}
 use Rattle.terrain.proofs.trail.count_flow.Goals as goal
 
 pub loop-place-init : goal.loop-place-init
@@ -11,11 +11,10 @@ pub receiver-y-requires : goal.receiver-y-requires
 receiver-y-requires c = (c.requires.0.drawn, place-valid c.requires.0.drawn c.requires.1 (omega arith) refl, c.requires.3)
 
 pub hand_on-requires : goal.hand_on-requires
-hand_on-requires c =
-    (
-      omega (arith, place-cell c.requires.0.drawn {p = c.loop-place.place} c.requires.1 (omega arith) refl, c.loop-place.invariant.0.long),
-      (λ h. omega (arith, pass_fits c.requires.0 c.requires.1 c.loop-place.invariant.0 (omega arith) refl c.receiver-y.ensures (omega (arith, c.loop-place.invariant.0.long)), c.requires.0.drawn.sized.small)),
-    )
+hand_on-requires c = (
+  omega (arith, place-cell c.requires.0.drawn {p = c.loop-place.place} c.requires.1 (omega arith) refl, c.loop-place.invariant.0.long),
+  (λ h. omega (arith, pass_fits c.requires.0 c.requires.1 c.loop-place.invariant.0 (omega arith) refl c.receiver-y.ensures (omega (arith, c.loop-place.invariant.0.long)), c.requires.0.drawn.sized.small)),
+)
 
 pub loop-place-preserved : goal.loop-place-preserved
 loop-place-preserved c =

@@ -1,6 +1,6 @@
 -- What the loops of `terrain::trail::longest_trail` keep, and what falls. Assumes nothing.
 use Rattle.terrain.proofs.InnerFollowing.{Backing}
-use Rattle.std.proofs.Common.{◌-◌, ◌≤◌}
+use Rattle.std.proofs.Common.{◌≤◌}
 use Rattle.terrain.proofs.trail.longest_trail.Given as goal
 
 abbrev pub invariant-loop-place : goal.invariant-loop-place

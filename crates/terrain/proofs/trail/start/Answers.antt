@@ -3,7 +3,7 @@ use Rattle.terrain.proofs.Receivers.{mapped-read}
 use Rattle.terrain.specs.Trail.{mapped_at}
 use Rattle.laws.proofs.Lists.{agrees-more, agrees-tab}
 use Rattle.laws.specs.Sums.{when}
-use Rattle.std.proofs.Common.{ℕ, ◌-◌, ◌*◌, Bool, sym, ap, ◌∙◌, arith, length-set}
+use Rattle.std.proofs.Common.{ℕ, ◌*◌, Bool, sym, ap, ◌∙◌, arith, length-set}
 use Rattle.terrain.proofs.trail.start.Goals as goal
 
 pub loop-x-preserved : goal.loop-x-preserved

@@ -1,6 +1,5 @@
 -- `text::headers::is_named` meets its contract. Assumes nothing.
 use mathlib.Core.Path.{sym, ◌∙◌}
-use Prim.Native.Nat.{◌-◌}
 use native.Mathlib.Omega.{arith}
 use Rattle.text.proofs.InnerNames.{named-short, named_other, named_more, named_end}
 use Rattle.text.proofs.headers.is_named.Goals as goal

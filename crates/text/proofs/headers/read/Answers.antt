@@ -9,9 +9,8 @@ pub returns-in-NoPair : goal.returns-in-NoPair
 returns-in-NoPair c = (head-no-corners _ _ _ c.read_extent-x.ensures.0 _ c.in-Extent.is _ c.read_corners-m.ensures _ c.in-NoPair.is, tt)
 
 pub returns-in-Pair : goal.returns-in-Pair
-returns-in-Pair c =
-    (
-      head-on _ _ _ c.read_extent-x.ensures.0 _ c.in-Extent.is _ c.read_corners-m.ensures _ c.in-Pair.is _
-          c.read_side_and_no_data.ensures.0,
-      c.read_side_and_no_data.ensures.1,
-    )
+returns-in-Pair c = (
+  head-on _ _ _ c.read_extent-x.ensures.0 _ c.in-Extent.is _ c.read_corners-m.ensures _ c.in-Pair.is _
+      c.read_side_and_no_data.ensures.0,
+  c.read_side_and_no_data.ensures.1,
+)

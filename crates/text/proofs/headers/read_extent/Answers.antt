@@ -13,8 +13,7 @@ returns-in-NoCount-r c = (extent-no-rows _ _ _ c.count_field-c.ensures.0 _ c.in-
 
 pub returns-in-Count-r : goal.returns-in-Count-r
 unfolding bytes
-returns-in-Count-r c =
-    (
-      extent-on _ _ _ c.count_field-c.ensures.0 _ c.in-Count.is _ c.count_field-r.ensures.0 _ c.in-Count-r.is,
-      extent-fits _ _ _ _ c.in-Count.is c.in-Count-r.is c.count_field-c.ensures.1 c.count_field-r.ensures.1,
-    )
+returns-in-Count-r c = (
+  extent-on _ _ _ c.count_field-c.ensures.0 _ c.in-Count.is _ c.count_field-r.ensures.0 _ c.in-Count-r.is,
+  extent-fits _ _ _ _ c.in-Count.is c.in-Count-r.is c.count_field-c.ensures.1 c.count_field-r.ensures.1,
+)

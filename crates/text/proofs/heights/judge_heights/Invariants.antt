@@ -1,7 +1,5 @@
 -- What the loops of `text::heights::judge_heights` keep, and what falls. Assumes nothing.
 use mathlib.Core.Path.{◌≡◌}
-use mir.Syntax.{w64}
-use mir.Val.{to_z}
 use Rattle.text.specs.Heights.{heights}
 use Rattle.text.specs.InnerHeights.{forget}
 use Rattle.text.proofs.heights.judge_heights.Given as goal

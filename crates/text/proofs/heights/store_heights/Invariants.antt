@@ -2,8 +2,6 @@
 use mathlib.Core.Path.{◌≡◌}
 use Prim.Native.Nat.{◌-◌, ◌≤◌}
 use lib.ListN.{length}
-use mir.Syntax.{w64}
-use mir.Val.{to_z}
 use Rattle.text.specs.Heights.{heights}
 use Rattle.text.specs.InnerHeights.{values_of}
 use Rattle.text.proofs.InnerGrids.{Storing}

@@ -1,8 +1,6 @@
 -- `text::numbers::read_digits` meets its contract. Assumes nothing.
 use mathlib.Core.Path.{sym, ◌∙◌}
-use Prim.Native.Nat.{◌-◌}
 use native.Mathlib.Omega.{arith}
-use borrow.Author.Tests.{not-true, not-false}
 use Rattle.text.proofs.InnerValues.{scan-none, scan-more, scan-small, scan-stop, scan-end}
 use Rattle.text.proofs.numbers.read_digits.Goals as goal
 

@@ -1,12 +1,10 @@
 -- `text::ranges::first_bad` meets its contract. Assumes nothing.
 use mathlib.Core.Path.{◌≡◌, sym, ap, ◌∙◌}
-use Prim.Native.Nat.{◌-◌}
 use native.Mathlib.Omega.{arith}
 use lib.ListN.{get_or}
 use lib.IntN.{pos}
 use mir.Syntax.{w32}
 use mir.Val.{to_z, of_z}
-use borrow.Author.Tests.{not-true}
 use borrow.Author.Rules.{rules}
 use Rattle.text.specs.Ranges.{height_accepted}
 use Rattle.text.proofs.InnerTested.{first-bad, all-good}

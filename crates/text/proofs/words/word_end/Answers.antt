@@ -1,7 +1,6 @@
 -- `text::words::word_end` meets its contract. Assumes nothing.
 use mathlib.Core.Path.{refl, sym, ap, ◌∙◌}
 use mathlib.Core.Bool.{not}
-use Prim.Native.Nat.{◌-◌}
 use Rattle.text.specs.Words.{solid, word_end}
 use Rattle.text.proofs.InnerRuns.{run-stop, run_end, run_step}
 use Rattle.text.proofs.words.word_end.Goals as goal

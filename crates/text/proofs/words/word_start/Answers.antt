@@ -1,7 +1,5 @@
 -- `text::words::word_start` meets its contract. Assumes nothing.
 use mathlib.Core.Path.{refl, sym, ◌∙◌}
-use borrow.Author.Tests.{not-true, not-false}
-use Prim.Native.Nat.{◌-◌}
 use Rattle.text.specs.Words.{blank, word_start}
 use Rattle.text.proofs.InnerRuns.{run-stop, run_end, run_step}
 use Rattle.text.proofs.words.word_start.Goals as goal

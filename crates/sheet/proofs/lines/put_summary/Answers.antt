@@ -1,0 +1,9 @@
+-- `sheet::lines::put_summary` meets its contract. Assumes nothing.
+use native.Mathlib.Omega.{arith}
+use Rattle.numerals.proofs.Writing.{wrote-word}
+use Rattle.numerals.specs.Words.{decimal, line}
+use Rattle.sheet.proofs.lines.put_summary.Goals as goal
+
+pub returns : goal.returns
+unfolding line
+returns c = (wrote-word (decimal c.args.shape.side) c.put_number-a.ensures.0 (wrote-word (decimal c.args.shape.valid) c.put_number-b.ensures.0 c.put_number.ensures.0), omega (arith, c.put_number-a.ensures.1, c.put_number-b.ensures.1, c.put_number.ensures.1))
