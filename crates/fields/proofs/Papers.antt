@@ -1,7 +1,7 @@
 -- RULES 8: all that is marked P, as one statement over a list. antt computes each side. Assumes nothing.
 use mathlib.Core.Path.{refl}
 use mathlib.Core.List.{List, [], ◌∷◌}
-use lib.IntN.{pos, negsuc}
+use lib.IntN.{pos}
 use Rattle.text.specs.Ranges.{size_test, length_test, side_test, height_test}
 use Rattle.settings.specs.Settings.{settings_test}
 use Rattle.factor.specs.Exponent.{exponent_of}

@@ -1,6 +1,6 @@
 -- RULES 7.3: the map calls with their settings as numbers. One test more for each farm than the map call's own: the number of its
 -- formula, after the other settings of both farms and before the marks. Assumes nothing.
-use Rattle.std.specs.Prelude.{List, [], ◌∷◌, ◌++◌, ℕ, ◌*◌, ℤ}
+use Rattle.std.specs.Prelude.{List, ◌∷◌, ◌++◌, ℕ, ◌*◌, ℤ}
 use Rattle.laws.specs.Tests.{Test, verdict}
 use Rattle.text.specs.Ranges.{height_test}
 use Rattle.terrain.specs.Filled.{filled_levels}

@@ -6,7 +6,7 @@ use Prim.Native.Nat.{ℕ, ◌*◌}
 use lib.Dec.{eqb}
 use lib.ListN.{length}
 use borrow.Author.Tests.{eq-eqb, ne_eqb}
-use Rattle.laws.specs.Tests.{Test, passed, failed, verdict}
+use Rattle.laws.specs.Tests.{Test, failed, verdict}
 use Rattle.laws.proofs.Tests.{and-false-left, and-false-right}
 use Rattle.laws.proofs.Verdicts.{passed-failed, verdict-none, verdict-next, verdict-stops}
 use Rattle.text.specs.Ranges.{size_accepted, all_long, length_test}

@@ -11,7 +11,7 @@ use Rattle.laws.specs.Sums.{when}
 use Rattle.laws.proofs.Sums.{greatest-none, greatest-more, greatest-ge, greatest-le, greatest-is}
 use Rattle.factor.specs.Cell.{too_long}
 use Rattle.report.specs.Reports.{rank_of}
-use Rattle.report.specs.InnerCells.{count_to, below, highest_to, Numbers32, Block, Counted, Leading}
+use Rattle.report.specs.InnerCells.{count_to, highest_to, Numbers32, Block, Counted, Leading}
 use Rattle.report.specs.declared.classes.Counts.{Counts}
 use Rattle.report.specs.declared.lead.Lead.{Lead}
 use Rattle.report.proofs.InnerCells.{rank-known, rank-none, rank-small, one-yes, one-no}

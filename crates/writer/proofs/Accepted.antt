@@ -6,7 +6,7 @@ use Prim.Native.Nat.{ℕ, ◌+◌, ◌*◌, ◌≤◌, ◌<◌}
 use native.Mathlib.Omega.{arith}
 use lib.IntN.{ℤ}
 use lib.ListN.{length, get_or}
-use Rattle.laws.specs.Tests.{Test, passed, verdict}
+use Rattle.laws.specs.Tests.{passed, verdict}
 use Rattle.laws.proofs.Verdicts.{test-passed, verdict-passed, verdict-parts}
 use Rattle.text.specs.Quantities.{no_data_height}
 use Rattle.text.specs.Numbers.{Form, formed, malformed, Number, number_at, is_formed, is_number}

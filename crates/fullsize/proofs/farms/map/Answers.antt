@@ -18,9 +18,9 @@ returns-then-place-gt0 c =
     let e = c.refusal_before.ensures ∙ ap (λ (p : ℕ). refusal_before p c.judge_farms-judgement.result) c.formula_place-place.ensures in
     record {
       answers = two-answers a.rows a.columns a.side a.first a.second a.marks.now a.formula a.formula1 a.source a.elevation.now
-          ((lent c.args.filled.now c.args.direction.now c.args.count.now c.args.lengths.now c.args.factors.now c.args.workspace.now)) h c.judge_farms-judgement.ensures e;
+          (lent c.args.filled.now c.args.direction.now c.args.count.now c.args.lengths.now c.args.factors.now c.args.workspace.now) h c.judge_farms-judgement.ensures e;
       leaves = two-leaves a.rows a.columns a.side a.first a.second a.marks.now a.formula a.formula1 a.source a.elevation.now
-            ((lent c.args.filled.now c.args.direction.now c.args.count.now c.args.lengths.now c.args.factors.now c.args.workspace.now)) h c.judge_farms-judgement.ensures;
+          (lent c.args.filled.now c.args.direction.now c.args.count.now c.args.lengths.now c.args.factors.now c.args.workspace.now) h c.judge_farms-judgement.ensures;
       trails = (λ z. absurd (true≢false (sym z)));
       totals = (λ z. absurd (true≢false (sym z)));
       surface = (λ z. absurd (true≢false (sym z)));
@@ -32,9 +32,9 @@ returns c =
     let passes = two-passes a.formula a.formula1 (omega (arith, c.if-place-gt0.false, c.formula_place-place.ensures)) in
     let farms = two a.first a.second a.marks.now in
     record {
-      answers = answer-is a.rows a.columns a.side farms (two_formulas a.formula a.formula1) a.source a.elevation.now ((lent c.args.filled.now c.args.direction.now c.args.count.now c.args.lengths.now c.args.factors.now c.args.workspace.now)) passes c.map_farms.ensures.answers;
-      leaves = after_is a.rows a.columns a.side farms (two_formulas a.formula a.formula1) a.source a.elevation.now ((lent c.args.filled.now c.args.direction.now c.args.count.now c.args.lengths.now c.args.factors.now c.args.workspace.now)) passes
-            c.map_farms.ensures.leaves;
+      answers = answer-is a.rows a.columns a.side farms (two_formulas a.formula a.formula1) a.source a.elevation.now (lent c.args.filled.now c.args.direction.now c.args.count.now c.args.lengths.now c.args.factors.now c.args.workspace.now) passes c.map_farms.ensures.answers;
+      leaves = after_is a.rows a.columns a.side farms (two_formulas a.formula a.formula1) a.source a.elevation.now (lent c.args.filled.now c.args.direction.now c.args.count.now c.args.lengths.now c.args.factors.now c.args.workspace.now) passes
+          c.map_farms.ensures.leaves;
       trails = c.map_farms.ensures.trails;
       totals = c.map_farms.ensures.totals;
       surface = c.map_farms.ensures.surface;

@@ -10,9 +10,9 @@ pub returns-then-formula-gt1 : goal.returns-then-formula-gt1
 returns-then-formula-gt1 c =
     let a = c.args in
     record {
-      answers = one-answers a.rows a.columns a.side a.settings a.formula a.source a.elevation.now ((lent c.args.filled.now c.args.direction.now c.args.count.now c.args.lengths.now c.args.factors.now c.args.workspace.now)) c.if-formula-gt1.true c.judge-judgement.ensures c.without_formula.ensures;
-      leaves = none-leaves a.rows a.columns a.side (one a.settings) (one_formula a.formula) a.source a.elevation.now ((lent c.args.filled.now c.args.direction.now c.args.count.now c.args.lengths.now c.args.factors.now c.args.workspace.now))
-            (one-fails a.formula c.if-formula-gt1.true) c.judge-judgement.ensures.verdict-is;
+      answers = one-answers a.rows a.columns a.side a.settings a.formula a.source a.elevation.now (lent c.args.filled.now c.args.direction.now c.args.count.now c.args.lengths.now c.args.factors.now c.args.workspace.now) c.if-formula-gt1.true c.judge-judgement.ensures c.without_formula.ensures;
+      leaves = none-leaves a.rows a.columns a.side (one a.settings) (one_formula a.formula) a.source a.elevation.now (lent c.args.filled.now c.args.direction.now c.args.count.now c.args.lengths.now c.args.factors.now c.args.workspace.now)
+          (one-fails a.formula c.if-formula-gt1.true) c.judge-judgement.ensures.verdict-is;
       trails = (λ z. absurd (none-accepted c.judge-judgement.result c.without_formula.ensures z));
       totals = (λ z. absurd (none-accepted c.judge-judgement.result c.without_formula.ensures z));
       surface = (λ z. absurd (none-accepted c.judge-judgement.result c.without_formula.ensures z));
@@ -23,8 +23,8 @@ returns c =
     let a = c.args in
     let passes = one_passes a.formula c.if-formula-gt1.false in
     record {
-      answers = answer-is a.rows a.columns a.side (one a.settings) (one_formula a.formula) a.source a.elevation.now ((lent c.args.filled.now c.args.direction.now c.args.count.now c.args.lengths.now c.args.factors.now c.args.workspace.now)) passes c.map.ensures.answers;
-      leaves = after_is a.rows a.columns a.side (one a.settings) (one_formula a.formula) a.source a.elevation.now ((lent c.args.filled.now c.args.direction.now c.args.count.now c.args.lengths.now c.args.factors.now c.args.workspace.now)) passes c.map.ensures.leaves;
+      answers = answer-is a.rows a.columns a.side (one a.settings) (one_formula a.formula) a.source a.elevation.now (lent c.args.filled.now c.args.direction.now c.args.count.now c.args.lengths.now c.args.factors.now c.args.workspace.now) passes c.map.ensures.answers;
+      leaves = after_is a.rows a.columns a.side (one a.settings) (one_formula a.formula) a.source a.elevation.now (lent c.args.filled.now c.args.direction.now c.args.count.now c.args.lengths.now c.args.factors.now c.args.workspace.now) passes c.map.ensures.leaves;
       trails = c.map.ensures.trails;
       totals = c.map.ensures.totals;
       surface = c.map.ensures.surface;

@@ -13,4 +13,4 @@ returns-then-formula-gt1 c =
     c.without_formula.ensures c.judge-judgement.ensures
 
 pub returns : goal.returns
-returns c = added_is c.args.report ((let a = c.args in map_of a.rows a.columns (one a.settings) a.count.now a.factors.now)) (one_formula c.args.formula) (one_passes c.args.formula c.if-formula-gt1.false) c.add.ensures
+returns c = added_is c.args.report (let a = c.args in map_of a.rows a.columns (one a.settings) a.count.now a.factors.now) (one_formula c.args.formula) (one_passes c.args.formula c.if-formula-gt1.false) c.add.ensures

@@ -1,5 +1,4 @@
 -- `report::classes::sum_all` meets its contract. Assumes nothing.
-use Prim.Native.Nat.{◌-◌}
 use native.Mathlib.Omega.{arith}
 use Rattle.report.proofs.InnerCells.{all_more}
 use Rattle.report.proofs.classes.sum_all.Goals as goal

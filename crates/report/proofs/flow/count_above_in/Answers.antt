@@ -7,7 +7,7 @@ use Rattle.laws.specs.Sums.{when}
 use lib.Dec.{ltb}
 use lib.ListN.{length, get_or}
 use native.Mathlib.Omega.{arith}
-use Prim.Native.Nat.{ℕ, ◌-◌}
+use Prim.Native.Nat.{ℕ}
 use mathlib.Core.Path.{◌≡◌, sym, ap, ◌∙◌}
 use Rattle.report.proofs.flow.count_above_in.Goals as goal
 

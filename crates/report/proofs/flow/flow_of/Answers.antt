@@ -6,7 +6,7 @@ use Rattle.report.proofs.flow.flow_of.Goals as goal
 pub returns : goal.returns
 returns c =
     let a = c.args in (
-  c.count_above.ensures.0,
-  c.count_above.ensures.1 ∙ channels-counted a.threshold a.count.now c.bound_for.result
-      c.bound_for.ensures,
-)
+      c.count_above.ensures.0,
+      c.count_above.ensures.1 ∙ channels-counted a.threshold a.count.now c.bound_for.result
+          c.bound_for.ensures,
+    )

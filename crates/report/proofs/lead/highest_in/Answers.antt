@@ -1,5 +1,4 @@
 -- `report::lead::highest_in` meets its contract. Assumes nothing.
-use Prim.Native.Nat.{◌-◌}
 use native.Mathlib.Omega.{arith}
 use Rattle.report.proofs.InnerLead.{highest-more}
 use Rattle.report.proofs.lead.highest_in.Goals as goal

@@ -4,7 +4,6 @@ use Rattle.report.specs.Maps.{map_of}
 use Rattle.factor.specs.Farms.{one}
 use lib.ListN.{length}
 use mathlib.Core.Path.{sym, ◌∙◌}
-use borrow.Author.Rules.{rules}
 use Rattle.report.proofs.single.report_of.Goals as goal
 
 pub returns : goal.returns

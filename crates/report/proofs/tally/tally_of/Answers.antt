@@ -1,5 +1,4 @@
 -- `report::tally::tally_of` meets its contract. Assumes nothing.
-use Prim.Native.Nat.{◌-◌}
 use native.Mathlib.Omega.{arith}
 use Rattle.report.proofs.tally.tally_of.Goals as goal
 

@@ -1,5 +1,4 @@
 -- `writer::cells::directions_length` meets its contract. Assumes nothing.
-use Prim.Native.Nat.{◌-◌}
 use native.Mathlib.Omega.{arith}
 use Rattle.writer.proofs.InnerCells.{counted-more, counted-all}
 use Rattle.writer.proofs.cells.directions_length.Goals as goal
