@@ -8,9 +8,11 @@ mod refusals;
 mod rounding;
 mod show;
 
-fn main() {
-    rounding::run();
-    faults::run();
-    no_data::run();
-    refusals::run();
+use std::io;
+
+fn main(rt: HostRuntime) -> io::Result<()> {
+    rounding::run(&rt)?;
+    faults::run(&rt)?;
+    no_data::run(&rt)?;
+    refusals::run(&rt)
 }

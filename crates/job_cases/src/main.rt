@@ -2,6 +2,8 @@
 // was written for itself, under the default as it was while its low cutoff was 0.5.
 #![tactic(auto)]
 
-fn main() {
-    streams::print_sheets(programs::job_settings());
+use std::io;
+
+fn main(rt: HostRuntime) -> io::Result<()> {
+    streams::print_sheets(&rt, programs::job_settings())
 }

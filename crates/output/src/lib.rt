@@ -1,63 +1,65 @@
 // Writes bytes, numbers and answers to standard output, for the programs that run stored cases. What is written no contract can say.
+// Each call hands up the error of the first write that fails.
 #![tactic(auto)]
 
-use libc::STDOUT_FILENO;
+use std::io;
 use text::{Answer, Header, Refusal};
 
-pub fn write(bytes: &[u8]) {
-    io::write_all(STDOUT_FILENO, bytes);
+pub fn write(rt: &impl Print, bytes: &[u8]) -> io::Result<()> {
+    rt.write_all(bytes)
 }
 
 // A blank and a number.
-pub fn write_natural(n: u64) {
-    write(b" ");
-    io::print_decimal(STDOUT_FILENO, n);
+pub fn write_natural(rt: &impl Print, n: u64) -> io::Result<()> {
+    write(rt, b" ")?;
+    rt.print(n)
 }
 
 // A blank and a signed number. For a negative n, -n is !n + 1.
-pub fn write_integer(n: i64) {
+pub fn write_integer(rt: &impl Print, n: i64) -> io::Result<()> {
     if n < 0 {
-        write(b" -");
-        io::print_decimal(STDOUT_FILENO, std::num::wrapping_add_u64(natural(!n), 1));
+        write(rt, b" -")?;
+        rt.print(natural(!n).wrapping_add(1))
     } else {
-        write_natural(natural(n));
+        write_natural(rt, natural(n))
     }
 }
 
 // A blank and a height in cm.
-pub fn write_height(height: i32) {
-    write_integer(height as i64);
+pub fn write_height(rt: &impl Print, height: i32) -> io::Result<()> {
+    write_integer(rt, height as i64)
 }
 
 // What a call that reads a text answers: number, place, rows, columns, side and NoData number.
-pub fn write_answer(answer: Answer) {
+pub fn write_answer(rt: &impl Print, answer: Answer) -> io::Result<()> {
     match answer {
-        Answer::Accepted(header) => write_header(header),
-        Answer::Refused(refusal) => write_refusal(refusal),
+        Answer::Accepted(header) => write_header(rt, header),
+        Answer::Refused(refusal) => write_refusal(rt, refusal),
     }
 }
 
-fn write_header(header: Header) {
-    write(b" 0 0");
-    write_natural(header.rows as u64);
-    write_natural(header.columns as u64);
-    write_natural(header.side as u64);
-    write_integer(header.no_data);
+fn write_header(rt: &impl Print, header: Header) -> io::Result<()> {
+    write(rt, b" 0 0")?;
+    write_natural(rt, header.rows as u64)?;
+    write_natural(rt, header.columns as u64)?;
+    write_natural(rt, header.side as u64)?;
+    write_integer(rt, header.no_data)
 }
 
-fn write_refusal(refusal: Refusal) {
-    write_natural(refusal.number as u64);
-    write_natural(refusal.place as u64);
-    write(b" 0 0 0 0");
+fn write_refusal(rt: &impl Print, refusal: Refusal) -> io::Result<()> {
+    write_natural(rt, refusal.number as u64)?;
+    write_natural(rt, refusal.place as u64)?;
+    write(rt, b" 0 0 0 0")
 }
 
 // The heights one after the other.
-pub fn write_heights(heights: &[i32]) {
+pub fn write_heights(rt: &impl Print, heights: &[i32]) -> io::Result<()> {
     let mut i = 0;
     while i < heights.len() {
-        write_height(heights[i]);
+        write_height(rt, heights[i])?;
         i += 1;
     }
+    Ok(())
 }
 
 // n, or 0 where n is negative.

@@ -4,8 +4,8 @@
 ghost use Rattle.std.specs.Prelude.{◌≡◌};
 ghost use Rattle.programs.specs.Settings.{job_settings};
 
-use libc::{STDIN_FILENO, STDOUT_FILENO};
 use settings::{Formula, Settings};
+use std::io;
 
 // The job's settings: cutoffs 0.5, channels by the library's default, and the older steepness formula.
 pub fn job_settings() -> Settings
@@ -23,11 +23,11 @@ pub fn job_settings() -> Settings
 
 // Reads a text grid from standard input and prints its sheet. All work is done before the first byte is printed. One byte more
 // than a text may have is read, so that a longer text shows; and no sheet is longer than its room. What is printed no
-// contract can say.
-pub fn print(rules: Settings) {
+// contract can say. A read or a write that fails is handed up.
+pub fn print(rt: &(impl Input + Print), rules: Settings) -> io::Result<()> {
     let mut text = [0u8; 32769];
     let mut lines = sheet::room();
-    let length = io::read_full(STDIN_FILENO, &mut text);
+    let length = input::read_full(&mut rt.reader(), &mut text)?;
     let end = sheet::print(&text[..length], rules, &mut lines);
-    io::write_all(STDOUT_FILENO, &lines[..end]);
+    rt.write_all(&lines[..end])
 }

@@ -9,13 +9,15 @@ mod make;
 mod refusals;
 mod show;
 
-fn main() {
-    lists::run();
-    lists::blocks();
-    joins::greatest();
-    joins::edges();
-    refusals::run();
-    refusals::full();
-    farms::channels();
-    farms::refusals();
+use std::io;
+
+fn main(rt: HostRuntime) -> io::Result<()> {
+    lists::run(&rt)?;
+    lists::blocks(&rt)?;
+    joins::greatest(&rt)?;
+    joins::edges(&rt)?;
+    refusals::run(&rt)?;
+    refusals::full(&rt)?;
+    farms::channels(&rt)?;
+    farms::refusals(&rt)
 }

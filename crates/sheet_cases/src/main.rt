@@ -3,12 +3,16 @@
 #![tactic(auto)]
 
 use settings::{Channel, Formula, Settings};
+use std::io;
 
-fn main() {
-    streams::print_sheets(Settings {
-        low: 0.5,
-        high: 0.5,
-        channel: Channel::NoChannel,
-        formula: Formula::Older,
-    });
+fn main(rt: HostRuntime) -> io::Result<()> {
+    streams::print_sheets(
+        &rt,
+        Settings {
+            low: 0.5,
+            high: 0.5,
+            channel: Channel::NoChannel,
+            formula: Formula::Older,
+        },
+    )
 }

@@ -1,5 +1,5 @@
 // Prints the sheets of a stream of texts, for the programs that run stored cases. Standard input has, for each text, a line with its
-// length in bytes and then those bytes. What is printed no contract can say.
+// length in bytes and then those bytes. What is printed no contract can say. A read or a write that fails is handed up.
 #![tactic(auto)]
 
 mod frames;
@@ -7,32 +7,32 @@ mod frames;
 ghost use Rattle.std.specs.Prelude.{◌≡◌, length};
 
 use frames::Frame;
-use libc::{STDIN_FILENO, STDOUT_FILENO};
 use settings::Settings;
+use std::io;
 
 // Prints one text's sheet.
-fn print_case(number: usize, text: &[u8], rules: Settings) {
+fn print_case(rt: &impl Print, number: usize, text: &[u8], rules: Settings) -> io::Result<()> {
     let mut lines = sheet::room();
     let end = sheet::print(text, rules, &mut lines);
-    io::write_all(STDOUT_FILENO, b"case ");
-    io::print_decimal(STDOUT_FILENO, number as u64);
-    io::write_all(STDOUT_FILENO, b"\n");
-    io::write_all(STDOUT_FILENO, &lines[..end]);
+    rt.write_all(b"case ")?;
+    rt.print(number)?;
+    rt.write_all(b"\n")?;
+    rt.write_all(&lines[..end])
 }
 
 // Prints the sheet of each text, as far as the frames are whole.
-fn print_cases(stream: &[u8], rules: Settings) {
+fn print_cases(rt: &impl Print, stream: &[u8], rules: Settings) -> io::Result<()> {
     let mut at: usize = 0;
     let mut number: usize = 0;
     while at < stream.len() {
         let Frame::Text { start, end } = frames::next(stream, at) else {
-            io::write_all(STDOUT_FILENO, b"bad frame\n");
-            return;
+            return rt.write_all(b"bad frame\n");
         };
-        print_case(number, &stream[start..end], rules);
+        print_case(rt, number, &stream[start..end], rules)?;
         number += 1;
         at = end;
     }
+    Ok(())
 }
 
 // Room for a stream. The contract gives its length alone, which is what lending it needs.
@@ -43,8 +43,8 @@ fn room() -> [u8; 524288]
 }
 
 // Prints the sheets of the stream on standard input, each after a line `case N`.
-pub fn print_sheets(rules: Settings) {
+pub fn print_sheets(rt: &(impl Input + Print), rules: Settings) -> io::Result<()> {
     let mut stream = room();
-    let length = io::read_full(STDIN_FILENO, &mut stream);
-    print_cases(&stream[..length], rules);
+    let length = input::read_full(&mut rt.reader(), &mut stream)?;
+    print_cases(rt, &stream[..length], rules)
 }

@@ -4,35 +4,53 @@ use crate::land::{Land, shape};
 use crate::show::{at_most_1600, map, write_title, write_workspace};
 use factor::Source;
 use output::write;
+use std::io;
 
-pub(crate) fn own() {
-    field_back(b"bowl with a level rim", Land::Drawn, 7, 9, 63, &LEVEL_BOWL);
-    field_back(b"noise and NoData", Land::StepNoise, 20, 30, 600, b"");
+pub(crate) fn own(rt: &impl Print) -> io::Result<()> {
+    field_back(
+        rt,
+        b"bowl with a level rim",
+        Land::Drawn,
+        7,
+        9,
+        63,
+        &LEVEL_BOWL,
+    )?;
+    field_back(rt, b"noise and NoData", Land::StepNoise, 20, 30, 600, b"")
 }
 
 // Maps a field of a kind, of at most 1,600 cells, twice. The picture is for drawn ones.
-fn field_back(name: &[u8], land: Land, rows: usize, columns: usize, cells: usize, picture: &[u8]) {
+fn field_back(
+    rt: &impl Print,
+    name: &[u8],
+    land: Land,
+    rows: usize,
+    columns: usize,
+    cells: usize,
+    picture: &[u8],
+) -> io::Result<()> {
     let mut ground = [0i32; 1600];
     let end = at_most_1600(cells);
-    shape_back(name, land, rows, columns, picture, &mut ground[0..end]);
+    shape_back(rt, name, land, rows, columns, picture, &mut ground[0..end])
 }
 
 // Gives each cell its height, and maps the field twice.
 fn shape_back(
+    rt: &impl Print,
     name: &[u8],
     land: Land,
     rows: usize,
     columns: usize,
     picture: &[u8],
     ground: &mut [i32],
-) {
+) -> io::Result<()> {
     shape(land, columns, picture, ground);
-    write_title(name, rows, columns);
-    lend_own(rows, columns, ground);
+    write_title(rt, name, rows, columns)?;
+    lend_own(rt, rows, columns, ground)
 }
 
 // Lends the grids for our own directions.
-fn lend_own(rows: usize, columns: usize, ground: &[i32]) {
+fn lend_own(rt: &impl Print, rows: usize, columns: usize, ground: &[i32]) -> io::Result<()> {
     let end = at_most_1600(ground.len());
     let mut filled = [77i32; 1600];
     let mut direction = [77u8; 1600];
@@ -41,6 +59,7 @@ fn lend_own(rows: usize, columns: usize, ground: &[i32]) {
     let mut factors = [77u32; 1600];
     let mut workspace = [77u32; 1600];
     map_own(
+        rt,
         rows,
         columns,
         ground,
@@ -50,11 +69,12 @@ fn lend_own(rows: usize, columns: usize, ground: &[i32]) {
         &mut lengths[0..end],
         &mut factors[0..end],
         &mut workspace[0..end],
-    );
+    )
 }
 
 // Maps a ground with our own directions, then with these given back.
 fn map_own(
+    rt: &impl Print,
     rows: usize,
     columns: usize,
     ground: &[i32],
@@ -64,8 +84,9 @@ fn map_own(
     lengths: &mut [u64],
     factors: &mut [u32],
     workspace: &mut [u32],
-) {
+) -> io::Result<()> {
     map(
+        rt,
         rows,
         columns,
         Source::Own,
@@ -76,14 +97,15 @@ fn map_own(
         lengths,
         factors,
         workspace,
-    );
+    )?;
     lend_back(
-        rows, columns, ground, filled, direction, count, lengths, factors,
-    );
+        rt, rows, columns, ground, filled, direction, count, lengths, factors,
+    )
 }
 
 // Lends the grids for our own directions given back, beside those that they left.
 fn lend_back(
+    rt: &impl Print,
     rows: usize,
     columns: usize,
     ground: &[i32],
@@ -92,7 +114,7 @@ fn lend_back(
     own_count: &[u32],
     own_lengths: &[u64],
     own_factors: &[u32],
-) {
+) -> io::Result<()> {
     let end = at_most_1600(ground.len());
     let mut filled = [77i32; 1600];
     let mut direction = [77u8; 1600];
@@ -101,6 +123,7 @@ fn lend_back(
     let mut factors = [77u32; 1600];
     let mut workspace = [77u32; 1600];
     map_back(
+        rt,
         rows,
         columns,
         ground,
@@ -115,11 +138,12 @@ fn lend_back(
         &mut lengths[0..end],
         &mut factors[0..end],
         &mut workspace[0..end],
-    );
+    )
 }
 
 // Maps a ground with directions given back, and writes whether every grid is as it was with our own.
 fn map_back(
+    rt: &impl Print,
     rows: usize,
     columns: usize,
     ground: &[i32],
@@ -134,9 +158,10 @@ fn map_back(
     lengths: &mut [u64],
     factors: &mut [u32],
     workspace: &mut [u32],
-) {
+) -> io::Result<()> {
     copy(own_direction, direction);
     map(
+        rt,
         rows,
         columns,
         Source::Given,
@@ -147,28 +172,31 @@ fn map_back(
         lengths,
         factors,
         workspace,
-    );
-    write_workspace(workspace);
-    write_back(same(
-        ground.len(),
-        filled,
-        own_filled,
-        direction,
-        own_direction,
-        count,
-        own_count,
-        lengths,
-        own_lengths,
-        factors,
-        own_factors,
-    ));
+    )?;
+    write_workspace(rt, workspace)?;
+    write_back(
+        rt,
+        same(
+            ground.len(),
+            filled,
+            own_filled,
+            direction,
+            own_direction,
+            count,
+            own_count,
+            lengths,
+            own_lengths,
+            factors,
+            own_factors,
+        ),
+    )
 }
 
-fn write_back(same: bool) {
+fn write_back(rt: &impl Print, same: bool) -> io::Result<()> {
     if same {
-        write(b"given back same\n");
+        write(rt, b"given back same\n")
     } else {
-        write(b"given back different\n");
+        write(rt, b"given back different\n")
     }
 }
 

@@ -1,5 +1,6 @@
 // Small fields, drawn with a digit for each cell's height in metres and a point for NoData.
 use crate::land::{Land, field_of};
+use std::io;
 use text::NO_DATA;
 
 // A bowl of 7 by 9 with a level rim.
@@ -11,17 +12,19 @@ pub(crate) const LEVEL_BOWL: [u8; 63] = *b"999999999\
     987654329\
     999999999";
 
-pub(crate) fn basins() {
+pub(crate) fn basins(rt: &impl Print) -> io::Result<()> {
     draw(
+        rt,
         b"pit",
         3,
         3,
         b"555\
         524\
         555",
-    );
-    draw(b"bowl with a level rim", 7, 9, &LEVEL_BOWL);
+    )?;
+    draw(rt, b"bowl with a level rim", 7, 9, &LEVEL_BOWL)?;
     draw(
+        rt,
         b"pit within a pit, its mouth at a corner",
         7,
         7,
@@ -32,19 +35,21 @@ pub(crate) fn basins() {
         8255528\
         8222228\
         8888883",
-    );
+    )?;
     draw(
+        rt,
         b"corridor with two mouths",
         3,
         9,
         b"999999999\
         444444444\
         999999999",
-    );
+    )
 }
 
-pub(crate) fn slopes() {
+pub(crate) fn slopes(rt: &impl Print) -> io::Result<()> {
     draw(
+        rt,
         b"flat that ends at the rim and at a slope",
         6,
         8,
@@ -54,43 +59,48 @@ pub(crate) fn slopes() {
         44444439\
         94444429\
         99999919",
-    );
+    )?;
     draw(
+        rt,
         b"peak with eight equal drops",
         3,
         3,
         b"222\
         252\
         222",
-    );
+    )?;
     draw(
+        rt,
         b"drops to the four corners",
         3,
         3,
         b"393\
         959\
         393",
-    );
+    )?;
     draw(
+        rt,
         b"drops north-east and north-west",
         3,
         3,
         b"393\
         959\
         999",
-    );
+    )
 }
 
-pub(crate) fn no_data() {
+pub(crate) fn no_data(rt: &impl Print) -> io::Result<()> {
     draw(
+        rt,
         b"all NoData",
         3,
         4,
         b"....\
         ....\
         ....",
-    );
+    )?;
     draw(
+        rt,
         b"single cells in NoData",
         4,
         5,
@@ -98,8 +108,9 @@ pub(crate) fn no_data() {
         .....\
         5.9.4\
         ..8..",
-    );
+    )?;
     draw(
+        rt,
         b"pit behind one NoData cell",
         5,
         5,
@@ -108,31 +119,45 @@ pub(crate) fn no_data() {
         91919\
         91119\
         99999",
-    );
+    )
 }
 
-pub(crate) fn strips() {
-    draw(b"one cell", 1, 1, b"0");
-    draw(b"one cell of NoData", 1, 1, b".");
-    draw(b"strip 9 8 7 5", 1, 4, b"9875");
-    draw(b"strip 9 7 6", 1, 3, b"976");
+pub(crate) fn strips(rt: &impl Print) -> io::Result<()> {
+    draw(rt, b"one cell", 1, 1, b"0")?;
+    draw(rt, b"one cell of NoData", 1, 1, b".")?;
+    draw(rt, b"strip 9 8 7 5", 1, 4, b"9875")?;
+    draw(rt, b"strip 9 7 6", 1, 3, b"976")
 }
 
-pub(crate) fn pits_in_strips() {
-    draw(b"strip with pits, flats and NoData", 1, 12, b"5533777.2444");
-    draw(b"strip with pits, flats and NoData", 12, 1, b"5533777.2444");
+pub(crate) fn pits_in_strips(rt: &impl Print) -> io::Result<()> {
     draw(
+        rt,
+        b"strip with pits, flats and NoData",
+        1,
+        12,
+        b"5533777.2444",
+    )?;
+    draw(
+        rt,
+        b"strip with pits, flats and NoData",
+        12,
+        1,
+        b"5533777.2444",
+    )?;
+    draw(
+        rt,
         b"two rows, all of them rim",
         2,
         6,
         b"523455\
         313542",
-    );
+    )
 }
 
 // A plateau within a higher edge, with a pit and with a lake around an island of one cell.
-pub(crate) fn plateau() {
+pub(crate) fn plateau(rt: &impl Print) -> io::Result<()> {
     draw(
+        rt,
         b"plateau",
         16,
         24,
@@ -152,11 +177,17 @@ pub(crate) fn plateau() {
         988888888888888333338889\
         988888888888888888888889\
         999999999999999999999999",
-    );
+    )
 }
 
-fn draw(name: &[u8], rows: usize, columns: usize, picture: &[u8]) {
-    field_of(name, Land::Drawn, rows, columns, picture.len(), picture);
+fn draw(
+    rt: &impl Print,
+    name: &[u8],
+    rows: usize,
+    columns: usize,
+    picture: &[u8],
+) -> io::Result<()> {
+    field_of(rt, name, Land::Drawn, rows, columns, picture.len(), picture)
 }
 
 // The height that a picture shows at the cell x.

@@ -5,18 +5,28 @@ use crate::land::{Land, shape};
 use crate::show::{at_most_1600, write_map, write_title};
 use factor::Source;
 use output::write;
+use std::io;
 
-pub(crate) fn sound() {
-    draw(b"given: one cell that leaves the map", 1, 1, b"5", &[0]);
-    draw(b"given: no cell has data", 1, 3, b"...", &[255, 255, 255]);
+pub(crate) fn sound(rt: &impl Print) -> io::Result<()> {
+    draw(rt, b"given: one cell that leaves the map", 1, 1, b"5", &[0])?;
     draw(
+        rt,
+        b"given: no cell has data",
+        1,
+        3,
+        b"...",
+        &[255, 255, 255],
+    )?;
+    draw(
+        rt,
         b"given: 0 on a rim cell with lower neighbours",
         1,
         4,
         b"9875",
         &[1, 0, 1, 0],
-    );
+    )?;
     draw(
+        rt,
         b"given: 0 inside the grid beside a NoData cell",
         3,
         3,
@@ -24,12 +34,13 @@ pub(crate) fn sound() {
         555\
         555",
         &[255, 0, 0, 0, 0, 0, 0, 0, 0],
-    );
+    )
 }
 
 // The pit's bottom points at higher ground, whose filled height is its own.
-pub(crate) fn sound_on_flats() {
+pub(crate) fn sound_on_flats(rt: &impl Print) -> io::Result<()> {
     draw(
+        rt,
         b"given: pit, not by its steepest ways",
         3,
         3,
@@ -37,8 +48,9 @@ pub(crate) fn sound_on_flats() {
         524\
         555",
         &[1, 4, 4, 0, 1, 0, 1, 64, 64],
-    );
+    )?;
     draw(
+        rt,
         b"given: pit with its own directions",
         3,
         3,
@@ -46,8 +58,9 @@ pub(crate) fn sound_on_flats() {
         524\
         555",
         &[2, 4, 4, 1, 1, 0, 128, 64, 64],
-    );
+    )?;
     draw(
+        rt,
         b"given: one trail over all cells of a flat",
         3,
         3,
@@ -55,14 +68,22 @@ pub(crate) fn sound_on_flats() {
         555\
         555",
         &[1, 1, 4, 4, 16, 16, 1, 1, 0],
-    );
+    )
 }
 
-pub(crate) fn bad_codes() {
-    draw(b"given: 0 on a NoData cell", 1, 2, b"5.", &[0, 0]);
-    draw(b"given: 255 on a valid cell", 1, 3, b"987", &[1, 255, 0]);
-    draw(b"given: 3, which is no code", 1, 3, b"987", &[1, 3, 0]);
+pub(crate) fn bad_codes(rt: &impl Print) -> io::Result<()> {
+    draw(rt, b"given: 0 on a NoData cell", 1, 2, b"5.", &[0, 0])?;
     draw(
+        rt,
+        b"given: 255 on a valid cell",
+        1,
+        3,
+        b"987",
+        &[1, 255, 0],
+    )?;
+    draw(rt, b"given: 3, which is no code", 1, 3, b"987", &[1, 3, 0])?;
+    draw(
+        rt,
         b"given: 0 on a cell that is not on the rim",
         3,
         3,
@@ -70,64 +91,77 @@ pub(crate) fn bad_codes() {
         555\
         555",
         &[0, 0, 0, 0, 0, 0, 0, 0, 0],
-    );
+    )
 }
 
 // In row order the cell after a row's end is the next row's first, which is no neighbour.
-pub(crate) fn bad_ways() {
+pub(crate) fn bad_ways(rt: &impl Print) -> io::Result<()> {
     draw(
+        rt,
         b"given: off the grid at a row's end",
         2,
         2,
         b"55\
         55",
         &[0, 1, 0, 0],
-    );
-    draw(b"given: at a NoData cell", 1, 3, b"5.4", &[1, 255, 0]);
-    draw(b"given: to a higher cell", 1, 3, b"789", &[1, 0, 16]);
+    )?;
+    draw(rt, b"given: at a NoData cell", 1, 3, b"5.4", &[1, 255, 0])?;
+    draw(rt, b"given: to a higher cell", 1, 3, b"789", &[1, 0, 16])
 }
 
 // The first in the order of the tests decides, and of one test the first cell.
-pub(crate) fn several_faults() {
+pub(crate) fn several_faults(rt: &impl Print) -> io::Result<()> {
     draw(
+        rt,
         b"given: a ring before two bad codes",
         2,
         3,
         b"555\
         555",
         &[1, 16, 0, 3, 128, 8],
-    );
-    draw(b"given: four bad codes", 1, 5, b"98.67", &[0, 1, 4, 1, 255]);
+    )?;
+    draw(
+        rt,
+        b"given: four bad codes",
+        1,
+        5,
+        b"98.67",
+        &[0, 1, 4, 1, 255],
+    )?;
     lend(
+        rt,
         b"given: height 900001 after a bad code",
         1,
         2,
         &[500, 900001],
         &[3, 0],
-    );
+    )
 }
 
-pub(crate) fn rings() {
-    draw(b"given: a ring of two", 1, 4, b"7777", &[1, 16, 1, 0]);
+pub(crate) fn rings(rt: &impl Print) -> io::Result<()> {
+    draw(rt, b"given: a ring of two", 1, 4, b"7777", &[1, 16, 1, 0])?;
     draw(
+        rt,
         b"given: a way into a ring",
         1,
         5,
         b"77777",
         &[1, 1, 16, 16, 16],
-    );
+    )?;
     draw(
+        rt,
         b"given: two rings and a way into the second",
         2,
         4,
         b"7777\
         7777",
         &[4, 8, 1, 16, 1, 16, 16, 64],
-    );
+    )
 }
 
-pub(crate) fn rings_in_hollows() {
+pub(crate) fn rings_in_hollows(rt: &impl Print) -> io::Result<()> {
     draw(
+        rt,
         b"given: a ring of eight round the centre of a flat",
         3,
         3,
@@ -135,8 +169,9 @@ pub(crate) fn rings_in_hollows() {
         777\
         777",
         &[1, 1, 4, 64, 1, 4, 64, 16, 16],
-    );
+    )?;
     draw(
+        rt,
         b"given: a ring inside a filled pit",
         4,
         4,
@@ -145,30 +180,45 @@ pub(crate) fn rings_in_hollows() {
         9249\
         9998",
         &[0, 0, 0, 0, 0, 1, 4, 0, 0, 64, 16, 0, 0, 0, 0, 0],
-    );
+    )
 }
 
-fn draw(name: &[u8], rows: usize, columns: usize, picture: &[u8], codes: &[u8]) {
+fn draw(
+    rt: &impl Print,
+    name: &[u8],
+    rows: usize,
+    columns: usize,
+    picture: &[u8],
+    codes: &[u8],
+) -> io::Result<()> {
     let mut ground = [0i32; 1600];
     let end = at_most_1600(picture.len());
-    shape_given(name, rows, columns, picture, codes, &mut ground[0..end]);
+    shape_given(rt, name, rows, columns, picture, codes, &mut ground[0..end])
 }
 
 // Gives each cell its height, and maps the field with given codes.
 fn shape_given(
+    rt: &impl Print,
     name: &[u8],
     rows: usize,
     columns: usize,
     picture: &[u8],
     codes: &[u8],
     ground: &mut [i32],
-) {
+) -> io::Result<()> {
     shape(Land::Drawn, columns, picture, ground);
-    lend(name, rows, columns, ground, codes);
+    lend(rt, name, rows, columns, ground, codes)
 }
 
 // A field with given codes and one place per height in every lent grid. All but the codes is 77 beforehand.
-fn lend(name: &[u8], rows: usize, columns: usize, ground: &[i32], codes: &[u8]) {
+fn lend(
+    rt: &impl Print,
+    name: &[u8],
+    rows: usize,
+    columns: usize,
+    ground: &[i32],
+    codes: &[u8],
+) -> io::Result<()> {
     let end = at_most_1600(ground.len());
     let mut filled = [77i32; 1600];
     let mut direction = [77u8; 1600];
@@ -176,8 +226,9 @@ fn lend(name: &[u8], rows: usize, columns: usize, ground: &[i32], codes: &[u8]) 
     let mut lengths = [77u64; 1600];
     let mut factors = [77u32; 1600];
     let mut workspace = [77u32; 1600];
-    write_title(name, rows, columns);
+    write_title(rt, name, rows, columns)?;
     map_given(
+        rt,
         rows,
         columns,
         ground,
@@ -188,11 +239,12 @@ fn lend(name: &[u8], rows: usize, columns: usize, ground: &[i32], codes: &[u8]) 
         &mut lengths[0..end],
         &mut factors[0..end],
         &mut workspace[0..end],
-    );
+    )
 }
 
 // Maps a ground with given codes, and writes what the other fields have and whether the lent grids are as they were.
 fn map_given(
+    rt: &impl Print,
     rows: usize,
     columns: usize,
     ground: &[i32],
@@ -203,9 +255,10 @@ fn map_given(
     lengths: &mut [u64],
     factors: &mut [u32],
     workspace: &mut [u32],
-) {
+) -> io::Result<()> {
     copy(codes, direction);
     write_map(
+        rt,
         rows,
         columns,
         Source::Given,
@@ -216,19 +269,20 @@ fn map_given(
         lengths,
         factors,
         workspace,
-    );
-    write_grids(codes, filled, direction, count, lengths, factors);
+    )?;
+    write_grids(rt, codes, filled, direction, count, lengths, factors)
 }
 
 // Writes whether the grids hold what was lent: the codes, and 77 in every other place.
 fn write_grids(
+    rt: &impl Print,
     codes: &[u8],
     filled: &[i32],
     direction: &[u8],
     count: &[u32],
     lengths: &[u64],
     factors: &[u32],
-) {
+) -> io::Result<()> {
     let lent_heights = [77i32; 1600];
     let lent_numbers = [77u32; 1600];
     let lent_lengths = [77u64; 1600];
@@ -245,8 +299,8 @@ fn write_grids(
         factors,
         &lent_numbers,
     ) {
-        write(b"grids untouched\n");
+        write(rt, b"grids untouched\n")
     } else {
-        write(b"grids changed\n");
+        write(rt, b"grids changed\n")
     }
 }

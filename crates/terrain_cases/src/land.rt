@@ -3,6 +3,7 @@ ghost use Rattle.std.specs.Prelude.{◌≤◌, ◌<◌};
 
 use crate::show::{at_most_1600, field};
 use crate::{drawn, spiral};
+use std::io;
 use text::NO_DATA;
 
 // The kinds of field: drawn, or worked out from a cell's row and column, its index, or its seed.
@@ -20,51 +21,60 @@ pub enum Land {
     Fall,
 }
 
-pub(crate) fn shapes() {
-    draw(b"spiral outwards", Land::SpiralOut, 40, 40, 1600);
-    draw(b"spiral inwards", Land::SpiralIn, 40, 40, 1600);
-    draw(b"comb", Land::Comb, 40, 40, 1600);
-    draw(b"plane", Land::Plane, 40, 40, 1600);
-    draw(b"bowl", Land::Bowl, 40, 40, 1600);
+pub(crate) fn shapes(rt: &impl Print) -> io::Result<()> {
+    draw(rt, b"spiral outwards", Land::SpiralOut, 40, 40, 1600)?;
+    draw(rt, b"spiral inwards", Land::SpiralIn, 40, 40, 1600)?;
+    draw(rt, b"comb", Land::Comb, 40, 40, 1600)?;
+    draw(rt, b"plane", Land::Plane, 40, 40, 1600)?;
+    draw(rt, b"bowl", Land::Bowl, 40, 40, 1600)
 }
 
-pub(crate) fn strips_and_noise() {
-    draw(b"falling strip", Land::Fall, 1, 1024, 1024);
-    draw(b"noise", Land::Noise, 40, 40, 1600);
-    draw(b"noise of all heights", Land::WideNoise, 30, 20, 600);
-    draw(b"noise and NoData", Land::StepNoise, 20, 30, 600);
-    draw(b"strip and NoData", Land::StepNoise, 1024, 1, 1024);
+pub(crate) fn strips_and_noise(rt: &impl Print) -> io::Result<()> {
+    draw(rt, b"falling strip", Land::Fall, 1, 1024, 1024)?;
+    draw(rt, b"noise", Land::Noise, 40, 40, 1600)?;
+    draw(rt, b"noise of all heights", Land::WideNoise, 30, 20, 600)?;
+    draw(rt, b"noise and NoData", Land::StepNoise, 20, 30, 600)?;
+    draw(rt, b"strip and NoData", Land::StepNoise, 1024, 1, 1024)
 }
 
-fn draw(name: &[u8], land: Land, rows: usize, columns: usize, cells: usize) {
-    field_of(name, land, rows, columns, cells, b"");
+fn draw(
+    rt: &impl Print,
+    name: &[u8],
+    land: Land,
+    rows: usize,
+    columns: usize,
+    cells: usize,
+) -> io::Result<()> {
+    field_of(rt, name, land, rows, columns, cells, b"")
 }
 
 // Maps a field of a kind, of at most 1,600 cells. The picture is for drawn ones.
 pub(crate) fn field_of(
+    rt: &impl Print,
     name: &[u8],
     land: Land,
     rows: usize,
     columns: usize,
     cells: usize,
     picture: &[u8],
-) {
+) -> io::Result<()> {
     let mut ground = [0i32; 1600];
     let end = at_most_1600(cells);
-    shape_field(name, land, rows, columns, picture, &mut ground[0..end]);
+    shape_field(rt, name, land, rows, columns, picture, &mut ground[0..end])
 }
 
 // Gives each cell its height, and maps the field.
 fn shape_field(
+    rt: &impl Print,
     name: &[u8],
     land: Land,
     rows: usize,
     columns: usize,
     picture: &[u8],
     ground: &mut [i32],
-) {
+) -> io::Result<()> {
     shape(land, columns, picture, ground);
-    field(name, rows, columns, ground);
+    field(rt, name, rows, columns, ground)
 }
 
 // Gives each cell its height. The seeds of noise are a linear congruence of 32 bits.

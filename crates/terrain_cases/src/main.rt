@@ -11,27 +11,29 @@ mod refusals;
 mod show;
 mod spiral;
 
-fn main() {
-    listed::drops();
-    drawn::basins();
-    drawn::slopes();
-    drawn::no_data();
-    drawn::strips();
-    drawn::pits_in_strips();
-    refusals::sizes();
-    refusals::lengths();
-    refusals::heights();
-    refusals::heights_near_no_data();
-    refusals::of_two();
-    drawn::plateau();
-    land::shapes();
-    land::strips_and_noise();
-    given::sound();
-    given::sound_on_flats();
-    given::bad_codes();
-    given::bad_ways();
-    given::several_faults();
-    given::rings();
-    given::rings_in_hollows();
-    back::own();
+use std::io;
+
+fn main(rt: HostRuntime) -> io::Result<()> {
+    listed::drops(&rt)?;
+    drawn::basins(&rt)?;
+    drawn::slopes(&rt)?;
+    drawn::no_data(&rt)?;
+    drawn::strips(&rt)?;
+    drawn::pits_in_strips(&rt)?;
+    refusals::sizes(&rt)?;
+    refusals::lengths(&rt)?;
+    refusals::heights(&rt)?;
+    refusals::heights_near_no_data(&rt)?;
+    refusals::of_two(&rt)?;
+    drawn::plateau(&rt)?;
+    land::shapes(&rt)?;
+    land::strips_and_noise(&rt)?;
+    given::sound(&rt)?;
+    given::sound_on_flats(&rt)?;
+    given::bad_codes(&rt)?;
+    given::bad_ways(&rt)?;
+    given::several_faults(&rt)?;
+    given::rings(&rt)?;
+    given::rings_in_hollows(&rt)?;
+    back::own(&rt)
 }

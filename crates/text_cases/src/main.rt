@@ -11,12 +11,14 @@ mod show;
 mod side;
 mod words;
 
-fn main() {
-    words::run();
-    names::run();
-    counts::run();
-    side::run();
-    forms::run();
-    heights::run();
-    ends::run();
+use std::io;
+
+fn main(rt: HostRuntime) -> io::Result<()> {
+    words::run(&rt)?;
+    names::run(&rt)?;
+    counts::run(&rt)?;
+    side::run(&rt)?;
+    forms::run(&rt)?;
+    heights::run(&rt)?;
+    ends::run(&rt)
 }

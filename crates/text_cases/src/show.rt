@@ -3,18 +3,19 @@
 ghost use Rattle.std.specs.Prelude.{◌≤◌, length};
 
 use output::{write, write_answer, write_heights};
+use std::io;
 
 // What every lent height is beforehand, so that an untouched grid shows.
 const MARK: i32 = 77;
 
 // One case, with `cells` lent heights: the first line of `lines` is its name, and the text is all that follows.
-pub(crate) fn case(cells: usize, lines: &[u8])
+pub(crate) fn case(rt: &impl Print, cells: usize, lines: &[u8]) -> io::Result<()>
     requires { cells ≤ 9 }
 {
     let mut lent = [MARK; 9];
     let start = second_line(lines);
-    write(&lines[0..start]);
-    answers(&lines[start..], &mut lent[0..cells]);
+    write(rt, &lines[0..start])?;
+    answers(rt, &lines[start..], &mut lent[0..cells])
 }
 
 // Where the second line of `lines` starts.
@@ -31,14 +32,14 @@ fn second_line(lines: &[u8]) -> usize
     i
 }
 
-fn answers(text: &[u8], heights: &mut [i32]) {
-    write(b"header");
+fn answers(rt: &impl Print, text: &[u8], heights: &mut [i32]) -> io::Result<()> {
+    write(rt, b"header")?;
     let read = text::read_header(text);
     let answer = read.answer;
-    write_answer(answer);
-    write(b"\ngrid");
-    write_answer(text::read_grid(text, heights));
-    write(b":");
-    write_heights(heights);
-    write(b"\n");
+    write_answer(rt, answer)?;
+    write(rt, b"\ngrid")?;
+    write_answer(rt, text::read_grid(text, heights))?;
+    write(rt, b":")?;
+    write_heights(rt, heights)?;
+    write(rt, b"\n")
 }

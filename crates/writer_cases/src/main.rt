@@ -7,13 +7,15 @@ mod rooms;
 mod shapes;
 mod show;
 
-fn main() {
-    rooms::heights();
-    rooms::counts();
-    rooms::factors();
-    rooms::directions();
-    shapes::run();
-    refusals::alone();
-    refusals::of_two();
-    rooms::for_shapes();
+use std::io;
+
+fn main(rt: HostRuntime) -> io::Result<()> {
+    rooms::heights(&rt)?;
+    rooms::counts(&rt)?;
+    rooms::factors(&rt)?;
+    rooms::directions(&rt)?;
+    shapes::run(&rt)?;
+    refusals::alone(&rt)?;
+    refusals::of_two(&rt)?;
+    rooms::for_shapes(&rt)
 }

@@ -3,6 +3,7 @@
 ghost use Rattle.std.specs.Prelude.{◌≤◌};
 
 use output::{write, write_natural};
+use std::io;
 use text::Refusal;
 use writer::Answer;
 
@@ -11,6 +12,7 @@ const MARK: u8 = b'~';
 
 // Heights in a room of so many bytes.
 pub(crate) fn heights(
+    rt: &impl Print,
     name: &[u8],
     bytes: usize,
     rows: usize,
@@ -19,16 +21,17 @@ pub(crate) fn heights(
     x: &[u8],
     y: &[u8],
     cells: &[i32],
-)
+) -> io::Result<()>
     requires { bytes ≤ 160 }
 {
     let mut room = [MARK; 160];
-    write(name);
-    heights_in(&mut room[0..bytes], rows, columns, side, x, y, cells);
+    write(rt, name)?;
+    heights_in(rt, &mut room[0..bytes], rows, columns, side, x, y, cells)
 }
 
 // Counts in a room of so many bytes.
 pub(crate) fn counts(
+    rt: &impl Print,
     name: &[u8],
     bytes: usize,
     rows: usize,
@@ -37,16 +40,17 @@ pub(crate) fn counts(
     x: &[u8],
     y: &[u8],
     cells: &[u32],
-)
+) -> io::Result<()>
     requires { bytes ≤ 160 }
 {
     let mut room = [MARK; 160];
-    write(name);
-    counts_in(&mut room[0..bytes], rows, columns, side, x, y, cells);
+    write(rt, name)?;
+    counts_in(rt, &mut room[0..bytes], rows, columns, side, x, y, cells)
 }
 
 // LS in a room of so many bytes.
 pub(crate) fn factors(
+    rt: &impl Print,
     name: &[u8],
     bytes: usize,
     rows: usize,
@@ -55,16 +59,17 @@ pub(crate) fn factors(
     x: &[u8],
     y: &[u8],
     cells: &[u32],
-)
+) -> io::Result<()>
     requires { bytes ≤ 160 }
 {
     let mut room = [MARK; 160];
-    write(name);
-    factors_in(&mut room[0..bytes], rows, columns, side, x, y, cells);
+    write(rt, name)?;
+    factors_in(rt, &mut room[0..bytes], rows, columns, side, x, y, cells)
 }
 
 // Directions in a room of so many bytes.
 pub(crate) fn directions(
+    rt: &impl Print,
     name: &[u8],
     bytes: usize,
     rows: usize,
@@ -73,15 +78,16 @@ pub(crate) fn directions(
     x: &[u8],
     y: &[u8],
     cells: &[u8],
-)
+) -> io::Result<()>
     requires { bytes ≤ 160 }
 {
     let mut room = [MARK; 160];
-    write(name);
-    directions_in(&mut room[0..bytes], rows, columns, side, x, y, cells);
+    write(rt, name)?;
+    directions_in(rt, &mut room[0..bytes], rows, columns, side, x, y, cells)
 }
 
 fn heights_in(
+    rt: &impl Print,
     room: &mut [u8],
     rows: usize,
     columns: usize,
@@ -89,12 +95,16 @@ fn heights_in(
     x: &[u8],
     y: &[u8],
     cells: &[i32],
-) {
-    write_answer(writer::write_heights(rows, columns, side, x, y, cells, room));
-    write_room(room);
+) -> io::Result<()> {
+    write_answer(
+        rt,
+        writer::write_heights(rows, columns, side, x, y, cells, room),
+    )?;
+    write_room(rt, room)
 }
 
 fn counts_in(
+    rt: &impl Print,
     room: &mut [u8],
     rows: usize,
     columns: usize,
@@ -102,12 +112,16 @@ fn counts_in(
     x: &[u8],
     y: &[u8],
     cells: &[u32],
-) {
-    write_answer(writer::write_counts(rows, columns, side, x, y, cells, room));
-    write_room(room);
+) -> io::Result<()> {
+    write_answer(
+        rt,
+        writer::write_counts(rows, columns, side, x, y, cells, room),
+    )?;
+    write_room(rt, room)
 }
 
 fn factors_in(
+    rt: &impl Print,
     room: &mut [u8],
     rows: usize,
     columns: usize,
@@ -115,12 +129,16 @@ fn factors_in(
     x: &[u8],
     y: &[u8],
     cells: &[u32],
-) {
-    write_answer(writer::write_factors(rows, columns, side, x, y, cells, room));
-    write_room(room);
+) -> io::Result<()> {
+    write_answer(
+        rt,
+        writer::write_factors(rows, columns, side, x, y, cells, room),
+    )?;
+    write_room(rt, room)
 }
 
 fn directions_in(
+    rt: &impl Print,
     room: &mut [u8],
     rows: usize,
     columns: usize,
@@ -128,32 +146,35 @@ fn directions_in(
     x: &[u8],
     y: &[u8],
     cells: &[u8],
-) {
-    write_answer(writer::write_directions(rows, columns, side, x, y, cells, room));
-    write_room(room);
+) -> io::Result<()> {
+    write_answer(
+        rt,
+        writer::write_directions(rows, columns, side, x, y, cells, room),
+    )?;
+    write_room(rt, room)
 }
 
-fn write_answer(answer: Answer) {
-    write(b"\nanswer");
+fn write_answer(rt: &impl Print, answer: Answer) -> io::Result<()> {
+    write(rt, b"\nanswer")?;
     match answer {
         Answer::Accepted { length } => {
-            write(b" 0 0");
-            write_natural(length as u64);
+            write(rt, b" 0 0")?;
+            write_natural(rt, length as u64)
         }
-        Answer::Refused(refusal) => write_refusal(refusal),
+        Answer::Refused(refusal) => write_refusal(rt, refusal),
     }
 }
 
-fn write_refusal(refusal: Refusal) {
-    write_natural(refusal.number as u64);
-    write_natural(refusal.place as u64);
-    write(b" 0");
+fn write_refusal(rt: &impl Print, refusal: Refusal) -> io::Result<()> {
+    write_natural(rt, refusal.number as u64)?;
+    write_natural(rt, refusal.place as u64)?;
+    write(rt, b" 0")
 }
 
-fn write_room(room: &[u8]) {
-    write(b", room of");
-    write_natural(room.len() as u64);
-    write(b"\n");
-    write(room);
-    write(b"|\n");
+fn write_room(rt: &impl Print, room: &[u8]) -> io::Result<()> {
+    write(rt, b", room of")?;
+    write_natural(rt, room.len() as u64)?;
+    write(rt, b"\n")?;
+    write(rt, room)?;
+    write(rt, b"|\n")
 }
