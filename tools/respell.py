@@ -3,7 +3,7 @@
 
 usage: tools/respell.py            at the top, once, after the toolchain's port.py
 It rewrites the files of crates/ (.rt, .antt and .edit) and the pages of README.md and docs/, whole words alone. Functions of src/,
-exported names and texts in quotes keep their names: none of the words below is one.
+exported names and texts in quotes keep their names: none of the words below is one. (The parameter of CODE is one of exported functions too.)
 """
 import os
 import re
@@ -64,7 +64,7 @@ def respelled(name):
     def part(s):
         if s == "getD":
             return "get_or"
-        return re.sub(r"([a-z0-9])([A-Z])", lambda m: m.group(1) + "_" + m.group(2).lower(), s) if s[:1].islower() else s
+        return re.sub(r"[A-Z]", lambda m: "_" + m.group(0).lower(), s) if s[:1].islower() else s
 
     return "-".join(part(s) for s in name.split("-"))
 

@@ -283,8 +283,8 @@ infinite = 0 ∷ 0 ∷ 128 ∷ 127 ∷ []
 abbrev pub minus_infinite : List ℕ
 minus_infinite = 0 ∷ 0 ∷ 128 ∷ 255 ∷ []
 
-abbrev pub not_aNumber : List ℕ
-not_aNumber = 0 ∷ 0 ∷ 192 ∷ 127 ∷ []
+abbrev pub not_a_number : List ℕ
+not_a_number = 0 ∷ 0 ∷ 192 ∷ 127 ∷ []
 
 -- ---- accepted
 
@@ -365,7 +365,7 @@ one_wrong =
     wrong 1 one (0 ∷ 0 ∷ 72 ∷ 65 ∷ 0 ∷ []) 14 0 ∷
     wrong 1 one (height ++ height) 14 0 ∷
     -- 15
-    wrong 2 pair (height ++ not_aNumber) 15 1 ∷
+    wrong 2 pair (height ++ not_a_number) 15 1 ∷
     wrong 2 pair (height ++ infinite) 15 1 ∷
     wrong 2 pair (minus_infinite ++ height) 15 0 ∷
     -- 5
@@ -378,7 +378,7 @@ one_wrong =
 unfoldable pub several_wrong : List Wrong
 several_wrong =
     -- the header and all else
-    wrong 5 "ncols 1 nrows 1 xllcorner 0 yllcorner 0 cellsize 12,5 x" (0 ∷ not_aNumber) 12 51 ∷
+    wrong 5 "ncols 1 nrows 1 xllcorner 0 yllcorner 0 cellsize 12,5 x" (0 ∷ not_a_number) 12 51 ∷
     -- 10 and 2, 10 and 14
     wrong 2 "ncols 1 nrows 1 xllcorner 0 yllcorner 0 cellsize 10 12.5" height 10 52 ∷
     wrong 1 "ncols 1 nrows 1 xllcorner 0 yllcorner 0 cellsize 10 12.5" [] 10 52 ∷
@@ -386,14 +386,14 @@ several_wrong =
     wrong 2 one (height ++ height) 2 0 ∷
     wrong 2 one [] 2 0 ∷
     -- 2 and 15
-    wrong 2 one not_aNumber 2 0 ∷
+    wrong 2 one not_a_number 2 0 ∷
     -- 14 and 15, 14 and 5
-    wrong 1 one (not_aNumber ++ 0 ∷ []) 14 0 ∷
+    wrong 1 one (not_a_number ++ 0 ∷ []) 14 0 ∷
     wrong 1 one (high ++ height) 14 0 ∷
     -- 5 in a cell and 15 in the next; 15 and then 5; 15 twice
-    wrong 2 pair (low ++ not_aNumber) 5 0 ∷
+    wrong 2 pair (low ++ not_a_number) 5 0 ∷
     wrong 2 pair (infinite ++ high) 15 0 ∷
-    wrong 3 "ncols 1 nrows 3 xllcorner 0 yllcorner 0 cellsize 10" (none ++ infinite ++ not_aNumber) 15 1 ∷ []
+    wrong 3 "ncols 1 nrows 3 xllcorner 0 yllcorner 0 cellsize 10" (none ++ infinite ++ not_a_number) 15 1 ∷ []
 
 abbrev pub told_of : Wrong → GridOutcome
 told_of x = told x.call

@@ -2,7 +2,7 @@
 use mathlib.Core.Path.{◌≡◌, refl, sym, ap, ◌∙◌}
 use mathlib.Core.List.{List}
 use mathlib.Core.Logic.{⊎_elim}
-use mathlib.Core.Bool.{Bool, true}
+use mathlib.Core.Bool.{Bool, true, false}
 use Prim.Native.Nat.{ℕ, zero, suc, ◌+◌, ◌≤◌, ◌<◌}
 use native.Mathlib.Omega.{arith}
 use native.Mathlib.Numerals.{add-one}
@@ -12,9 +12,9 @@ use lib.Seq.{get_or-set_same, get_or-set_other}
 use lib.Dec.{eqb}
 use borrow.Author.Tests.{eq-eqb, ne_eqb}
 use Rattle.laws.specs.Sums.{sum_to, when}
-use Rattle.laws.specs.Orders.{stands_in, Placed, Ordered}
+use Rattle.laws.specs.Orders.{stands_in, taken_of, Placed, Ordered}
 use Rattle.laws.proofs.Tests.{two}
-use Rattle.laws.proofs.Sums.{sum-none, sum_more, sum-ext, sum-zero, sum_one, sum-add, when-yes, when-no, when-under}
+use Rattle.laws.proofs.Sums.{sum-none, sum_more, sum-ext, sum-zero, sum_one, sum-add, when-yes, when-no, when-under, when-zero, when-add}
 
 -- ---- places
 
@@ -114,3 +114,31 @@ module _ {cell : ℕ → Bool} {to : ℕ → ℕ} {order : List ℕ} {m : ℕ} (
   -- there are as many places as cells
   pub order-places : {n : ℕ} → ((x : ℕ) → cell x ≡ true → x < n) → m ≡ sum_to n (λ x. when (cell x) 1)
   order-places {n} w = sym (stands-total order n m (λ i h. w (get_or order i 0) (order-cell i h))) ∙ sum-ext n (stands_in order m) (λ x. when (cell x) 1) (λ x l. o.once x)
+
+-- ---- a loop along an order that counts the cells which pass a test has at the end the number of cells that pass it
+
+module _ (n : ℕ) (test : ℕ → Bool) (order : List ℕ) where
+  pub taken-none : taken_of n test order 0 ≡ 0
+  unfolding taken_of
+  taken-none = sum-zero n (λ x. when (test x) (stands_in order 0 x)) (λ x l. ap (when (test x)) (stands-none order x) ∙ when-zero (test x))
+
+  pub taken_more : (p : ℕ) → get_or order p 0 < n → taken_of n test order (p + 1) ≡ taken_of n test order p + when (test (get_or order p 0)) 1
+  unfolding taken_of
+  taken_more p h =
+      let y = get_or order p 0 in
+      omega (
+        arith,
+        sum-ext n (λ x. when (test x) (stands_in order (p + 1) x)) (λ x. when (test x) (stands_in order p x) + when (test x) (when (eqb y x) 1))
+            (λ x l. ap (when (test x)) (stands-more order p x) ∙ when-add (test x) (stands_in order p x) (when (eqb y x) 1)),
+        sum-add n (λ x. when (test x) (stands_in order p x)) (λ x. when (test x) (when (eqb y x) 1)),
+        sum_one n (λ x. when (test x) (when (eqb y x) 1)) y h (λ x l d. ap (when (test x)) (when-no 1 (ne_eqb y x (λ e. d (sym e)))) ∙ when-zero (test x)),
+        ap (when (test y)) (when-yes 1 (eq-eqb y y refl)),
+      )
+
+  pub taken-all : {cell : ℕ → Bool} {to : ℕ → ℕ} {m : ℕ} → Ordered cell to order m → ((x : ℕ) → test x ≡ true → cell x ≡ true) → taken_of n test order m ≡ sum_to n (λ x. when (test x) 1)
+  unfolding taken_of
+  taken-all {cell} {to} {m} o inside = sum-ext n (λ x. when (test x) (stands_in order m x)) (λ x. when (test x) 1) (λ x l. same x (test x) refl)
+    where
+      same : (x : ℕ) (b : Bool) → test x ≡ b → when (test x) (stands_in order m x) ≡ when (test x) 1
+      same x true e = ap (when (test x)) (o.once x ∙ when-yes 1 (inside x e))
+      same x false e = when-no (stands_in order m x) e ∙ sym (when-no 1 e)

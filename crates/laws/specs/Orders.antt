@@ -7,6 +7,11 @@ unfoldable pub stands_in : List ℕ → ℕ → ℕ → ℕ
 unfolding sum_to when
 stands_in order m x = sum_to m (λ i. when (eqb (get_or order i 0) x) 1)
 
+-- how many of the first p places of the list have a number below n that passes a test
+unfoldable pub taken_of : ℕ → (ℕ → Bool) → List ℕ → ℕ → ℕ
+unfolding sum_to when stands_in
+taken_of n test order p = sum_to n (λ x. when (test x) (stands_in order p x))
+
 -- x has a place more among the first q of the one list than among the first p of the other, and nothing else has
 pub record Placed (order : List ℕ) (p : ℕ) (order' : List ℕ) (q x : ℕ) : Type 0 where
   pub one : (z : ℕ) → stands_in order' q z ≡ stands_in order p z + when (eqb x z) 1
