@@ -5,12 +5,13 @@ ghost use Rattle.laws.specs.Lists.{tab};
 ghost use Rattle.terrain.specs.Cells.{neighbour, code_of};
 ghost use Rattle.terrain.specs.InnerCells.{Sized, Inside, RunsTo};
 ghost use Rattle.terrain.specs.Flat.{far_steps, flat_steps};
-ghost use Rattle.terrain.specs.Direction.{directions_of};
+ghost use Rattle.terrain.specs.InnerFlats.{StepsKept};
+ghost use Rattle.terrain.specs.Direction.{nearer_bearing, directions_of};
 ghost use Rattle.terrain.specs.Falls.{no_fall, falls_of};
 ghost use Rattle.terrain.specs.Filled.{top};
 ghost use Rattle.terrain.specs.InnerLevels.{Levels, open_at, drop_of, key_of, bearing_key, Chosen, down_at, FallTo, Down};
 
-use crate::cells::{beside, larger, near, run_end, value_at};
+use crate::cells::{beside, near, run_end, value_at};
 use crate::flat;
 use crate::flat::FAR;
 
@@ -54,7 +55,7 @@ fn key_of(v: u32, w: u32, k: usize) -> u32
     requires { (v ≤ top) × (k < 8) }
     ensures { result ≡ key_of v w k }
 {
-    drop_of(v, w) * 256 + (255 - code_of(k) as u32)
+    drop_of(v, w) * 256 + (255 - u32::from(code_of(k)))
 }
 
 // The first number or the second, without a branch.
@@ -77,8 +78,8 @@ impl Fall {
         requires { (cardinal < 536870912) × (diagonal < 536870912) }
         ensures { Chosen cardinal diagonal result }
     {
-        let c = (cardinal / 256) as u64;
-        let d = (diagonal / 256) as u64;
+        let c = u64::from(cardinal / 256);
+        let d = u64::from(diagonal / 256);
         let straight = d * d <= 2 * (c * c);
         let key = pick(straight, cardinal, diagonal);
         Fall {
@@ -118,10 +119,9 @@ fn is_open(rows: usize, columns: usize, level: &[u32], x: usize, inside: bool) -
     ensures { result ≡ open_at rows columns level.now x 8 }
 {
     let mut found = false;
-    let mut k: usize = 0;
-    while k < 8 {
-        found = found | (level_beside(rows, columns, level, x, k, inside) < 1);
-        k += 1;
+    // Not `any`, so that a run of cells has no branch here.
+    for k in 0..8 {
+        found |= level_beside(rows, columns, level, x, k, inside) < 1;
     }
     found
 }
@@ -152,11 +152,9 @@ fn fall_at(rows: usize, columns: usize, level: &[u32], x: usize, inside: bool) -
 {
     let mut cardinal: u32 = 255;
     let mut diagonal: u32 = 255;
-    let mut i: usize = 0;
-    while i < 4 {
-        cardinal = larger(cardinal, key_at(rows, columns, level, x, 2 * i, inside));
-        diagonal = larger(diagonal, key_at(rows, columns, level, x, 2 * i + 1, inside));
-        i += 1;
+    for i in 0..4 {
+        cardinal = cardinal.max(key_at(rows, columns, level, x, 2 * i, inside));
+        diagonal = diagonal.max(key_at(rows, columns, level, x, 2 * i + 1, inside));
     }
     Fall::chosen(cardinal, diagonal).at(level[x])
 }
@@ -177,13 +175,11 @@ fn point_run(
         × Down rows columns level.now direction.old falls.old steps.old from }
     ensures { Down rows columns level.now direction.new falls.new steps.new to }
 {
-    let mut x = from;
-    while x < to {
+    for x in from..to {
         let fall = fall_at(rows, columns, level, x, true);
         direction[x] = fall.code;
         falls[x] = fall.fall;
         steps[x] = start_steps(fall.code, is_open(rows, columns, level, x, true));
-        x += 1;
     }
 }
 
@@ -201,6 +197,7 @@ fn point_down(
     ensures { Down rows columns level.now direction.new falls.new steps.new (rows * columns) }
 {
     let mut x: usize = 0;
+    // A `while`, since a turn takes a whole run of cells.
     while x < direction.len() {
         let end = run_end(rows, columns, x);
         point_run(rows, columns, level, direction, falls, steps, x, end);
@@ -223,30 +220,31 @@ fn is_nearer(level: &[u32], steps: &[u32], v: u32, d: u32, y: usize) -> bool
     level[y] == v
 }
 
+// The code of the first neighbour of a flat cell x that has its level and is one step nearer. All its neighbours are on the grid.
+fn nearer_code(rows: usize, columns: usize, level: &[u32], steps: &[u32], x: usize) -> u8
+    requires { Levels rows columns level.now × StepsKept rows columns level.now steps.now × (x < rows * columns) × (0 < slice_index steps.now x) }
+    ensures { result ≡ code_of (nearer_bearing rows columns level.now steps.now x) }
+{
+    let v = level[x];
+    let d = steps[x] - 1;
+    for k in 0..8 {
+        if is_nearer(level, steps, v, d, beside(columns, x, k)) {
+            return code_of(k);
+        }
+    }
+    0
+}
+
 // Points every flat cell at its first neighbour of the same level that is one step nearer. All its neighbours are on the grid.
 fn point_flats(rows: usize, columns: usize, level: &[u32], steps: &[u32], direction: &mut [u8])
     requires { Levels rows columns level.now × (steps.now ≡ flat_steps rows columns level.now)
         × (direction.old ≡ tab (rows * columns) (down_at rows columns level.now)) }
     ensures { direction.new ≡ directions_of rows columns level.now }
 {
-    let mut x: usize = 0;
-    while x < direction.len() {
+    for x in 0..direction.len() {
         if 0 < steps[x] {
-            let v = level[x];
-            let d = steps[x] - 1;
-            let mut k: usize = 0;
-            let code = loop {
-                if 8 <= k {
-                    break 0;
-                }
-                if is_nearer(level, steps, v, d, beside(columns, x, k)) {
-                    break code_of(k);
-                }
-                k += 1;
-            };
-            direction[x] = code;
+            direction[x] = nearer_code(rows, columns, level, steps, x);
         }
-        x += 1;
     }
 }
 
