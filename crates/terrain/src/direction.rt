@@ -10,7 +10,7 @@ ghost use Rattle.terrain.specs.Falls.{no_fall, falls_of};
 ghost use Rattle.terrain.specs.Filled.{top};
 ghost use Rattle.terrain.specs.InnerLevels.{Levels, open_at, drop_of, key_of, bearing_key, Chosen, down_at, FallTo, Down};
 
-use crate::cells::{beside, larger, near, run_end, value_at};
+use crate::cells::{beside, near, run_end, value_at};
 use crate::flat;
 use crate::flat::FAR;
 
@@ -154,8 +154,8 @@ fn fall_at(rows: usize, columns: usize, level: &[u32], x: usize, inside: bool) -
     let mut diagonal: u32 = 255;
     let mut i: usize = 0;
     while i < 4 {
-        cardinal = larger(cardinal, key_at(rows, columns, level, x, 2 * i, inside));
-        diagonal = larger(diagonal, key_at(rows, columns, level, x, 2 * i + 1, inside));
+        cardinal = cardinal.max(key_at(rows, columns, level, x, 2 * i, inside));
+        diagonal = diagonal.max(key_at(rows, columns, level, x, 2 * i + 1, inside));
         i += 1;
     }
     Fall::chosen(cardinal, diagonal).at(level[x])

@@ -9,7 +9,7 @@ ghost use Rattle.terrain.specs.Flat.{far_steps, flat_at, nearest_of, flat_steppi
 ghost use Rattle.terrain.specs.InnerFlats.{Within, StepsKept, Put, Reached, Shores, Wading, Spreading, Waded};
 ghost use Rattle.terrain.specs.InnerLevels.{Levels, LoweredSteps};
 
-use crate::cells::{beside, near, smaller, value_at};
+use crate::cells::{beside, near, value_at};
 
 // More than any steps.
 pub(crate) const FAR: u32 = 2000000;
@@ -48,7 +48,7 @@ fn nearest_near(rows: usize, columns: usize, level: &[u32], steps: &[u32], x: us
     let mut k: usize = 0;
     while k < 8 {
         let y = near(rows, columns, x, k);
-        low = smaller(low, seen(v, value_at(level, y), value_at(steps, y)));
+        low = low.min(seen(v, value_at(level, y), value_at(steps, y)));
         k += 1;
     }
     low

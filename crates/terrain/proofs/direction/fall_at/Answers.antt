@@ -9,7 +9,7 @@ loop-i-init c = (omega arith, keys_none refl refl)
 pub loop-i-preserved : goal.loop-i-preserved
 loop-i-preserved c = (
   omega arith,
-  keys-more c.loop-i.invariant.1 (c.larger-cardinal.ensures ∙ ap (max c.loop-i.cardinal) c.key_at.ensures) (c.larger-diagonal.ensures ∙ ap (max c.loop-i.diagonal) c.key_at-in-loop-i.ensures),
+  keys-more c.loop-i.invariant.1 (c.max-cardinal.ensures ∙ ap (max c.loop-i.cardinal) c.key_at.ensures) (c.max-diagonal.ensures ∙ ap (max c.loop-i.diagonal) c.key_at-in-loop-i.ensures),
 )
 
 pub chosen-requires : goal.chosen-requires
