@@ -237,7 +237,7 @@ pub fn map(
     }
     let surveyed = survey(rows, columns, source, elevation, direction, workspace);
     if let Judgement::Unsound(refusal) = surveyed {
-        cells::clear(workspace);
+        workspace.fill(0);
         return Answer::Refused(refusal);
     }
     shape(

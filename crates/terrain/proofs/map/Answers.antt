@@ -27,7 +27,7 @@ pub returns-in-Unsound-surveyed : goal.returns-in-Unsound-surveyed
 returns-in-Unsound-surveyed c =
     let passing : ground_judged c.args.rows c.args.columns c.args.elevation.now (lent c.args.filled.now c.args.direction.now c.args.count.now c.args.falls.now c.args.workspace.now) ≡ passed = sym (sym (ap found c.in_default.is) ∙ c.judge-judgement.ensures) in
     let a = c.args in
-    let all = refuses-later a.rows a.columns a.source a.elevation.now (lent c.args.filled.now c.args.direction.now c.args.count.now c.args.falls.now c.args.workspace.now) passing c.survey-surveyed.ensures.0 (ap found c.in-Unsound-surveyed.is) c.survey-surveyed.ensures.1 c.clear.ensures (refused-is a.rows a.columns a.source a.elevation.now (lent c.args.filled.now c.args.direction.now c.args.count.now c.args.falls.now c.args.workspace.now) c.in-Unsound-surveyed.refusal) in
+    let all = refuses-later a.rows a.columns a.source a.elevation.now (lent c.args.filled.now c.args.direction.now c.args.count.now c.args.falls.now c.args.workspace.now) passing c.survey-surveyed.ensures.0 (ap found c.in-Unsound-surveyed.is) c.survey-surveyed.ensures.1 (c.fill.ensures.after (λ y e. e)) (refused-is a.rows a.columns a.source a.elevation.now (lent c.args.filled.now c.args.direction.now c.args.count.now c.args.falls.now c.args.workspace.now) c.in-Unsound-surveyed.refusal) in
     record { answers = all.0; leaves = all.1.0; drains = all.1.1 }
 
 pub shape-requires : goal.shape-requires
