@@ -51,18 +51,6 @@ fn nearest_near(rows: usize, columns: usize, level: &[u32], steps: &[u32], x: us
     low
 }
 
-// The cell at an entry of the queue; what is below 0 is none.
-fn cell_in(queue: &[i32], at: usize) -> usize
-    requires { at < length queue.now }
-    ensures { (x : ℕ) → x < 1048576 → slice_index_or queue.now at (pos 0) ≡ pos x → result ≡ x }
-{
-    let entry = queue[at];
-    if entry < 0 {
-        return queue.len();
-    }
-    entry as usize
-}
-
 // Sets the steps of the cell y to d and adds it to a queue of `end` entries, if there is room. The number of entries.
 fn put(steps: &mut [u32], queue: &mut [i32], end: usize, d: u32, y: usize) -> usize
     requires { (y < length steps.old) × (y < 1048576) × (end ≤ length queue.old) }
@@ -176,8 +164,9 @@ fn wade(columns: usize, steps: &mut [u32], queue: &mut [i32], shores: usize) -> 
     let mut at: usize = 0;
     // A `while`, since a turn may move the end.
     while at < end {
-        let x = cell_in(queue, at);
-        end = spread(columns, steps, queue, end, x);
+        if let Ok(x) = usize::try_from(queue[at]) {
+            end = spread(columns, steps, queue, end, x);
+        }
         at += 1;
     }
     end
