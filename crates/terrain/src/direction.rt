@@ -18,7 +18,7 @@ use crate::flat::FAR;
 // The code of a NoData cell, and its fall.
 pub(crate) const NO_CODE: u8 = 255;
 
-pub(crate) const NO_FALL: u32 = 4294967295;
+pub(crate) const NO_FALL: u32 = u32::MAX;
 
 // The code of bearing k.
 pub(crate) fn code_of(k: usize) -> u8

@@ -12,7 +12,7 @@ ghost use Rattle.terrain.specs.InnerLevels.{Levels, LoweredSteps};
 use crate::cells::{beside, near, value_at};
 
 // More than any steps.
-pub(crate) const FAR: u32 = 2000000;
+pub(crate) const FAR: u32 = 2_000_000;
 
 // The steps of a cell of level w, as a cell of level v sees them: far unless the levels are equal.
 fn seen(v: u32, w: u32, steps: u32) -> u32
