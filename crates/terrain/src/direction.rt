@@ -18,7 +18,7 @@ use crate::flat::FAR;
 // The code of a NoData cell, and its fall.
 pub(crate) const NO_CODE: u8 = 255;
 
-pub(crate) const NO_FALL: u32 = 4294967295;
+pub(crate) const NO_FALL: u32 = u32::MAX;
 
 // The code of bearing k.
 pub(crate) fn code_of(k: usize) -> u8
@@ -58,13 +58,6 @@ fn key_of(v: u32, w: u32, k: usize) -> u32
     drop_of(v, w) * 256 + (255 - u32::from(code_of(k)))
 }
 
-// The first number or the second, without a branch.
-fn pick(first: bool, a: u32, b: u32) -> u32
-    ensures { result ≡ (if first then a else b) }
-{
-    if first { a } else { b }
-}
-
 // The code of a cell, but for flats, and its fall.
 #[derive(Clone, Copy)]
 struct Fall {
@@ -81,10 +74,10 @@ impl Fall {
         let c = u64::from(cardinal / 256);
         let d = u64::from(diagonal / 256);
         let straight = d * d <= 2 * (c * c);
-        let key = pick(straight, cardinal, diagonal);
+        let key = if straight { cardinal } else { diagonal };
         Fall {
             code: (255 - key % 256) as u8,
-            fall: key / 256 * 2 + pick(straight, 0, 1),
+            fall: key / 256 * 2 + u32::from(!straight),
         }
     }
 
@@ -103,25 +96,36 @@ impl Fall {
 }
 
 // The level of the neighbour at bearing k of a cell x that is inside, or not; 0 where there is none.
-fn level_beside(rows: usize, columns: usize, level: &[u32], x: usize, k: usize, inside: bool) -> u32
-    requires { Levels rows columns level.now × (x < rows * columns) × (k < 8) × (inside ≡ true → Inside rows columns x) }
+fn level_beside<const INSIDE: bool>(
+    rows: usize,
+    columns: usize,
+    level: &[u32],
+    x: usize,
+    k: usize,
+) -> u32
+    requires { Levels rows columns level.now × (x < rows * columns) × (k < 8) × (INSIDE ≡ true → Inside rows columns x) }
     ensures { result ≡ slice_index level.now (neighbour rows columns x k) }
 {
-    if inside {
+    if INSIDE {
         return level[beside(columns, x, k)];
     }
     value_at(level, near(rows, columns, x, k))
 }
 
 // Whether a cell x that is inside, or not, has a neighbour with no data or past the edge of the grid.
-fn is_open(rows: usize, columns: usize, level: &[u32], x: usize, inside: bool) -> bool
-    requires { Levels rows columns level.now × (x < rows * columns) × (inside ≡ true → Inside rows columns x) }
+pub(crate) fn is_open<const INSIDE: bool>(
+    rows: usize,
+    columns: usize,
+    level: &[u32],
+    x: usize,
+) -> bool
+    requires { Levels rows columns level.now × (x < rows * columns) × (INSIDE ≡ true → Inside rows columns x) }
     ensures { result ≡ open_at rows columns level.now x 8 }
 {
     let mut found = false;
     // Not `any`, so that a run of cells has no branch here.
     for k in 0..8 {
-        found |= level_beside(rows, columns, level, x, k, inside) < 1;
+        found |= level_beside::<INSIDE>(rows, columns, level, x, k) < 1;
     }
     found
 }
@@ -134,27 +138,27 @@ fn start_steps(code: u8, rim: bool) -> u32
 }
 
 // The key of bearing k of a cell x that is inside, or not.
-fn key_at(rows: usize, columns: usize, level: &[u32], x: usize, k: usize, inside: bool) -> u32
-    requires { Levels rows columns level.now × (x < rows * columns) × (k < 8) × (inside ≡ true → Inside rows columns x) }
+fn key_at<const INSIDE: bool>(rows: usize, columns: usize, level: &[u32], x: usize, k: usize) -> u32
+    requires { Levels rows columns level.now × (x < rows * columns) × (k < 8) × (INSIDE ≡ true → Inside rows columns x) }
     ensures { result ≡ bearing_key rows columns level.now x k }
 {
     key_of(
         level[x],
-        level_beside(rows, columns, level, x, k, inside),
+        level_beside::<INSIDE>(rows, columns, level, x, k),
         k,
     )
 }
 
 // The code, but for flats, and the fall of a cell x that is inside, or not.
-fn fall_at(rows: usize, columns: usize, level: &[u32], x: usize, inside: bool) -> Fall
-    requires { Levels rows columns level.now × (x < rows * columns) × (inside ≡ true → Inside rows columns x) }
+fn fall_at<const INSIDE: bool>(rows: usize, columns: usize, level: &[u32], x: usize) -> Fall
+    requires { Levels rows columns level.now × (x < rows * columns) × (INSIDE ≡ true → Inside rows columns x) }
     ensures { FallTo rows columns level.now x result }
 {
     let mut cardinal: u32 = 255;
     let mut diagonal: u32 = 255;
     for i in 0..4 {
-        cardinal = cardinal.max(key_at(rows, columns, level, x, 2 * i, inside));
-        diagonal = diagonal.max(key_at(rows, columns, level, x, 2 * i + 1, inside));
+        cardinal = cardinal.max(key_at::<INSIDE>(rows, columns, level, x, 2 * i));
+        diagonal = diagonal.max(key_at::<INSIDE>(rows, columns, level, x, 2 * i + 1));
     }
     Fall::chosen(cardinal, diagonal).at(level[x])
 }
@@ -176,10 +180,10 @@ fn point_run(
     ensures { Down rows columns level.now direction.new falls.new steps.new to }
 {
     for x in from..to {
-        let fall = fall_at(rows, columns, level, x, true);
+        let fall = fall_at::<true>(rows, columns, level, x);
         direction[x] = fall.code;
         falls[x] = fall.fall;
-        steps[x] = start_steps(fall.code, is_open(rows, columns, level, x, true));
+        steps[x] = start_steps(fall.code, is_open::<true>(rows, columns, level, x));
     }
 }
 
@@ -201,10 +205,10 @@ fn point_down(
     while x < direction.len() {
         let end = run_end(rows, columns, x);
         point_run(rows, columns, level, direction, falls, steps, x, end);
-        let fall = fall_at(rows, columns, level, end, false);
+        let fall = fall_at::<false>(rows, columns, level, end);
         direction[end] = fall.code;
         falls[end] = fall.fall;
-        steps[end] = start_steps(fall.code, is_open(rows, columns, level, end, false));
+        steps[end] = start_steps(fall.code, is_open::<false>(rows, columns, level, end));
         x = end + 1;
     }
 }

@@ -12,7 +12,7 @@ ghost use Rattle.terrain.specs.InnerLevels.{Levels, LoweredSteps};
 use crate::cells::{beside, near, value_at};
 
 // More than any steps.
-pub(crate) const FAR: u32 = 2000000;
+pub(crate) const FAR: u32 = 2_000_000;
 
 // The steps of a cell of level w, as a cell of level v sees them: far unless the levels are equal.
 fn seen(v: u32, w: u32, steps: u32) -> u32
@@ -49,18 +49,6 @@ fn nearest_near(rows: usize, columns: usize, level: &[u32], steps: &[u32], x: us
         low = low.min(seen(v, value_at(level, y), value_at(steps, y)));
     }
     low
-}
-
-// The cell at an entry of the queue; what is below 0 is none.
-fn cell_in(queue: &[i32], at: usize) -> usize
-    requires { at < length queue.now }
-    ensures { (x : ℕ) → x < 1048576 → slice_index_or queue.now at (pos 0) ≡ pos x → result ≡ x }
-{
-    let entry = queue[at];
-    if entry < 0 {
-        return queue.len();
-    }
-    entry as usize
 }
 
 // Sets the steps of the cell y to d and adds it to a queue of `end` entries, if there is room. The number of entries.
@@ -176,8 +164,9 @@ fn wade(columns: usize, steps: &mut [u32], queue: &mut [i32], shores: usize) -> 
     let mut at: usize = 0;
     // A `while`, since a turn may move the end.
     while at < end {
-        let x = cell_in(queue, at);
-        end = spread(columns, steps, queue, end, x);
+        if let Ok(x) = usize::try_from(queue[at]) {
+            end = spread(columns, steps, queue, end, x);
+        }
         at += 1;
     }
     end
@@ -214,10 +203,7 @@ fn settle(rows: usize, columns: usize, level: &[u32], steps: &mut [u32])
     requires { Levels rows columns level.now × StepsKept rows columns level.now steps.old }
     ensures { steps.new ≡ flat_steps rows columns level.now }
 {
-    let mut again = true;
-    while again {
-        again = sweep(rows, columns, level, steps);
-    }
+    while sweep(rows, columns, level, steps) {}
 }
 
 // The steps over flats of every cell, from those that they start from. The queue is scratch; flat cells do not fill it, since no

@@ -4,29 +4,16 @@ ghost use Rattle.std.specs.Prelude.{◌≡◌, ◌*◌, ◌<◌, length};
 ghost use Rattle.terrain.specs.Cells.{Shifts};
 ghost use Rattle.terrain.specs.Falls.{fall_at, falls_of};
 ghost use Rattle.terrain.specs.Given.{kept_at, first_broken, given_tests};
-ghost use Rattle.terrain.specs.InnerLevels.{Levels, open_at};
+ghost use Rattle.terrain.specs.InnerLevels.{Levels};
 ghost use Rattle.terrain.specs.InnerGiven.{Keeping, cell_below};
 ghost use Rattle.terrain.specs.InnerAnswers.{found};
 ghost use Rattle.laws.specs.Tests.{verdict};
 
 use crate::cells::{near, shifts_of, value_at};
-use crate::direction::{NO_CODE, NO_FALL, code_of};
+use crate::direction::{NO_CODE, NO_FALL, code_of, is_open};
 use crate::ring::first_on_ring;
 use crate::trail::receiver;
 use crate::{Judgement, unsound};
-
-// Whether a neighbour of the cell x has no data or is past the edge of the grid. It is not `direction::is_open`, which is to have
-// no caller but the loops of our own directions, so that the compiler joins it into them.
-fn is_beside_none(rows: usize, columns: usize, level: &[u32], x: usize) -> bool
-    requires { Levels rows columns level.now × (x < rows * columns) }
-    ensures { result ≡ open_at rows columns level.now x 8 }
-{
-    let mut found = false;
-    for k in 0..8 {
-        found |= value_at(level, near(rows, columns, x, k)) < 1;
-    }
-    found
-}
 
 // Whether the code of the cell x keeps the rules of refusal 17.
 fn is_kept(rows: usize, columns: usize, level: &[u32], direction: &[u8], x: usize) -> bool
@@ -39,7 +26,7 @@ fn is_kept(rows: usize, columns: usize, level: &[u32], direction: &[u8], x: usiz
         return code == NO_CODE;
     }
     if code == 0 {
-        return is_beside_none(rows, columns, level, x);
+        return is_open::<false>(rows, columns, level, x);
     }
     let k = code.trailing_zeros() as usize;
     if 8 <= k {
@@ -53,7 +40,12 @@ fn is_kept(rows: usize, columns: usize, level: &[u32], direction: &[u8], x: usiz
 }
 
 // The first cell whose code breaks one of them.
-fn first_broken(rows: usize, columns: usize, level: &[u32], direction: &[u8]) -> Option<usize>
+pub(crate) fn first_broken(
+    rows: usize,
+    columns: usize,
+    level: &[u32],
+    direction: &[u8],
+) -> Option<usize>
     requires { Levels rows columns level.now × (length direction.now ≡ rows * columns) }
     ensures { result ≡ cell_below (rows * columns) (first_broken rows columns level.now direction.now) }
 {

@@ -3,4 +3,4 @@ use Rattle.terrain.proofs.InnerKeys.{KeysTo}
 use Rattle.terrain.proofs.direction.fall_at.Given as goal
 
 abbrev pub invariant-loop-i : goal.invariant-loop-i
-invariant-loop-i l = KeysTo l.rows l.columns l.level l.x l.i l.cardinal l.diagonal
+invariant-loop-i g l = KeysTo l.rows l.columns l.level l.x l.i l.cardinal l.diagonal

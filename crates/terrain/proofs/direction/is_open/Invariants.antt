@@ -4,4 +4,4 @@ use Rattle.terrain.specs.InnerLevels.{open_at}
 use Rattle.terrain.proofs.direction.is_open.Given as goal
 
 abbrev pub invariant-loop-k : goal.invariant-loop-k
-invariant-loop-k l = (l.found ≡ open_at l.rows l.columns l.level l.x l.k)
+invariant-loop-k g l = (l.found ≡ open_at l.rows l.columns l.level l.x l.k)
