@@ -13,7 +13,7 @@ use crate::cells::{near, shifts_of, value_at};
 use crate::direction::{NO_CODE, NO_FALL, code_of};
 use crate::ring::first_on_ring;
 use crate::trail::receiver;
-use crate::{Judgement, unsound};
+use text::{Fault, Refusal};
 
 // Whether a neighbour of the cell x has no data or is past the edge of the grid. It is not `direction::is_open`, which is to have
 // no caller but the loops of our own directions, so that the compiler joins it into them.
@@ -70,7 +70,12 @@ pub(crate) fn first_broken(rows: usize, columns: usize, level: &[u32], direction
 }
 
 // Makes the tests of refusals 17 and 18, in that order. The levels are scratch, and as they were.
-pub(crate) fn judge(rows: usize, columns: usize, direction: &[u8], level: &mut [u32]) -> Judgement
+pub(crate) fn judge(
+    rows: usize,
+    columns: usize,
+    direction: &[u8],
+    level: &mut [u32],
+) -> Result<(), Refusal>
     requires { Levels rows columns level.old × (length direction.now ≡ rows * columns) }
     ensures { (found result ≡ verdict (given_tests rows columns level.old direction.now))
         × (level.new ≡ level.old) }
@@ -78,13 +83,19 @@ pub(crate) fn judge(rows: usize, columns: usize, direction: &[u8], level: &mut [
     let cells = level.len();
     let broken = first_broken(rows, columns, level, direction);
     if broken < cells {
-        return unsound(17, broken);
+        return Err(Refusal {
+            fault: Fault::Direction,
+            place: broken,
+        });
     }
     let ring = first_on_ring(rows, columns, direction, level);
     if ring < cells {
-        return unsound(18, ring);
+        return Err(Refusal {
+            fault: Fault::Ring,
+            place: ring,
+        });
     }
-    Judgement::Sound
+    Ok(())
 }
 
 // The fall of the cell x along its direction.

@@ -6,7 +6,7 @@ use Rattle.terrain.proofs.given.judge.Goals as goal
 pub returns-then-broken-cells : goal.returns-then-broken-cells
 returns-then-broken-cells c =
     let a = c.args in (
-      c.unsound.ensures ∙ told-broken a.rows a.columns a.level.now a.direction.now c.first_broken-broken.ensures (omega (arith, c.if-broken-cells.true, c.requires.0.long)),
+      told-broken a.rows a.columns a.level.now a.direction.now c.first_broken-broken.ensures (omega (arith, c.if-broken-cells.true, c.requires.0.long)),
       refl,
     )
 
@@ -18,8 +18,7 @@ first_on_ring-ring-requires c =
 pub returns-then-ring-cells : goal.returns-then-ring-cells
 returns-then-ring-cells c =
     let a = c.args in (
-      c.unsound-then-ring-cells.ensures
-          ∙ told-ring a.rows a.columns a.level.now a.direction.now c.first_broken-broken.ensures (omega (arith, c.if-broken-cells.false, c.requires.0.long)) c.first_on_ring-ring.ensures.0 (omega (arith, c.if-ring-cells.true, c.requires.0.long)),
+      told-ring a.rows a.columns a.level.now a.direction.now c.first_broken-broken.ensures (omega (arith, c.if-broken-cells.false, c.requires.0.long)) c.first_on_ring-ring.ensures.0 (omega (arith, c.if-ring-cells.true, c.requires.0.long)),
       c.first_on_ring-ring.ensures.1,
     )
 
