@@ -203,10 +203,7 @@ fn settle(rows: usize, columns: usize, level: &[u32], steps: &mut [u32])
     requires { Levels rows columns level.now × StepsKept rows columns level.now steps.old }
     ensures { steps.new ≡ flat_steps rows columns level.now }
 {
-    let mut again = true;
-    while again {
-        again = sweep(rows, columns, level, steps);
-    }
+    while sweep(rows, columns, level, steps) {}
 }
 
 // The steps over flats of every cell, from those that they start from. The queue is scratch; flat cells do not fill it, since no

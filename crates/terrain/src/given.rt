@@ -40,7 +40,12 @@ fn is_kept(rows: usize, columns: usize, level: &[u32], direction: &[u8], x: usiz
 }
 
 // The first cell whose code breaks one of them.
-fn first_broken(rows: usize, columns: usize, level: &[u32], direction: &[u8]) -> Option<usize>
+pub(crate) fn first_broken(
+    rows: usize,
+    columns: usize,
+    level: &[u32],
+    direction: &[u8],
+) -> Option<usize>
     requires { Levels rows columns level.now × (length direction.now ≡ rows * columns) }
     ensures { result ≡ cell_below (rows * columns) (first_broken rows columns level.now direction.now) }
 {
