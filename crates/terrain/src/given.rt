@@ -13,7 +13,7 @@ use crate::cells::{near, shifts_of, value_at};
 use crate::direction::{NO_CODE, NO_FALL, code_of, is_open};
 use crate::ring::first_on_ring;
 use crate::trail::receiver;
-use crate::{Judgement, unsound};
+use text::{Fault, Refusal};
 
 // Whether the code of the cell x keeps the rules of refusal 17.
 fn is_kept(rows: usize, columns: usize, level: &[u32], direction: &[u8], x: usize) -> bool
@@ -58,18 +58,29 @@ pub(crate) fn first_broken(
 }
 
 // Makes the tests of refusals 17 and 18, in that order. The levels are scratch, and as they were.
-pub(crate) fn judge(rows: usize, columns: usize, direction: &[u8], level: &mut [u32]) -> Judgement
+pub(crate) fn judge(
+    rows: usize,
+    columns: usize,
+    direction: &[u8],
+    level: &mut [u32],
+) -> Result<(), Refusal>
     requires { Levels rows columns level.old × (length direction.now ≡ rows * columns) }
     ensures { (found result ≡ verdict (given_tests rows columns level.old direction.now))
         × (level.new ≡ level.old) }
 {
     if let Some(x) = first_broken(rows, columns, level, direction) {
-        return unsound(17, x);
+        return Err(Refusal {
+            fault: Fault::Direction,
+            place: x,
+        });
     }
     if let Some(x) = first_on_ring(rows, columns, direction, level) {
-        return unsound(18, x);
+        return Err(Refusal {
+            fault: Fault::Ring,
+            place: x,
+        });
     }
-    Judgement::Sound
+    Ok(())
 }
 
 // The fall of the cell x along its direction.
