@@ -8,45 +8,31 @@ use crate::NO_DATA;
 pub fn is_size(n: usize) -> bool
     ensures { result ≡ size_accepted n }
 {
-    if n < 1 {
-        return false;
-    }
-    n <= 1024
+    1 <= n && n <= 1024
 }
 
 // Whether a cell side, in cm, is accepted.
 pub fn is_side(side: u32) -> bool
     ensures { result ≡ side_accepted side }
 {
-    if side < 1 {
-        return false;
-    }
-    side <= 100000
+    1 <= side && side <= 100000
 }
 
 // Whether a height, in cm, is accepted.
 pub fn is_height(h: i32) -> bool
     ensures { result ≡ height_accepted h }
 {
-    if h == NO_DATA {
-        return true;
-    }
-    if h < -50000 {
-        return false;
-    }
-    h <= 900000
+    h == NO_DATA || -50000 <= h && h <= 900000
 }
 
 // The first cell whose height is not accepted; the number of cells where there is none.
 pub fn first_bad(heights: &[i32]) -> usize
     ensures { result ≡ first_bad (length heights.now) heights.now }
 {
-    let mut x: usize = 0;
-    while x < heights.len() {
+    for x in 0..heights.len() {
         if !is_height(heights[x]) {
             return x;
         }
-        x += 1;
     }
-    x
+    heights.len()
 }
