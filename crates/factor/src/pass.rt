@@ -3,7 +3,7 @@
 //
 // The grid of lengths holds what is gathered until a cell's turn comes: one more than the greatest amount brought, 0 for none. The
 // grid of factors holds the cells' falls until then, and NoData's LS, which is NoData's fall too.
-ghost use Rattle.std.specs.Prelude.{◌≡◌, List, [], ◌∷◌, length, get_or, replicate, ltb, ℕ, ◌*◌, ◌≤◌, ◌<◌, max};
+ghost use Rattle.std.specs.Prelude.{◌≡◌, List, [], ◌∷◌, length, get_or, ltb, ℕ, ◌*◌, ◌≤◌, ◌<◌};
 ghost use Rattle.terrain.specs.InnerCells.{Beside, beside_of};
 ghost use Rattle.terrain.specs.Cells.{Shifts};
 ghost use Rattle.settings.specs.declared.Rules.{Rules};
@@ -12,22 +12,23 @@ ghost use Rattle.factor.specs.Inflow.{cutoff_for};
 ghost use Rattle.factor.specs.Length.{lengths_of};
 ghost use Rattle.factor.specs.Grid.{factors_of};
 ghost use Rattle.factor.specs.Inner.{steepest, greatest_length, steepness_of, final_length, left_by, brought_by, Sloping, Listed};
-ghost use Rattle.factor.specs.InnerPass.{farm_by, Naming, formula_in, Ruled, Bounds, Settling, Settled, Receiving, lengths_with, Turning, Turned, Measuring};
+ghost use Rattle.factor.specs.InnerPass.{farm_by, Marking, Naming, formula_in, Ruled, Bounds, Settling, Settled, Receiving, lengths_with, Turning, Turned, Measuring};
 
 use crate::cell::factor_of;
 use crate::channel::{channel_bound, largest};
 use crate::guess::Guesses;
 use crate::inflow::{amount_of, left_by, start_length, step_over};
 use crate::slope::{Slope, steepness_of};
+use crate::tests::FarmRules;
 use crate::thresholds;
 use crate::thresholds::Lists;
-use settings::{Formula, Rules};
+use settings::Formula;
 
 // What lengths and LS are measured by: the columns of the map, its cell side in cm, and the steepness formula of farm 0 and of farm 1.
 //
 // Beside it stand two tables, made once for a map, which each cell reads at its farm: the `lefts`, what the high cutoffs of farm 0 and of
-// farm 1 leave, squared, then their low ones; and the `bounds`, the greatest count of each farm that is no channel's. The cell x names its
-// farm at the place x * each of the `marks`: with `each` 1 every cell has a mark of its own, with 0 one mark stands for all of them.
+// farm 1 leave, squared, then their low ones; and the `bounds`, the greatest count of each farm that is no channel's. Each cell names its
+// farm in the `marks`; without marks all are of farm 0.
 #[derive(Clone, Copy)]
 pub(crate) struct Terms {
     columns: usize,
@@ -36,39 +37,25 @@ pub(crate) struct Terms {
     second: Formula,
 }
 
-// A mark as an index.
-fn wide(mark: u8) -> usize
-    ensures { result ≡ mark }
-{
-    mark as usize
-}
-
 // The farm that the cell x names.
-fn farm_of(marks: &[u8], each: usize, x: usize) -> usize
-    requires { (length marks.now ≤ 1048576) × (x * each < length marks.now) }
-    ensures { result ≡ farm_by marks.now each x }
+fn farm_of(marks: Option<&[u8]>, x: usize) -> usize
+    requires { Marking marks x }
+    ensures { result ≡ farm_by marks.entry x }
 {
-    let place = x * each;
-    wide(marks[place])
-}
-
-fn longer(a: u64, b: u64) -> u64
-    ensures { result ≡ max a b }
-{
-    if a < b { b } else { a }
+    match marks {
+        Some(marks) => usize::from(marks[x]),
+        None => 0,
+    }
 }
 
 // The length of a cell of this count, from where it would start and what is gathered there. Counts above `most` are those of channels.
 fn final_length(most: u64, count: u32, start: u64, gathered: u64) -> u64
     ensures { result ≡ final_length (ltb most count) start gathered }
 {
-    if most < count as u64 {
+    if most < u64::from(count) {
         return 0;
     }
-    if gathered < 1 {
-        return start;
-    }
-    gathered - 1
+    gathered.checked_sub(1).unwrap_or(start)
 }
 
 // The neighbour k of a cell x that has it, by the shifts.
@@ -117,11 +104,9 @@ fn formula_in(terms: Terms, farm: usize) -> Formula
     ensures { result ≡ formula_in terms farm }
 {
     if farm == 0 {
-        let first = terms.first;
-        return first;
+        return terms.first;
     }
-    let second = terms.second;
-    second
+    terms.second
 }
 
 // Stores the length and the LS of the cell x of this farm and fall, of steepness q, whose inflows have handed on; gives the length.
@@ -183,7 +168,7 @@ fn hand_on(
         start_length(direction[y]),
         length,
     );
-    lengths[y] = longer(lengths[y], amount + 1);
+    lengths[y] = lengths[y].max(amount + 1);
 }
 
 // The turn of the cell x.
@@ -191,8 +176,7 @@ fn turn(
     terms: Terms,
     lefts: &[u64; 4],
     bounds: &[u64; 2],
-    marks: &[u8],
-    each: usize,
+    marks: Option<&[u8]>,
     direction: &[u8],
     count: &[u32],
     lengths: &mut [u64],
@@ -202,9 +186,9 @@ fn turn(
     lists: &Lists,
     guesses: &mut Guesses,
 )
-    requires { Turning terms lefts.now (farm_by marks.now each) direction.now count.now lengths.old factors.old x
-        × Listed lists.now × Shifts terms.columns shifts.now × Naming (length direction.now) marks.now each }
-    ensures { Turned terms lefts.now bounds.now (farm_by marks.now each)
+    requires { Turning terms lefts.now (farm_by marks) direction.now count.now lengths.old factors.old x
+        × Listed lists.now × Shifts terms.columns shifts.now × Naming (length direction.now) marks }
+    ensures { Turned terms lefts.now bounds.now (farm_by marks.entry)
         direction.now count.now lengths.old factors.old x
         lengths.new factors.new }
 {
@@ -213,7 +197,7 @@ fn turn(
     let length = settle(
         terms,
         bounds,
-        farm_of(marks, each, x),
+        farm_of(marks, x),
         direction,
         count,
         lengths,
@@ -232,7 +216,7 @@ fn turn(
     hand_on(
         terms,
         lefts,
-        farm_of(marks, each, y),
+        farm_of(marks, y),
         direction,
         lengths,
         factors,
@@ -243,37 +227,26 @@ fn turn(
     );
 }
 
-// Sets every length to 0.
-fn clear(lengths: &mut [u64])
-    ensures { lengths.new ≡ replicate (length lengths.old) 0 }
-{
-    let mut x: usize = 0;
-    while x < lengths.len() {
-        lengths[x] = 0;
-        x += 1;
-    }
-}
-
 // What the cutoffs of two farms leave, squared: the high ones, then the low ones.
-fn lefts_of(first: Rules, second: Rules) -> [u64; 4]
-    ensures { result ≡ left_by first.high ∷ left_by second.high ∷ left_by first.low ∷ left_by second.low ∷ [] }
+fn lefts_of(rules: FarmRules) -> [u64; 4]
+    ensures { result ≡ left_by rules.first.high ∷ left_by rules.second.high ∷ left_by rules.first.low ∷ left_by rules.second.low ∷ [] }
 {
-    let high = left_by(first.high);
-    let high_second = left_by(second.high);
-    let low = left_by(first.low);
-    let low_second = left_by(second.low);
-    [high, high_second, low, low_second]
+    [
+        left_by(rules.first.high),
+        left_by(rules.second.high),
+        left_by(rules.first.low),
+        left_by(rules.second.low),
+    ]
 }
 
 // The greatest count of each of two farms that is no channel's, by the largest flow count of the map.
-fn bounds_of(first: Rules, second: Rules, largest: u32) -> [u64; 2]
-    ensures { Bounds first second largest result }
+fn bounds_of(rules: FarmRules, largest: u32) -> [u64; 2]
+    ensures { Bounds rules.first rules.second largest result }
 {
-    let threshold = first.threshold;
-    let threshold_second = second.threshold;
-    let bound = channel_bound(threshold, largest);
-    let bound_second = channel_bound(threshold_second, largest);
-    [bound, bound_second]
+    [
+        channel_bound(rules.first.threshold, largest),
+        channel_bound(rules.second.threshold, largest),
+    ]
 }
 
 // The length and the LS of every cell by the rules of the farm that it names, from the falls in `factors`, along the order of the valid
@@ -281,10 +254,8 @@ fn bounds_of(first: Rules, second: Rules, largest: u32) -> [u64; 2]
 pub(crate) fn measure(
     columns: usize,
     side: u32,
-    first: Rules,
-    second: Rules,
-    marks: &[u8],
-    each: usize,
+    rules: FarmRules,
+    marks: Option<&[u8]>,
     direction: &[u8],
     count: &[u32],
     order: &[u32],
@@ -293,38 +264,34 @@ pub(crate) fn measure(
     factors: &mut [u32],
 )
     requires { (rows : ℕ) × (lv : List ℕ) × Measuring rows columns side lv direction.now count.now order.now places lengths.old factors.old
-        × Naming (rows * columns) marks.now each }
+        × Naming (rows * columns) marks }
     ensures { (rows : ℕ) (lv : List ℕ) →
         Measuring rows columns side lv direction.now count.now order.now places
         lengths.old factors.old →
-        Naming (rows * columns) marks.now each →
+        Naming (rows * columns) marks.entry →
         (lengths.new
-        ≡ lengths_of rows columns side (λ x. of_farm first second (farm_by marks.now each x)) lv direction.now count.now)
+        ≡ lengths_of rows columns side (λ x. of_farm rules.first rules.second (farm_by marks.entry x)) lv direction.now count.now)
         × (factors.new
-        ≡ factors_of rows columns side (λ x. of_farm first second (farm_by marks.now each x)) lv direction.now lengths.new) }
+        ≡ factors_of rows columns side (λ x. of_farm rules.first rules.second (farm_by marks.entry x)) lv direction.now lengths.new) }
 {
-    let formula = first.formula;
-    let formula_second = second.formula;
     let terms = Terms {
-        columns: columns,
-        side: side,
-        first: formula,
-        second: formula_second,
+        columns,
+        side,
+        first: rules.first.formula,
+        second: rules.second.formula,
     };
-    let lefts = lefts_of(first, second);
-    let bounds = bounds_of(first, second, largest(count));
+    let lefts = lefts_of(rules);
+    let bounds = bounds_of(rules, largest(count));
     let shifts = terrain::shifts_of(columns);
     let lists = thresholds::all();
     let mut guesses: Guesses = [0; 7708];
-    clear(lengths);
-    let mut place: usize = 0;
-    while place < places {
+    lengths.fill(0);
+    for place in 0..places {
         turn(
             terms,
             &lefts,
             &bounds,
             marks,
-            each,
             direction,
             count,
             lengths,
@@ -334,6 +301,5 @@ pub(crate) fn measure(
             &lists,
             &mut guesses,
         );
-        place += 1;
     }
 }
