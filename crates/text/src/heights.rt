@@ -18,6 +18,7 @@ fn height_in(cm: i64) -> bool
 }
 
 // The next height; `n` is the NoData number.
+#[tactic(auto, unfolding(crate::specs::Heights::height))]
 fn read_height(s: &[u8], k: Cursor, n: i64) -> Reading<i64>
     ensures { (step_of (λ x. x) result ≡ height n s.now k.at) × HeightFits result }
 {
@@ -46,13 +47,14 @@ fn judge_heights(s: &[u8], k: Cursor, n: i64, count: usize) -> Result<Cursor, Re
     ensures { moved_of result ≡ forget (heights n count s.now k.at) }
 {
     let mut rest = k;
-    for _left in 0..count {
+    for _judged in 0..count {
         rest = read_height(s, rest, n)?.rest;
     }
     Ok(rest)
 }
 
 // Judges that no word is left.
+#[tactic(auto, unfolding(crate::specs::Heights::end, crate::specs::Words::word))]
 pub(crate) fn judge_end(s: &[u8], k: Cursor) -> Result<Cursor, Refusal>
     ensures { moved_of result ≡ end s.now k.at }
 {
@@ -72,16 +74,17 @@ fn store_heights(s: &[u8], k: Cursor, n: i64, out: &mut [i32])
     ensures { out.new ≡ values_of (heights n (length out.old) s.now k.at) }
 {
     let mut rest = k;
-    for i in 0..out.len() {
+    for h in out {
         let Ok(height) = read_height(s, rest, n) else {
             return;
         };
-        out[i] = height.value as i32;
+        *h = height.value as i32;
         rest = height.rest;
     }
 }
 
 // What follows the header: all heights are stored, or none.
+#[tactic(auto, unfolding(crate::specs::Heights::body))]
 pub(crate) fn read(s: &[u8], k: Cursor, header: Header, out: &mut [i32]) -> Result<Header, Refusal>
     requires { Fits header.rows header.columns }
     ensures { grid_outcome_of result out.new ≡ body_answer (header_of header) out.old s.now k.at }

@@ -60,6 +60,7 @@ pub struct Head {
 }
 
 // Reads the header alone, and judges nothing after it.
+#[tactic(auto, unfolding(crate::specs::Headers::header))]
 pub fn read_header(text: &[u8]) -> Result<Head, Refusal>
     ensures answers { head_outcome_of result ≡ header_answer text.now }
     ensures corners { corners_of result ≡ corners_answer text.now }
@@ -69,6 +70,7 @@ pub fn read_header(text: &[u8]) -> Result<Head, Refusal>
 }
 
 // Reads a header that stands alone in its text, so that no word may follow it.
+#[tactic(auto, unfolding(crate::specs::Heights::lone_header, crate::specs::Headers::header))]
 pub fn read_lone_header(text: &[u8]) -> Result<Header, Refusal>
     ensures { outcome_of result ≡ lone_header_answer text.now }
 {
@@ -78,6 +80,7 @@ pub fn read_lone_header(text: &[u8]) -> Result<Header, Refusal>
 }
 
 // Reads the whole text into the lent heights; a refusal leaves them as they were.
+#[tactic(auto, unfolding(crate::specs::Heights::grid, crate::specs::Headers::header))]
 pub fn read_grid(text: &[u8], heights: &mut [i32]) -> Result<Header, Refusal>
     ensures { grid_outcome_of result heights.new ≡ grid_answer heights.old text.now }
 {

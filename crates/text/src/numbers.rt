@@ -8,7 +8,7 @@ ghost use Rattle.text.specs.InnerWords.{step_of};
 ghost use Rattle.text.specs.InnerNumbers.{Limit, DigitsFrom, HundredthsFrom, TailFrom, Parsed, placed_of, measure_of, SizeFits};
 
 use crate::words::{Cursor, Read, Reading};
-use crate::{Fault, Refusal, words};
+use crate::{Fault, Refusal, is_size, words};
 
 // Digits that were read: what they stand for, and the place after them.
 #[derive(Clone, Copy)]
@@ -58,7 +58,7 @@ fn limit(s: &[u8], a: usize, most: usize) -> usize
     requires { a ≤ length s.now }
     ensures { Limit (length s.now) a most result }
 {
-    s.len().min(a + most)
+    a + most.min(s.len() - a)
 }
 
 // The digits from `a` on, at most `most` of them.
@@ -180,7 +180,7 @@ fn after_sign(s: &[u8], a: usize) -> usize
     requires { a < length s.now }
     ensures { result ≡ after_sign s.now a }
 {
-    if s[a] == 45 {
+    if s[a] == b'-' {
         return a + 1;
     }
     a
@@ -198,7 +198,7 @@ fn read_form(s: &[u8], a: usize) -> Result<Formed, Malformed>
         return Err(Malformed { at: d });
     }
     let size = w.value * 100;
-    if byte_at(s, d) == 46 {
+    if byte_at(s, d) == b'.' {
         return read_decimals(s, a < b, size, d + 1);
     }
     if ends(s, d) {
@@ -216,7 +216,7 @@ fn read_form(s: &[u8], a: usize) -> Result<Formed, Malformed>
 pub fn is_number(word: &[u8]) -> bool
     ensures { result ≡ is_number word.now }
 {
-    if word.len() == 0 {
+    if word.is_empty() {
         return false;
     }
     let b = after_sign(word, 0);
@@ -225,7 +225,7 @@ pub fn is_number(word: &[u8]) -> bool
     if d == b {
         return false;
     }
-    if byte_at(word, d) != 46 {
+    if byte_at(word, d) != b'.' {
         return d == word.len();
     }
     let t = read_digits(word, d + 1, 6);
@@ -248,7 +248,7 @@ fn is_comma_decimal(s: &[u8], a: usize) -> bool
     if d == b {
         return false;
     }
-    if byte_at(s, d) != 44 {
+    if byte_at(s, d) != b',' {
         return false;
     }
     let t = read_digits(s, d + 1, 6);
@@ -325,6 +325,7 @@ pub(crate) struct Measure {
 }
 
 // The next number in whole cm.
+#[tactic(auto, unfolding(crate::specs::Numbers::measure))]
 pub(crate) fn read_measure(s: &[u8], k: Cursor) -> Reading<Measure>
     ensures { step_of measure_of result ≡ D.measure s.now k.at }
 {
@@ -361,15 +362,15 @@ pub(crate) fn read_count(s: &[u8], k: Cursor) -> Reading<usize>
     if e == a || !ends(s, e) {
         return Err(refuse(s, a, e, false));
     }
-    let n = d.value;
-    if n < 1 || 1024 < n {
+    let n = d.value as usize;
+    if !is_size(n) {
         return Err(Refusal {
             fault: Fault::Size,
             place: a,
         });
     }
     Ok(Read {
-        value: n as usize,
+        value: n,
         rest: Cursor { at: e },
     })
 }

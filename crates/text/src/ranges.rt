@@ -5,24 +5,27 @@ ghost use Rattle.text.specs.Ranges.{size_accepted, side_accepted, height_accepte
 use crate::NO_DATA;
 
 // Whether a number of rows or columns is accepted.
+#[tactic(auto, unfolding(crate::specs::Ranges::size_accepted))]
 pub fn is_size(n: usize) -> bool
     ensures { result ≡ size_accepted n }
 {
-    1 <= n && n <= 1024
+    (1..=1024).contains(&n)
 }
 
 // Whether a cell side, in cm, is accepted.
+#[tactic(auto, unfolding(crate::specs::Ranges::side_accepted))]
 pub fn is_side(side: u32) -> bool
     ensures { result ≡ side_accepted side }
 {
-    1 <= side && side <= 100000
+    (1..=100000).contains(&side)
 }
 
 // Whether a height, in cm, is accepted.
+#[tactic(auto, unfolding(crate::specs::Ranges::height_accepted))]
 pub fn is_height(h: i32) -> bool
     ensures { result ≡ height_accepted h }
 {
-    h == NO_DATA || -50000 <= h && h <= 900000
+    h == NO_DATA || (-50000..=900000).contains(&h)
 }
 
 // The first cell whose height is not accepted; the number of cells where there is none.
