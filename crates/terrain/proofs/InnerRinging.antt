@@ -1,8 +1,9 @@
 -- The search for rings as the code makes it: levels and what cells wait for in one word each, counting, taking a cell, and that what is left over at the end is exactly the
 -- cells on rings. Assumes nothing.
-use Rattle.std.proofs.Common.{◌≡◌, ℕ, ◌+◌, ◌-◌, ◌*◌, ◌%◌, ◌<◌, ◌≤◌, true, ◌&&◌, eqb, ltb, leb, List, length, get_or, set, sym, refl, ap, ◌∙◌, ap₂, ⊎_elim, true≢false, arith, length-set, get_or-set_other, get_or-set_same, ext_get_or, ltb-true, lt-ltb, ne_eqb, le-leb, leb-true}
+use Rattle.std.proofs.Common.{◌≡◌, ℕ, ◌+◌, ◌-◌, ◌*◌, ◌%◌, ◌<◌, ◌≤◌, true, ◌&&◌, eqb, ltb, leb, Option, position, List, length, get_or, set, sym, refl, ap, ◌∙◌, ap₂, ⊎_elim, true≢false, arith, length-set, get_or-set_other, get_or-set_same, ext_get_or, ltb-true, lt-ltb, ne_eqb, le-leb, leb-true}
 use native.Mathlib.Decide.{dec_lt, ℕ_discrete}
 use lib.ListN.{length-map, get_or-map, get_or-eq_default}
+use Rattle.std.proofs.lemmas.List.Sums.{position_or_len_is}
 use Rattle.laws.specs.Lists.{tab}
 use Rattle.laws.specs.Sums.{when}
 use Rattle.laws.specs.First.{first_of}
@@ -10,7 +11,7 @@ use Rattle.laws.specs.Orders.{stands_in}
 use Rattle.laws.proofs.Tests.{two, and_both}
 use Rattle.laws.proofs.Lists.{length-tab, get_or-tab}
 use Rattle.laws.proofs.Sums.{when-no}
-use Rattle.laws.proofs.First.{first-ext}
+use Rattle.laws.proofs.First.{first_holds, first-top, first-before, first-ext}
 use Rattle.laws.proofs.Orders.{stands-none, placed-store, placed-other}
 use Rattle.laws.proofs.Peel.{hand-cell, hand-room, next-new, left_le, peel-begin, peel-pass, peel-less}
 use Rattle.laws.proofs.Rings.{ring-next, ring-left, left-ring}
@@ -18,7 +19,7 @@ use Rattle.terrain.specs.Trail.{mapped_at, receiver_of}
 use Rattle.terrain.specs.Given.{ring_at, first_ring}
 use Rattle.terrain.specs.InnerTrail.{Drawn}
 use Rattle.terrain.specs.InnerDownhill.{Peeled}
-use Rattle.terrain.specs.InnerGiven.{Keeping, wait_place, Noted, left_at, levels_in, SameLevels, Counting, Searching, Following}
+use Rattle.terrain.specs.InnerGiven.{Keeping, wait_place, Noted, cell_below, left_word, left_at, levels_in, SameLevels, Counting, Searching, Following}
 use Rattle.terrain.proofs.Receivers.{pointing, mapped-code}
 use Rattle.terrain.proofs.Inflows.{inflow-few}
 use Rattle.terrain.proofs.Rings.{ring-is, is-ring}
@@ -285,9 +286,12 @@ module _ {rows cols : ℕ} {dir : List ℕ} where
     left-same z =
         ⊎_elim (λ e. e ∙ sym (left-on-ring z e)) (λ e. ⊎_elim (λ r. absurd (true≢false (sym (ring-on-left z r) ∙ e))) (λ r. e ∙ sym r) (two (ring_at rows cols dir z))) (two (left_at words z))
 
-    pub left-first : {r : ℕ} → r ≡ first_of (left_at words) (length words) → r ≡ first_ring rows cols dir
+    pub left-first : {r : Option ℕ} → r ≡ position left_word words → r ≡ cell_below (rows * cols) (first_ring rows cols dir)
     unfolding first_ring
-    left-first e = e ∙ ap (first_of (left_at words)) s.noted.long ∙ first-ext (left_at words) (ring_at rows cols dir) (rows * cols) (λ z l. left-same z)
+    left-first e =
+        let at = position_or_len_is left_word words (first_of (left_at words) (length words)) 0 (first-top (left_at words) (length words)) (λ j h. first-before (left_at words) (length words) j h) (first_holds (left_at words) (length words)) in
+        e ∙ ap (cell_below (length words)) (at ∙ first-ext (left_at words) (ring_at rows cols dir) (length words) (λ z l. left-same z))
+        ∙ ap (λ (n : ℕ). cell_below n (first_of (ring_at rows cols dir) n)) s.noted.long
 
 -- ---- the levels again
 

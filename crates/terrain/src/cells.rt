@@ -3,7 +3,7 @@
 //     5 NW   6 N   7 NE
 //     4 W      x   0 E
 //     3 SW   2 S   1 SE
-ghost use Rattle.std.specs.Prelude.{◌≡◌, ◌+◌, ◌*◌, ◌<◌, ◌≤◌, min, max, true, length, replicate, slice_index};
+ghost use Rattle.std.specs.Prelude.{◌≡◌, ◌+◌, ◌*◌, ◌<◌, ◌≤◌, true, slice_index};
 ghost use Rattle.terrain.specs.Cells.{row_steps, col_steps, cell_at, neighbour, Shifts};
 ghost use Rattle.terrain.specs.InnerCells.{Sized, Inside, RunsTo, beside_of, Beside, Around};
 
@@ -130,30 +130,5 @@ pub(crate) fn around(columns: usize, x: usize, k: usize) -> usize
 pub(crate) fn value_at(s: &[u32], i: usize) -> u32
     ensures { result ≡ slice_index s.now i }
 {
-    if i < s.len() {
-        return s[i];
-    }
-    0
-}
-
-pub(crate) fn smaller(a: u32, b: u32) -> u32
-    ensures { result ≡ min a b }
-{
-    if a < b { a } else { b }
-}
-
-pub(crate) fn larger(a: u32, b: u32) -> u32
-    ensures { result ≡ max a b }
-{
-    if a < b { b } else { a }
-}
-
-pub(crate) fn clear(s: &mut [u32])
-    ensures { s.new ≡ replicate (length s.old) 0 }
-{
-    let mut x: usize = 0;
-    while x < s.len() {
-        s[x] = 0;
-        x += 1;
-    }
+    s.get(i).copied().unwrap_or(0)
 }

@@ -5,19 +5,20 @@ ghost use Rattle.laws.specs.Lists.{tab};
 ghost use Rattle.terrain.specs.Cells.{neighbour, code_of};
 ghost use Rattle.terrain.specs.InnerCells.{Sized, Inside, RunsTo};
 ghost use Rattle.terrain.specs.Flat.{far_steps, flat_steps};
-ghost use Rattle.terrain.specs.Direction.{directions_of};
+ghost use Rattle.terrain.specs.InnerFlats.{StepsKept};
+ghost use Rattle.terrain.specs.Direction.{nearer_bearing, directions_of};
 ghost use Rattle.terrain.specs.Falls.{no_fall, falls_of};
 ghost use Rattle.terrain.specs.Filled.{top};
 ghost use Rattle.terrain.specs.InnerLevels.{Levels, open_at, drop_of, key_of, bearing_key, Chosen, down_at, FallTo, Down};
 
-use crate::cells::{beside, larger, near, run_end, value_at};
+use crate::cells::{beside, near, run_end, value_at};
 use crate::flat;
 use crate::flat::FAR;
 
 // The code of a NoData cell, and its fall.
 pub(crate) const NO_CODE: u8 = 255;
 
-pub(crate) const NO_FALL: u32 = 4294967295;
+pub(crate) const NO_FALL: u32 = u32::MAX;
 
 // The code of bearing k.
 pub(crate) fn code_of(k: usize) -> u8
@@ -54,14 +55,7 @@ fn key_of(v: u32, w: u32, k: usize) -> u32
     requires { (v ≤ top) × (k < 8) }
     ensures { result ≡ key_of v w k }
 {
-    drop_of(v, w) * 256 + (255 - code_of(k) as u32)
-}
-
-// The first number or the second, without a branch.
-fn pick(first: bool, a: u32, b: u32) -> u32
-    ensures { result ≡ (if first then a else b) }
-{
-    if first { a } else { b }
+    drop_of(v, w) * 256 + (255 - u32::from(code_of(k)))
 }
 
 // The code of a cell, but for flats, and its fall.
@@ -77,13 +71,13 @@ impl Fall {
         requires { (cardinal < 536870912) × (diagonal < 536870912) }
         ensures { Chosen cardinal diagonal result }
     {
-        let c = (cardinal / 256) as u64;
-        let d = (diagonal / 256) as u64;
+        let c = u64::from(cardinal / 256);
+        let d = u64::from(diagonal / 256);
         let straight = d * d <= 2 * (c * c);
-        let key = pick(straight, cardinal, diagonal);
+        let key = if straight { cardinal } else { diagonal };
         Fall {
             code: (255 - key % 256) as u8,
-            fall: key / 256 * 2 + pick(straight, 0, 1),
+            fall: key / 256 * 2 + u32::from(!straight),
         }
     }
 
@@ -102,26 +96,36 @@ impl Fall {
 }
 
 // The level of the neighbour at bearing k of a cell x that is inside, or not; 0 where there is none.
-fn level_beside(rows: usize, columns: usize, level: &[u32], x: usize, k: usize, inside: bool) -> u32
-    requires { Levels rows columns level.now × (x < rows * columns) × (k < 8) × (inside ≡ true → Inside rows columns x) }
+fn level_beside<const INSIDE: bool>(
+    rows: usize,
+    columns: usize,
+    level: &[u32],
+    x: usize,
+    k: usize,
+) -> u32
+    requires { Levels rows columns level.now × (x < rows * columns) × (k < 8) × (INSIDE ≡ true → Inside rows columns x) }
     ensures { result ≡ slice_index level.now (neighbour rows columns x k) }
 {
-    if inside {
+    if INSIDE {
         return level[beside(columns, x, k)];
     }
     value_at(level, near(rows, columns, x, k))
 }
 
 // Whether a cell x that is inside, or not, has a neighbour with no data or past the edge of the grid.
-fn is_open(rows: usize, columns: usize, level: &[u32], x: usize, inside: bool) -> bool
-    requires { Levels rows columns level.now × (x < rows * columns) × (inside ≡ true → Inside rows columns x) }
+pub(crate) fn is_open<const INSIDE: bool>(
+    rows: usize,
+    columns: usize,
+    level: &[u32],
+    x: usize,
+) -> bool
+    requires { Levels rows columns level.now × (x < rows * columns) × (INSIDE ≡ true → Inside rows columns x) }
     ensures { result ≡ open_at rows columns level.now x 8 }
 {
     let mut found = false;
-    let mut k: usize = 0;
-    while k < 8 {
-        found = found | (level_beside(rows, columns, level, x, k, inside) < 1);
-        k += 1;
+    // Not `any`, so that a run of cells has no branch here.
+    for k in 0..8 {
+        found |= level_beside::<INSIDE>(rows, columns, level, x, k) < 1;
     }
     found
 }
@@ -134,29 +138,27 @@ fn start_steps(code: u8, rim: bool) -> u32
 }
 
 // The key of bearing k of a cell x that is inside, or not.
-fn key_at(rows: usize, columns: usize, level: &[u32], x: usize, k: usize, inside: bool) -> u32
-    requires { Levels rows columns level.now × (x < rows * columns) × (k < 8) × (inside ≡ true → Inside rows columns x) }
+fn key_at<const INSIDE: bool>(rows: usize, columns: usize, level: &[u32], x: usize, k: usize) -> u32
+    requires { Levels rows columns level.now × (x < rows * columns) × (k < 8) × (INSIDE ≡ true → Inside rows columns x) }
     ensures { result ≡ bearing_key rows columns level.now x k }
 {
     key_of(
         level[x],
-        level_beside(rows, columns, level, x, k, inside),
+        level_beside::<INSIDE>(rows, columns, level, x, k),
         k,
     )
 }
 
 // The code, but for flats, and the fall of a cell x that is inside, or not.
-fn fall_at(rows: usize, columns: usize, level: &[u32], x: usize, inside: bool) -> Fall
-    requires { Levels rows columns level.now × (x < rows * columns) × (inside ≡ true → Inside rows columns x) }
+fn fall_at<const INSIDE: bool>(rows: usize, columns: usize, level: &[u32], x: usize) -> Fall
+    requires { Levels rows columns level.now × (x < rows * columns) × (INSIDE ≡ true → Inside rows columns x) }
     ensures { FallTo rows columns level.now x result }
 {
     let mut cardinal: u32 = 255;
     let mut diagonal: u32 = 255;
-    let mut i: usize = 0;
-    while i < 4 {
-        cardinal = larger(cardinal, key_at(rows, columns, level, x, 2 * i, inside));
-        diagonal = larger(diagonal, key_at(rows, columns, level, x, 2 * i + 1, inside));
-        i += 1;
+    for i in 0..4 {
+        cardinal = cardinal.max(key_at::<INSIDE>(rows, columns, level, x, 2 * i));
+        diagonal = diagonal.max(key_at::<INSIDE>(rows, columns, level, x, 2 * i + 1));
     }
     Fall::chosen(cardinal, diagonal).at(level[x])
 }
@@ -177,13 +179,11 @@ fn point_run(
         × Down rows columns level.now direction.old falls.old steps.old from }
     ensures { Down rows columns level.now direction.new falls.new steps.new to }
 {
-    let mut x = from;
-    while x < to {
-        let fall = fall_at(rows, columns, level, x, true);
+    for x in from..to {
+        let fall = fall_at::<true>(rows, columns, level, x);
         direction[x] = fall.code;
         falls[x] = fall.fall;
-        steps[x] = start_steps(fall.code, is_open(rows, columns, level, x, true));
-        x += 1;
+        steps[x] = start_steps(fall.code, is_open::<true>(rows, columns, level, x));
     }
 }
 
@@ -201,13 +201,14 @@ fn point_down(
     ensures { Down rows columns level.now direction.new falls.new steps.new (rows * columns) }
 {
     let mut x: usize = 0;
+    // A `while`, since a turn takes a whole run of cells.
     while x < direction.len() {
         let end = run_end(rows, columns, x);
         point_run(rows, columns, level, direction, falls, steps, x, end);
-        let fall = fall_at(rows, columns, level, end, false);
+        let fall = fall_at::<false>(rows, columns, level, end);
         direction[end] = fall.code;
         falls[end] = fall.fall;
-        steps[end] = start_steps(fall.code, is_open(rows, columns, level, end, false));
+        steps[end] = start_steps(fall.code, is_open::<false>(rows, columns, level, end));
         x = end + 1;
     }
 }
@@ -223,30 +224,31 @@ fn is_nearer(level: &[u32], steps: &[u32], v: u32, d: u32, y: usize) -> bool
     level[y] == v
 }
 
+// The code of the first neighbour of a flat cell x that has its level and is one step nearer. All its neighbours are on the grid.
+fn nearer_code(rows: usize, columns: usize, level: &[u32], steps: &[u32], x: usize) -> u8
+    requires { Levels rows columns level.now × StepsKept rows columns level.now steps.now × (x < rows * columns) × (0 < slice_index steps.now x) }
+    ensures { result ≡ code_of (nearer_bearing rows columns level.now steps.now x) }
+{
+    let v = level[x];
+    let d = steps[x] - 1;
+    for k in 0..8 {
+        if is_nearer(level, steps, v, d, beside(columns, x, k)) {
+            return code_of(k);
+        }
+    }
+    0
+}
+
 // Points every flat cell at its first neighbour of the same level that is one step nearer. All its neighbours are on the grid.
 fn point_flats(rows: usize, columns: usize, level: &[u32], steps: &[u32], direction: &mut [u8])
     requires { Levels rows columns level.now × (steps.now ≡ flat_steps rows columns level.now)
         × (direction.old ≡ tab (rows * columns) (down_at rows columns level.now)) }
     ensures { direction.new ≡ directions_of rows columns level.now }
 {
-    let mut x: usize = 0;
-    while x < direction.len() {
+    for x in 0..direction.len() {
         if 0 < steps[x] {
-            let v = level[x];
-            let d = steps[x] - 1;
-            let mut k: usize = 0;
-            let code = loop {
-                if 8 <= k {
-                    break 0;
-                }
-                if is_nearer(level, steps, v, d, beside(columns, x, k)) {
-                    break code_of(k);
-                }
-                k += 1;
-            };
-            direction[x] = code;
+            direction[x] = nearer_code(rows, columns, level, steps, x);
         }
-        x += 1;
     }
 }
 

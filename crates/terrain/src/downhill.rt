@@ -25,10 +25,8 @@ fn start(rows: usize, columns: usize, direction: &[u8], waiting: &mut [u32])
     requires { Drawn rows columns direction.now × (length waiting.old ≡ rows * columns) }
     ensures { Awaiting rows columns direction.now waiting.new 0 }
 {
-    let mut x: usize = 0;
-    while x < waiting.len() {
+    for x in 0..waiting.len() {
         waiting[x] = idle(direction[x]);
-        x += 1;
     }
 }
 
@@ -52,7 +50,7 @@ fn await_one(
     if waiting.len() <= y {
         return;
     }
-    waiting[y] = waiting[y] + 1;
+    waiting[y] += 1;
 }
 
 // Notes for every valid cell how many cells point at it.
@@ -67,10 +65,8 @@ fn await_all(
     ensures { Awaiting rows columns direction.now waiting.new (rows * columns) }
 {
     start(rows, columns, direction, waiting);
-    let mut x: usize = 0;
-    while x < waiting.len() {
+    for x in 0..waiting.len() {
         await_one(rows, columns, shifts, direction, waiting, x);
-        x += 1;
     }
 }
 
@@ -97,7 +93,7 @@ fn take(
     if waiting.len() <= y {
         return y;
     }
-    waiting[y] = waiting[y] - 1;
+    waiting[y] -= 1;
     y
 }
 
@@ -169,10 +165,8 @@ pub(crate) fn descend(
 {
     await_all(rows, columns, shifts, direction, waiting);
     let mut place: usize = 0;
-    let mut x: usize = 0;
-    while x < waiting.len() {
+    for x in 0..waiting.len() {
         place = begin(rows, columns, shifts, direction, waiting, order, place, x);
-        x += 1;
     }
     place
 }

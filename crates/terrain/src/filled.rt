@@ -10,7 +10,7 @@ ghost use Rattle.terrain.specs.InnerCells.{Ready, Sized, Inside, RunsTo};
 ghost use Rattle.terrain.specs.Filled.{top, lowest_of, filling, filled_levels};
 ghost use Rattle.terrain.specs.InnerFlood.{FaultyCell, Faulty, FillSweeping, Lowered, done_of, queued_from, Waiting, Flooded, FloodedTo, level_in};
 
-use crate::cells::{beside, larger, near, run_end, smaller, value_at};
+use crate::cells::{beside, near, run_end, value_at};
 use crate::queue::{level_of, open_band, pop, reach_rims, spread, start_word};
 
 // A level is a height plus this, so that NoData is 0.
@@ -41,10 +41,8 @@ fn has_lower(columns: usize, level: &[u32], x: usize, v: u32) -> bool
     ensures { (rows : ℕ) → Inside rows columns x → result ≡ nat_lt (lowest_of rows columns level.now x 8) v }
 {
     let mut found = UNREACHED < v;
-    let mut k: usize = 0;
-    while k < 8 {
+    for k in 0..8 {
         found = found | (level[beside(columns, x, k)] < v);
-        k += 1;
     }
     found
 }
@@ -55,10 +53,8 @@ fn lowest_near(rows: usize, columns: usize, level: &[u32], x: usize) -> u32
     ensures { result ≡ lowest_of rows columns level.now x 8 }
 {
     let mut low: u32 = UNREACHED;
-    let mut k: usize = 0;
-    while k < 8 {
-        low = smaller(low, value_at(level, near(rows, columns, x, k)));
-        k += 1;
+    for k in 0..8 {
+        low = low.min(value_at(level, near(rows, columns, x, k)));
     }
     low
 }
@@ -70,10 +66,8 @@ fn start(elevation: &[i32], words: &mut [u32])
         → done_of words.new ≡ start_of (filling rows columns (levels_of elevation.now)))
         × ((x : ℕ) → slice_index words.new x < queued_from) }
 {
-    let mut x: usize = 0;
-    while x < words.len() {
+    for x in 0..words.len() {
         words[x] = start_word(ground_level(elevation, x));
-        x += 1;
     }
 }
 
@@ -91,15 +85,12 @@ fn drain(
     ensures { FloodedTo rows columns words.old words.new (level_in band list) }
 {
     let level = level_of(band, list);
-    let mut turns: usize = 0;
-    while turns < words.len() {
-        let x = pop(heads, words, list);
-        if words.len() <= x {
+    'turns: for _ in 0..words.len() {
+        let Some(x) = pop(heads, words, list) else {
             return;
-        }
+        };
         words[x] = level;
         spread(columns, heads, words, band, level, x);
-        turns += 1;
     }
 }
 
@@ -112,10 +103,8 @@ fn flood_band(rows: usize, columns: usize, heads: &mut [u32; 2048], words: &mut 
         return;
     }
     open_band(heads, words, band);
-    let mut list: usize = 1024;
-    while list < 2048 {
+    for list in 1024..2048 {
         drain(rows, columns, heads, words, band, list);
-        list += 1;
     }
 }
 
@@ -126,10 +115,8 @@ fn flood(rows: usize, columns: usize, words: &mut [u32])
 {
     let mut heads: [u32; 2048] = [0; 2048];
     reach_rims(columns, &mut heads, words);
-    let mut band: usize = 0;
-    while band < 1024 {
+    for band in 0..1024 {
         flood_band(rows, columns, &mut heads, words, band);
-        band += 1;
     }
 }
 
@@ -150,14 +137,12 @@ fn faulty_run(columns: usize, elevation: &[i32], level: &[u32], from: usize, to:
     ensures { (rows : ℕ) → RunsTo rows columns from to → Faulty rows columns elevation.now level.now from to result }
 {
     let mut sum: u32 = 0;
-    let mut x = from;
-    while x < to {
+    for x in from..to {
         sum += faulty(
             level[x],
             ground_level(elevation, x),
             has_lower(columns, level, x, level[x]),
         );
-        x += 1;
     }
     sum
 }
@@ -187,10 +172,7 @@ fn lower(rows: usize, columns: usize, elevation: &[i32], level: &mut [u32], x: u
     requires { Ready rows columns elevation.now × (length level.old ≡ rows * columns) × (x < rows * columns) }
     ensures { Lowered rows columns elevation.now level.old level.new x result }
 {
-    let v = larger(
-        ground_level(elevation, x),
-        lowest_near(rows, columns, level, x),
-    );
+    let v = ground_level(elevation, x).max(lowest_near(rows, columns, level, x));
     if level[x] <= v {
         return false;
     }
@@ -204,12 +186,10 @@ fn sweep(rows: usize, columns: usize, elevation: &[i32], level: &mut [u32]) -> b
     ensures { FillSweeping rows columns elevation.now level.old level.new (length level.old) result }
 {
     let mut lowered = false;
-    let mut x: usize = 0;
-    while x < level.len() {
+    for x in 0..level.len() {
         if lower(rows, columns, elevation, level, x) {
             lowered = true;
         }
-        x += 1;
     }
     lowered
 }
@@ -220,10 +200,8 @@ fn restart(elevation: &[i32], level: &mut [u32])
     ensures { (rows columns : ℕ) → length level.old ≡ rows * columns
         → level.new ≡ start_of (filling rows columns (levels_of elevation.now)) }
 {
-    let mut x: usize = 0;
-    while x < level.len() {
-        level[x] = smaller(start_word(ground_level(elevation, x)), UNREACHED);
-        x += 1;
+    for x in 0..level.len() {
+        level[x] = start_word(ground_level(elevation, x)).min(UNREACHED);
     }
 }
 
@@ -256,9 +234,7 @@ pub(crate) fn write_heights(level: &[u32], filled: &mut [i32])
     requires { (length level.now ≡ length filled.old) × ((x : ℕ) → slice_index level.now x < top) }
     ensures { filled.new ≡ map height_of level.now }
 {
-    let mut x: usize = 0;
-    while x < filled.len() {
+    for x in 0..filled.len() {
         filled[x] = height_of(level[x]);
-        x += 1;
     }
 }

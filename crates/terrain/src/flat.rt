@@ -9,10 +9,10 @@ ghost use Rattle.terrain.specs.Flat.{far_steps, flat_at, nearest_of, flat_steppi
 ghost use Rattle.terrain.specs.InnerFlats.{Within, StepsKept, Put, Reached, Shores, Wading, Spreading, Waded};
 ghost use Rattle.terrain.specs.InnerLevels.{Levels, LoweredSteps};
 
-use crate::cells::{beside, near, smaller, value_at};
+use crate::cells::{beside, near, value_at};
 
 // More than any steps.
-pub(crate) const FAR: u32 = 2000000;
+pub(crate) const FAR: u32 = 2_000_000;
 
 // The steps of a cell of level w, as a cell of level v sees them: far unless the levels are equal.
 fn seen(v: u32, w: u32, steps: u32) -> u32
@@ -29,11 +29,10 @@ fn is_shore(columns: usize, level: &[u32], steps: &[u32], x: usize) -> bool
 {
     let v = level[x];
     let mut found = false;
-    let mut k: usize = 0;
-    while k < 8 {
+    // Not `any`, so that there is no branch here.
+    for k in 0..8 {
         let y = beside(columns, x, k);
-        found = found | ((level[y] == v) & (steps[y] < 1));
-        k += 1;
+        found |= (level[y] == v) & (steps[y] < 1);
     }
     found
 }
@@ -45,25 +44,11 @@ fn nearest_near(rows: usize, columns: usize, level: &[u32], steps: &[u32], x: us
 {
     let v = level[x];
     let mut low: u32 = FAR;
-    let mut k: usize = 0;
-    while k < 8 {
+    for k in 0..8 {
         let y = near(rows, columns, x, k);
-        low = smaller(low, seen(v, value_at(level, y), value_at(steps, y)));
-        k += 1;
+        low = low.min(seen(v, value_at(level, y), value_at(steps, y)));
     }
     low
-}
-
-// The cell at an entry of the queue; what is below 0 is none.
-fn cell_in(queue: &[i32], at: usize) -> usize
-    requires { at < length queue.now }
-    ensures { (x : ℕ) → x < 1048576 → slice_index_or queue.now at (pos 0) ≡ pos x → result ≡ x }
-{
-    let entry = queue[at];
-    if entry < 0 {
-        return queue.len();
-    }
-    entry as usize
 }
 
 // Sets the steps of the cell y to d and adds it to a queue of `end` entries, if there is room. The number of entries.
@@ -125,10 +110,8 @@ fn reach_shores(
     ensures { Wading rows columns level.now steps.new queue.new 0 result (rows * columns) }
 {
     let mut end: usize = 0;
-    let mut x: usize = 0;
-    while x < steps.len() {
+    for x in 0..steps.len() {
         end = reach_shore(columns, level, steps, queue, end, x);
-        x += 1;
     }
     end
 }
@@ -149,10 +132,8 @@ fn reach_around(
         → Wading rows columns lv steps.new queue.new from result (rows * columns) }
 {
     let mut last = end;
-    let mut k: usize = 0;
-    while k < 8 {
+    for k in 0..8 {
         last = reach(steps, queue, last, d, beside(columns, x, k));
-        k += 1;
     }
     last
 }
@@ -181,9 +162,11 @@ fn wade(columns: usize, steps: &mut [u32], queue: &mut [i32], shores: usize) -> 
 {
     let mut end = shores;
     let mut at: usize = 0;
+    // A `while`, since a turn may move the end.
     while at < end {
-        let x = cell_in(queue, at);
-        end = spread(columns, steps, queue, end, x);
+        if let Ok(x) = usize::try_from(queue[at]) {
+            end = spread(columns, steps, queue, end, x);
+        }
         at += 1;
     }
     end
@@ -209,12 +192,8 @@ fn sweep(rows: usize, columns: usize, level: &[u32], steps: &mut [u32]) -> bool
         steps.new (length steps.old) result }
 {
     let mut lowered = false;
-    let mut x: usize = 0;
-    while x < steps.len() {
-        if lower(rows, columns, level, steps, x) {
-            lowered = true;
-        }
-        x += 1;
+    for x in 0..steps.len() {
+        lowered |= lower(rows, columns, level, steps, x);
     }
     lowered
 }
@@ -224,10 +203,7 @@ fn settle(rows: usize, columns: usize, level: &[u32], steps: &mut [u32])
     requires { Levels rows columns level.now × StepsKept rows columns level.now steps.old }
     ensures { steps.new ≡ flat_steps rows columns level.now }
 {
-    let mut again = true;
-    while again {
-        again = sweep(rows, columns, level, steps);
-    }
+    while sweep(rows, columns, level, steps) {}
 }
 
 // The steps over flats of every cell, from those that they start from. The queue is scratch; flat cells do not fill it, since no

@@ -4,31 +4,16 @@ ghost use Rattle.std.specs.Prelude.{◌≡◌, ◌*◌, ◌<◌, length};
 ghost use Rattle.terrain.specs.Cells.{Shifts};
 ghost use Rattle.terrain.specs.Falls.{fall_at, falls_of};
 ghost use Rattle.terrain.specs.Given.{kept_at, first_broken, given_tests};
-ghost use Rattle.terrain.specs.InnerLevels.{Levels, open_at};
-ghost use Rattle.terrain.specs.InnerGiven.{Keeping};
+ghost use Rattle.terrain.specs.InnerLevels.{Levels};
+ghost use Rattle.terrain.specs.InnerGiven.{Keeping, cell_below};
 ghost use Rattle.terrain.specs.InnerAnswers.{found};
 ghost use Rattle.laws.specs.Tests.{verdict};
 
 use crate::cells::{near, shifts_of, value_at};
-use crate::direction::{NO_CODE, NO_FALL, code_of};
+use crate::direction::{NO_CODE, NO_FALL, code_of, is_open};
 use crate::ring::first_on_ring;
 use crate::trail::receiver;
-use crate::{Judgement, unsound};
-
-// Whether a neighbour of the cell x has no data or is past the edge of the grid. It is not `direction::is_open`, which is to have
-// no caller but the loops of our own directions, so that the compiler joins it into them.
-fn is_beside_none(rows: usize, columns: usize, level: &[u32], x: usize) -> bool
-    requires { Levels rows columns level.now × (x < rows * columns) }
-    ensures { result ≡ open_at rows columns level.now x 8 }
-{
-    let mut found = false;
-    let mut k: usize = 0;
-    while k < 8 {
-        found = found | (value_at(level, near(rows, columns, x, k)) < 1);
-        k += 1;
-    }
-    found
-}
+use text::{Fault, Refusal};
 
 // Whether the code of the cell x keeps the rules of refusal 17.
 fn is_kept(rows: usize, columns: usize, level: &[u32], direction: &[u8], x: usize) -> bool
@@ -41,9 +26,9 @@ fn is_kept(rows: usize, columns: usize, level: &[u32], direction: &[u8], x: usiz
         return code == NO_CODE;
     }
     if code == 0 {
-        return is_beside_none(rows, columns, level, x);
+        return is_open::<false>(rows, columns, level, x);
     }
-    let k = u8::trailing_zeros(code) as usize;
+    let k = code.trailing_zeros() as usize;
     if 8 <= k {
         return false;
     }
@@ -54,37 +39,48 @@ fn is_kept(rows: usize, columns: usize, level: &[u32], direction: &[u8], x: usiz
     (0 < w) & (w <= v)
 }
 
-// The first cell whose code breaks one of them; the number of cells where there is none.
-pub(crate) fn first_broken(rows: usize, columns: usize, level: &[u32], direction: &[u8]) -> usize
+// The first cell whose code breaks one of them.
+pub(crate) fn first_broken(
+    rows: usize,
+    columns: usize,
+    level: &[u32],
+    direction: &[u8],
+) -> Option<usize>
     requires { Levels rows columns level.now × (length direction.now ≡ rows * columns) }
-    ensures { result ≡ first_broken rows columns level.now direction.now }
+    ensures { result ≡ cell_below (rows * columns) (first_broken rows columns level.now direction.now) }
 {
-    let mut x: usize = 0;
-    while x < direction.len() {
+    for x in 0..direction.len() {
         if !is_kept(rows, columns, level, direction, x) {
-            return x;
+            return Some(x);
         }
-        x += 1;
     }
-    x
+    None
 }
 
 // Makes the tests of refusals 17 and 18, in that order. The levels are scratch, and as they were.
-pub(crate) fn judge(rows: usize, columns: usize, direction: &[u8], level: &mut [u32]) -> Judgement
+pub(crate) fn judge(
+    rows: usize,
+    columns: usize,
+    direction: &[u8],
+    level: &mut [u32],
+) -> Result<(), Refusal>
     requires { Levels rows columns level.old × (length direction.now ≡ rows * columns) }
     ensures { (found result ≡ verdict (given_tests rows columns level.old direction.now))
         × (level.new ≡ level.old) }
 {
-    let cells = level.len();
-    let broken = first_broken(rows, columns, level, direction);
-    if broken < cells {
-        return unsound(17, broken);
+    if let Some(x) = first_broken(rows, columns, level, direction) {
+        return Err(Refusal {
+            fault: Fault::Direction,
+            place: x,
+        });
     }
-    let ring = first_on_ring(rows, columns, direction, level);
-    if ring < cells {
-        return unsound(18, ring);
+    if let Some(x) = first_on_ring(rows, columns, direction, level) {
+        return Err(Refusal {
+            fault: Fault::Ring,
+            place: x,
+        });
     }
-    Judgement::Sound
+    Ok(())
 }
 
 // The fall of the cell x along its direction.
@@ -111,7 +107,7 @@ fn fall_along(
     if drop < 1 {
         return 0;
     }
-    2 * drop + u8::trailing_zeros(code) % 2
+    2 * drop + code.trailing_zeros() % 2
 }
 
 // Writes the fall of every cell.
@@ -126,9 +122,7 @@ pub(crate) fn write_falls(
     ensures { falls.new ≡ falls_of rows columns level.now direction.now }
 {
     let shifts = shifts_of(columns);
-    let mut x: usize = 0;
-    while x < falls.len() {
+    for x in 0..falls.len() {
         falls[x] = fall_along(rows, columns, &shifts, level, direction, x);
-        x += 1;
     }
 }

@@ -5,20 +5,19 @@
 //
 //     level + 2^21 * waits     waits, 0 to 8: so many cells that point here are not taken; 9: the cell is taken
 //     0                        NoData
-ghost use Rattle.std.specs.Prelude.{◌≡◌, ℕ, ◌+◌, ◌*◌, ◌<◌, length};
-ghost use Rattle.laws.specs.First.{first_of};
+ghost use Rattle.std.specs.Prelude.{◌≡◌, ℕ, ◌+◌, ◌*◌, ◌<◌, length, position};
 ghost use Rattle.terrain.specs.Cells.{Shifts};
 ghost use Rattle.terrain.specs.Given.{first_ring};
-ghost use Rattle.terrain.specs.InnerGiven.{Keeping, levels_in, left_at, SameLevels, Counting, Searching, Following};
+ghost use Rattle.terrain.specs.InnerGiven.{Keeping, cell_below, levels_in, left_word, SameLevels, Counting, Searching, Following};
 
 use crate::cells::shifts_of;
 use crate::direction::NO_CODE;
 use crate::trail::receiver;
 
 // One inflow that a cell waits for, and what a cell that is taken has in its place.
-const WAIT: u32 = 2097152;
+const WAIT: u32 = 1 << 21;
 
-const SHUT: u32 = 18874368;
+const SHUT: u32 = 9 * WAIT;
 
 // Lets the cell that the cell x points at, if x is valid, wait for it.
 fn await_one(
@@ -39,7 +38,7 @@ fn await_one(
     if words.len() <= y {
         return;
     }
-    words[y] = words[y] + WAIT;
+    words[y] += WAIT;
 }
 
 // Notes for every valid cell how many cells point at it.
@@ -47,14 +46,13 @@ fn await_all(rows: usize, columns: usize, shifts: &[usize; 8], direction: &[u8],
     requires { Keeping rows columns words.old direction.now × Shifts columns shifts.now }
     ensures { Counting rows columns direction.now words.new (rows * columns) × SameLevels words.old words.new }
 {
-    let mut x: usize = 0;
-    while x < words.len() {
+    for x in 0..words.len() {
         await_one(rows, columns, shifts, direction, words, x);
-        x += 1;
     }
 }
 
-// Takes the cell x, which waits for none: the cell that it points at waits for one less. That cell.
+// Takes the cell x, which waits for none: the cell that it points at waits for one less. That cell, or the number of cells where
+// there is none: no Option, since `follow` asks of both at once whether they come after the start.
 fn take(
     rows: usize,
     columns: usize,
@@ -70,12 +68,12 @@ fn take(
         → Searching rows columns direction.now words.new (place + 1) b hand)
         × SameLevels words.old words.new }
 {
-    words[x] = words[x] + SHUT;
+    words[x] += SHUT;
     let y = receiver(rows, columns, shifts, direction, x);
     if words.len() <= y {
         return y;
     }
-    words[y] = words[y] - WAIT;
+    words[y] -= WAIT;
     y
 }
 
@@ -139,48 +137,38 @@ fn peel(rows: usize, columns: usize, shifts: &[usize; 8], direction: &[u8], word
         × SameLevels words.old words.new }
 {
     let mut place: usize = 0;
-    let mut x: usize = 0;
-    while x < words.len() {
+    for x in 0..words.len() {
         place = begin(rows, columns, shifts, direction, words, place, x);
-        x += 1;
     }
 }
 
-// The first cell that is left over: it waits, and is not taken. The number of cells where there is none.
-fn first_left(words: &[u32]) -> usize
-    ensures { result ≡ first_of (left_at words.now) (length words.now) }
+// The first cell that is left over: it waits, and is not taken.
+fn first_left(words: &[u32]) -> Option<usize>
+    ensures { result ≡ position left_word words.now }
 {
-    let mut x: usize = 0;
-    while x < words.len() {
-        let word = words[x];
-        if (WAIT <= word) & (word < SHUT) {
-            return x;
-        }
-        x += 1;
-    }
-    x
+    words
+        .iter()
+        .position(|word| (WAIT <= *word) & (*word < SHUT))
 }
 
 // Leaves the level alone in every word.
 fn restore(words: &mut [u32])
     ensures { words.new ≡ levels_in words.old }
 {
-    let mut x: usize = 0;
-    while x < words.len() {
-        words[x] = words[x] % WAIT;
-        x += 1;
+    for word in words.iter_mut() {
+        *word %= WAIT;
     }
 }
 
-// The first cell in row order on a ring; the number of cells where there is none. The levels are scratch, and as they were.
+// The first cell in row order on a ring. The levels are scratch, and as they were.
 pub(crate) fn first_on_ring(
     rows: usize,
     columns: usize,
     direction: &[u8],
     level: &mut [u32],
-) -> usize
+) -> Option<usize>
     requires { Keeping rows columns level.old direction.now }
-    ensures { (result ≡ first_ring rows columns direction.now) × (level.new ≡ level.old) }
+    ensures { (result ≡ cell_below (rows * columns) (first_ring rows columns direction.now)) × (level.new ≡ level.old) }
 {
     let shifts = shifts_of(columns);
     await_all(rows, columns, &shifts, direction, level);

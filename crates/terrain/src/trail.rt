@@ -9,7 +9,7 @@ ghost use Rattle.terrain.specs.InnerTrail.{Drawn, Directed};
 ghost use Rattle.terrain.specs.Downhill.{Downhill};
 ghost use Rattle.terrain.specs.Cells.{Shifts};
 
-use crate::cells::{larger, shifted, value_at};
+use crate::cells::{shifted, value_at};
 use crate::direction::NO_CODE;
 
 // The cell that the valid cell x points at; the number of cells where it points nowhere.
@@ -42,10 +42,8 @@ fn start(rows: usize, columns: usize, direction: &[u8], count: &mut [u32])
     requires { Drawn rows columns direction.now × (length count.old ≡ rows * columns) }
     ensures { count.new ≡ tab (rows * columns) (λ x. when (mapped_at rows columns direction.now x) 1) }
 {
-    let mut x: usize = 0;
-    while x < count.len() {
+    for x in 0..count.len() {
         count[x] = own(direction[x]);
-        x += 1;
     }
 }
 
@@ -57,7 +55,7 @@ fn hand_on(count: &mut [u32], x: usize, y: usize)
     if count.len() <= y {
         return;
     }
-    count[y] = count[y] + count[x];
+    count[y] += count[x];
 }
 
 // The flow count of every cell, along the order of the valid cells at the first places.
@@ -75,12 +73,10 @@ pub(crate) fn count_flow(
     ensures { count.new ≡ counts_of rows columns direction.now }
 {
     start(rows, columns, direction, count);
-    let mut place: usize = 0;
-    while place < places {
+    for place in 0..places {
         let x = order[place] as usize;
         let y = receiver(rows, columns, shifts, direction, x);
         hand_on(count, x, y);
-        place += 1;
     }
 }
 
@@ -99,14 +95,12 @@ pub(crate) fn longest_trail(
     ensures { result ≡ longest_of rows columns direction.now }
 {
     let mut most: u32 = 0;
-    let mut place = places;
-    while 0 < place {
-        place -= 1;
+    for place in (0..places).rev() {
         let x = order[place] as usize;
         let y = receiver(rows, columns, shifts, direction, x);
         let cells = value_at(workspace, y) + 1;
         workspace[x] = cells;
-        most = larger(most, cells);
+        most = most.max(cells);
     }
-    if most < 1 { 0 } else { most - 1 }
+    most.saturating_sub(1)
 }

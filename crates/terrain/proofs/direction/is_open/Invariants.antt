@@ -1,10 +1,7 @@
--- What the loops of `terrain::direction::is_open` keep, and what falls. Assumes nothing.
-use Rattle.std.proofs.Common.{◌≡◌, ◌-◌, ◌≤◌}
+-- What the loops of `terrain::direction::is_open` keep. Assumes nothing.
+use Rattle.std.proofs.Common.{◌≡◌}
 use Rattle.terrain.specs.InnerLevels.{open_at}
 use Rattle.terrain.proofs.direction.is_open.Given as goal
 
 abbrev pub invariant-loop-k : goal.invariant-loop-k
-invariant-loop-k l = (l.k ≤ 8) × (l.found ≡ open_at l.rows l.columns l.level l.x l.k)
-
-abbrev pub decreases-loop-k : goal.decreases-loop-k
-decreases-loop-k l = 8 - l.k
+invariant-loop-k g l = (l.found ≡ open_at l.rows l.columns l.level l.x l.k)

@@ -1,13 +1,22 @@
 -- `terrain::direction::level_beside` meets its contract. Assumes nothing.
-use Rattle.std.proofs.Common.{ℕ, get_or, ap, ◌∙◌, arith}
+use Rattle.std.proofs.Common.{ℕ, not, get_or, ap, ◌∙◌, arith, ne_eqb}
 use Rattle.terrain.proofs.InnerInterior.{inside_is, inside-lt}
 use Rattle.terrain.proofs.direction.level_beside.Goals as goal
 
 pub offset_bounds-level-beside : goal.offset_bounds-level-beside
-offset_bounds-level-beside c = omega (arith, c.requires.0.sized.small, inside-lt c.args.rows c.args.columns c.args.x c.args.k c.beside.result (c.requires.3 c.if-inside.true) c.requires.2 c.beside.ensures)
+offset_bounds-level-beside g c =
+    let a = c.args in
+    let inside = c.requires.3 (ap not (ne_eqb g.row.INSIDE 0 c.if-this-ne0.true)) in
+    omega (arith, c.requires.0.sized.small, inside-lt a.rows a.columns a.x a.k c.beside.result inside c.requires.2 c.beside.ensures)
 
 pub bounds-level-beside : goal.bounds-level-beside
-bounds-level-beside c = omega (arith, c.requires.0.long, inside-lt c.args.rows c.args.columns c.args.x c.args.k c.beside.result (c.requires.3 c.if-inside.true) c.requires.2 c.beside.ensures)
+bounds-level-beside g c =
+    let a = c.args in
+    let inside = c.requires.3 (ap not (ne_eqb g.row.INSIDE 0 c.if-this-ne0.true)) in
+    omega (arith, c.requires.0.long, inside-lt a.rows a.columns a.x a.k c.beside.result inside c.requires.2 c.beside.ensures)
 
-pub returns-then-inside : goal.returns-then-inside
-returns-then-inside c = ap (λ (y : ℕ). get_or c.args.level.now y 0) (c.beside.ensures ∙ inside_is c.args.rows c.args.columns c.args.x c.args.k (c.requires.3 c.if-inside.true) c.requires.2)
+pub returns-then-this-ne0 : goal.returns-then-this-ne0
+returns-then-this-ne0 g c =
+    let a = c.args in
+    let inside = c.requires.3 (ap not (ne_eqb g.row.INSIDE 0 c.if-this-ne0.true)) in
+    ap (λ (y : ℕ). get_or a.level.now y 0) (c.beside.ensures ∙ inside_is a.rows a.columns a.x a.k inside c.requires.2)

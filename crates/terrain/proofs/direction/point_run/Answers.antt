@@ -11,8 +11,6 @@ loop-x-preserved c =
       rw length-set c.loop-x.invariant.0,
       rw length-set c.loop-x.invariant.1,
       rw length-set c.loop-x.invariant.2,
-      omega arith,
-      omega arith,
-      down-more (omega (arith, c.loop-x.invariant.0, t.2, t.1.within)) (omega (arith, c.loop-x.invariant.1, t.3, t.1.within)) (omega (arith, c.loop-x.invariant.2, t.4, t.1.within)) c.loop-x.invariant.5 c.fall_at-fall.ensures
+      down-more (omega (arith, c.loop-x.invariant.0, t.2, t.1.within)) (omega (arith, c.loop-x.invariant.1, t.3, t.1.within)) (omega (arith, c.loop-x.invariant.2, t.4, t.1.within)) c.loop-x.invariant.3 c.fall_at-fall.ensures
           (start-told a.rows a.columns a.level.now c.loop-x.x c.fall_at-fall.ensures.code c.is_open.ensures c.start_steps.ensures),
     )

@@ -4,4 +4,4 @@ use Rattle.std.proofs.Common.{◌∙◌, arith}
 use Rattle.terrain.proofs.downhill.start.Goals as goal
 
 pub returns : goal.returns
-returns c = await-start c.requires.0 4294967295 (omega arith) (c.loop-x.invariant.0 ∙ c.requires.1) (λ j h. c.loop-x.invariant.2 j (omega (arith, c.loop-x.invariant.0, c.requires.1)))
+returns c = await-start c.requires.0 4294967295 (omega arith) (c.loop-x.auto.waiting ∙ c.requires.1) (λ j h. c.loop-x.invariant j (omega arith))

@@ -5,7 +5,7 @@ use Rattle.terrain.proofs.InnerFlooding.{lower-none, lower-more}
 use Rattle.terrain.proofs.filled.has_lower.Goals as goal
 
 pub loop-k-init : goal.loop-k-init
-loop-k-init c = let a = c.args in (omega arith, λ rows i. lower-none rows a.columns a.level.now a.x a.v)
+loop-k-init c = let a = c.args in λ rows i. lower-none rows a.columns a.level.now a.x a.v
 
 pub offset_bounds-level-beside : goal.offset_bounds-level-beside
 offset_bounds-level-beside c =
@@ -20,4 +20,4 @@ bounds-level-beside c =
 pub loop-k-preserved : goal.loop-k-preserved
 loop-k-preserved c =
     let a = c.args in
-    (omega arith, λ rows i. lower-more rows a.columns a.level.now a.x a.v c.loop-k.k (c.loop-k.invariant.1 rows i) (c.beside.ensures ∙ inside_is rows a.columns a.x c.loop-k.k i (omega arith)))
+    λ rows i. lower-more rows a.columns a.level.now a.x a.v c.loop-k.k (c.loop-k.invariant rows i) (c.beside.ensures ∙ inside_is rows a.columns a.x c.loop-k.k i (omega arith))

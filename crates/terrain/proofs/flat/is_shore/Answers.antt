@@ -10,7 +10,7 @@ pub bounds-level-x : goal.bounds-level-x
 bounds-level-x c = omega (arith, c.requires.1.long, flat-lt c.requires.1 c.args.x c.requires.2)
 
 pub loop-k-init : goal.loop-k-init
-loop-k-init c = (omega arith, λ rows l f. shore-none _ _ _ _ _)
+loop-k-init c = λ rows l f. shore-none _ _ _ _ _
 
 pub beside-y-requires : goal.beside-y-requires
 beside-y-requires c = flat-beside c.requires.1 c.args.x _ c.requires.2 (omega arith)
@@ -37,7 +37,5 @@ bounds-steps-y c =
 
 pub loop-k-preserved : goal.loop-k-preserved
 loop-k-preserved c =
-    let a = c.args in (
-      omega arith,
-      λ rows l f. shore-more rows a.columns a.level.now a.steps.now a.x c.loop-k.k (c.loop-k.invariant.1 rows l f) (c.beside-y.ensures ∙ flat-is-beside l a.x c.loop-k.k f (omega arith)),
-    )
+    let a = c.args in
+    λ rows l f. shore-more rows a.columns a.level.now a.steps.now a.x c.loop-k.k (c.loop-k.invariant rows l f) (c.beside-y.ensures ∙ flat-is-beside l a.x c.loop-k.k f (omega arith))

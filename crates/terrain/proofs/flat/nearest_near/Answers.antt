@@ -1,12 +1,12 @@
 -- `terrain::flat::nearest_near` meets its contract. Assumes nothing.
-use Rattle.std.proofs.Common.{sym, arith}
+use Rattle.std.proofs.Common.{sym}
 use Rattle.terrain.proofs.Flats.{nearest-none, nearest-more}
 use Rattle.terrain.proofs.flat.nearest_near.Goals as goal
 
 pub loop-k-init : goal.loop-k-init
-loop-k-init c = (omega arith, sym (nearest-none _ _ _ _ _))
+loop-k-init c = sym (nearest-none _ _ _ _ _)
 
 pub loop-k-preserved : goal.loop-k-preserved
 loop-k-preserved c =
     let a = c.args in
-    (omega arith, cc (nearest-more a.rows a.columns a.level.now a.steps.now a.x c.loop-k.k))
+    cc (nearest-more a.rows a.columns a.level.now a.steps.now a.x c.loop-k.k)

@@ -1,10 +1,7 @@
--- What the loops of `terrain::flat::reach_shores` keep, and what falls. Assumes nothing.
-use Rattle.std.proofs.Common.{◌≡◌, ◌-◌, ◌*◌, ◌≤◌, length}
+-- What the loops of `terrain::flat::reach_shores` keep. Assumes nothing.
+use Rattle.std.proofs.Common.{◌≡◌, length}
 use Rattle.terrain.specs.InnerFlats.{Shores}
 use Rattle.terrain.proofs.flat.reach_shores.Given as goal
 
 abbrev pub invariant-loop-x : goal.invariant-loop-x
-invariant-loop-x l = Shores l.rows l.columns l.level l.steps l.queue l.end l.x × (length l.steps ≡ length l.initial.steps) × (length l.queue ≡ length l.initial.queue) × (l.x ≤ l.rows * l.columns)
-
-abbrev pub decreases-loop-x : goal.decreases-loop-x
-decreases-loop-x l = l.rows * l.columns - l.x
+invariant-loop-x l = Shores l.rows l.columns l.level l.steps l.queue l.end l.x × (length l.steps ≡ length l.initial.steps) × (length l.queue ≡ length l.initial.queue)

@@ -2,6 +2,7 @@
 use Rattle.std.proofs.Common.{◌*◌, ◌<◌, not, sym, ap, ◌∙◌, arith}
 use Rattle.laws.proofs.First.{first-is, first-none}
 use Rattle.terrain.specs.Given.{kept_at, first_broken}
+use Rattle.terrain.proofs.InnerGiving.{below_is, below-none}
 use Rattle.terrain.proofs.given.first_broken.Goals as goal
 
 pub returns-then-not-is_kept : goal.returns-then-not-is_kept
@@ -9,10 +10,10 @@ unfolding first_broken
 returns-then-not-is_kept c =
     let here : c.loop-x.x < c.args.rows * c.args.columns = omega (arith, c.requires.1) in
     let a = c.args in
-    sym (first-is (λ x. not (kept_at a.rows a.columns a.level.now a.direction.now x)) (a.rows * a.columns) c.loop-x.x c.loop-x.invariant.1 here (ap not (sym c.is_kept.ensures ∙ c.if-not-is_kept.true)))
+    below_is here (first-is (λ x. not (kept_at a.rows a.columns a.level.now a.direction.now x)) (a.rows * a.columns) c.loop-x.x c.loop-x.invariant here (ap not (sym c.is_kept.ensures ∙ c.if-not-is_kept.true)))
 
 pub returns : goal.returns
 unfolding first_broken
 returns c =
     let a = c.args in
-    omega (arith, c.requires.1, first-none (λ x. not (kept_at a.rows a.columns a.level.now a.direction.now x)) (a.rows * a.columns) (λ j h. c.loop-x.invariant.1 j (omega (arith, c.requires.1))))
+    below-none (first-none (λ x. not (kept_at a.rows a.columns a.level.now a.direction.now x)) (a.rows * a.columns) (λ j h. c.loop-x.invariant j (omega (arith, c.requires.1))))

@@ -8,4 +8,4 @@ pub returns : goal.returns
 unfolding falls_of
 returns c =
     let a = c.args in
-    agrees-tab (fall_at a.rows a.columns a.level.now a.direction.now) 0 c.loop-x.falls (a.rows * a.columns) c.loop-x.invariant.0 (λ j h. c.loop-x.invariant.2 j (omega (arith, c.loop-x.invariant.0)))
+    agrees-tab (fall_at a.rows a.columns a.level.now a.direction.now) 0 c.loop-x.falls (a.rows * a.columns) c.loop-x.invariant.0 (λ j h. c.loop-x.invariant.1 j (omega (arith, c.loop-x.invariant.0)))
