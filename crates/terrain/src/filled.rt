@@ -42,7 +42,7 @@ fn has_lower(columns: usize, level: &[u32], x: usize, v: u32) -> bool
 {
     let mut found = UNREACHED < v;
     for k in 0..8 {
-        found = found | (level[beside(columns, x, k)] < v);
+        found |= level[beside(columns, x, k)] < v;
     }
     found
 }
@@ -124,11 +124,7 @@ fn flood(rows: usize, columns: usize, words: &mut [u32])
 fn faulty(v: u32, elevation: u32, lower: bool) -> u32
     ensures { (low : ℕ) → lower ≡ nat_lt low v → FaultyCell v elevation low result }
 {
-    if (v < elevation) | ((elevation < v) & lower) {
-        1
-    } else {
-        0
-    }
+    u32::from((v < elevation) | ((elevation < v) & lower))
 }
 
 // How many cells are at fault in a run of cells that are inside.
@@ -147,7 +143,7 @@ fn faulty_run(columns: usize, elevation: &[i32], level: &[u32], from: usize, to:
     sum
 }
 
-// How many cells are at fault.
+// How many cells are at fault. No `for`: each turn goes on after a run and the cell at its end.
 fn faulty_cells(rows: usize, columns: usize, elevation: &[i32], level: &[u32]) -> u32
     requires { Ready rows columns elevation.now × (length level.now ≡ rows * columns) }
     ensures { Faulty rows columns elevation.now level.now 0 (rows * columns) result }
@@ -187,9 +183,7 @@ fn sweep(rows: usize, columns: usize, elevation: &[i32], level: &mut [u32]) -> b
 {
     let mut lowered = false;
     for x in 0..level.len() {
-        if lower(rows, columns, elevation, level, x) {
-            lowered = true;
-        }
+        lowered |= lower(rows, columns, elevation, level, x);
     }
     lowered
 }
@@ -211,10 +205,7 @@ fn settle(rows: usize, columns: usize, elevation: &[i32], level: &mut [u32])
     ensures { level.new ≡ filled_levels rows columns elevation.now }
 {
     restart(elevation, level);
-    let mut again = true;
-    while again {
-        again = sweep(rows, columns, elevation, level);
-    }
+    while sweep(rows, columns, elevation, level) {}
 }
 
 // The levels of the filled heights.
