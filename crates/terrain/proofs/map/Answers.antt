@@ -30,6 +30,12 @@ returns-in-Unsound-surveyed c =
     let all = refuses-later a.rows a.columns a.source a.elevation.now (lent c.args.filled.now c.args.direction.now c.args.count.now c.args.falls.now c.args.workspace.now) passing c.survey-surveyed.ensures.0 (ap found c.in-Unsound-surveyed.is) c.survey-surveyed.ensures.1 (c.fill.ensures.after (λ y e. e)) (refused-is a.rows a.columns a.source a.elevation.now (lent c.args.filled.now c.args.direction.now c.args.count.now c.args.falls.now c.args.workspace.now) c.in-Unsound-surveyed.refusal) in
     record { answers = all.0; leaves = all.1.0; drains = all.1.1 }
 
+pub invariant_of-surface : goal.invariant_of-surface
+invariant_of-surface c =
+    let passing : ground_judged c.args.rows c.args.columns c.args.elevation.now (lent c.args.filled.now c.args.direction.now c.args.count.now c.args.falls.now c.args.workspace.now) ≡ passed = sym (sym (ap found c.in_default.is) ∙ c.judge-judgement.ensures) in
+    let ready : Ready c.args.rows c.args.columns c.args.elevation.now = passed-ready c.args.rows c.args.columns c.args.elevation.now (lent c.args.filled.now c.args.direction.now c.args.count.now c.args.falls.now c.args.workspace.now) passing in
+    record { levels = relief-levels ready c.survey-surveyed.ensures.1 }
+
 pub shape-requires : goal.shape-requires
 shape-requires c =
     let passing : ground_judged c.args.rows c.args.columns c.args.elevation.now (lent c.args.filled.now c.args.direction.now c.args.count.now c.args.falls.now c.args.workspace.now) ≡ passed = sym (sym (ap found c.in_default.is) ∙ c.judge-judgement.ensures) in
@@ -40,7 +46,6 @@ shape-requires c =
     let chosen : Chosen c.args.rows c.args.columns c.args.elevation.now (directions_by c.args.source c.args.rows c.args.columns c.args.elevation.now c.args.direction.now) = let a = c.args in
     source-chosen a.rows a.columns a.elevation.now a.direction.now a.source ready room.direction-long (sym sound) in
     let a = c.args in (
-      relief-levels ready levels,
       relief-small ready levels,
       room.filled-long,
       room.direction-long,
