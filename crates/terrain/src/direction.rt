@@ -1,12 +1,11 @@
 // Directions: the steepest lower neighbour of eight (D8, O'Callaghan and Mark 1984); over flats the first neighbour that is
 // one step nearer. RULES 4.
-ghost use Rattle.std.specs.Prelude.{◌≡◌, ℕ, ◌+◌, ◌*◌, ◌<◌, ◌≤◌, true, not, ◌&&◌, length, if◌then◌else◌, ◌==◌, nat_eq, nat_lt, slice_index};
+ghost use Rattle.std.specs.Prelude.{◌≡◌, ◌+◌, ◌*◌, ◌<◌, ◌≤◌, true, not, ◌&&◌, length, if◌then◌else◌, ◌==◌, nat_eq, nat_lt, slice_index};
 ghost use Rattle.laws.specs.Lists.{tab};
 ghost use Rattle.terrain.specs.Cells.{neighbour, code_of};
-ghost use Rattle.terrain.specs.InnerCells.{Sized, Inside, RunsTo};
+ghost use Rattle.terrain.specs.InnerCells.{Inside, RunsTo};
 ghost use Rattle.terrain.specs.Flat.{far_steps, flat_steps};
-ghost use Rattle.terrain.specs.InnerFlats.{StepsKept};
-ghost use Rattle.terrain.specs.Direction.{nearer_bearing, directions_of};
+ghost use Rattle.terrain.specs.Direction.{directions_of};
 ghost use Rattle.terrain.specs.Falls.{no_fall, falls_of};
 ghost use Rattle.terrain.specs.Filled.{top};
 ghost use Rattle.terrain.specs.InnerLevels.{open_at, drop_of, key_of, bearing_key, Chosen, down_at, FallTo, Down};
@@ -18,7 +17,7 @@ use crate::surface::Surface;
 // The code of a NoData cell, and its fall.
 pub(crate) const NO_CODE: u8 = 255;
 
-pub(crate) const NO_FALL: u32 = 4294967295;
+pub(crate) const NO_FALL: u32 = u32::MAX;
 
 // The code of bearing k.
 pub(crate) fn code_of(k: usize) -> u8
@@ -58,13 +57,6 @@ fn key_of(v: u32, w: u32, k: usize) -> u32
     drop_of(v, w) * 256 + (255 - u32::from(code_of(k)))
 }
 
-// The first number or the second, without a branch.
-fn pick(first: bool, a: u32, b: u32) -> u32
-    ensures { result ≡ (if first then a else b) }
-{
-    if first { a } else { b }
-}
-
 // The code of a cell, but for flats, and its fall.
 #[derive(Clone, Copy)]
 struct Fall {
@@ -81,10 +73,10 @@ impl Fall {
         let c = u64::from(cardinal / 256);
         let d = u64::from(diagonal / 256);
         let straight = d * d <= 2 * (c * c);
-        let key = pick(straight, cardinal, diagonal);
+        let key = if straight { cardinal } else { diagonal };
         Fall {
             code: (255 - key % 256) as u8,
-            fall: key / 256 * 2 + pick(straight, 0, 1),
+            fall: key / 256 * 2 + u32::from(!straight),
         }
     }
 
@@ -111,50 +103,50 @@ fn start_steps(code: u8, rim: bool) -> u32
 
 impl Surface<'_> {
     // The level of the neighbour at bearing k of a cell x that is inside, or not; 0 where there is none.
-    fn level_beside(self, x: usize, k: usize, inside: bool) -> u32
-        requires { (x < self.rows * self.columns) × (k < 8) × (inside ≡ true → Inside self.rows self.columns x) }
+    fn level_beside<const INSIDE: bool>(self, x: usize, k: usize) -> u32
+        requires { (x < self.rows * self.columns) × (k < 8) × (INSIDE ≡ true → Inside self.rows self.columns x) }
         ensures { result ≡ slice_index self.entry.level.now (neighbour self.entry.rows self.entry.columns x k) }
     {
         let level = self.level;
-        if inside {
+        if INSIDE {
             return level[beside(self.columns, x, k)];
         }
         value_at(level, near(self.rows, self.columns, x, k))
     }
 
     // Whether a cell x that is inside, or not, has a neighbour with no data or past the edge of the grid.
-    fn is_open(self, x: usize, inside: bool) -> bool
-        requires { (x < self.rows * self.columns) × (inside ≡ true → Inside self.rows self.columns x) }
+    pub(crate) fn is_open<const INSIDE: bool>(self, x: usize) -> bool
+        requires { (x < self.rows * self.columns) × (INSIDE ≡ true → Inside self.rows self.columns x) }
         ensures { result ≡ open_at self.entry.rows self.entry.columns self.entry.level.now x 8 }
     {
         let mut found = false;
         // Not `any`, so that a run of cells has no branch here.
         for k in 0..8 {
-            found |= self.level_beside(x, k, inside) < 1;
+            found |= self.level_beside::<INSIDE>(x, k) < 1;
         }
         found
     }
 
     // The key of bearing k of a cell x that is inside, or not.
-    fn key_at(self, x: usize, k: usize, inside: bool) -> u32
-        requires { (x < self.rows * self.columns) × (k < 8) × (inside ≡ true → Inside self.rows self.columns x) }
+    fn key_at<const INSIDE: bool>(self, x: usize, k: usize) -> u32
+        requires { (x < self.rows * self.columns) × (k < 8) × (INSIDE ≡ true → Inside self.rows self.columns x) }
         ensures { result ≡ bearing_key self.entry.rows self.entry.columns self.entry.level.now x k }
     {
         let level = self.level;
-        key_of(level[x], self.level_beside(x, k, inside), k)
+        key_of(level[x], self.level_beside::<INSIDE>(x, k), k)
     }
 
     // The code, but for flats, and the fall of a cell x that is inside, or not.
-    fn fall_at(self, x: usize, inside: bool) -> Fall
-        requires { (x < self.rows * self.columns) × (inside ≡ true → Inside self.rows self.columns x) }
+    fn fall_at<const INSIDE: bool>(self, x: usize) -> Fall
+        requires { (x < self.rows * self.columns) × (INSIDE ≡ true → Inside self.rows self.columns x) }
         ensures { FallTo self.entry.rows self.entry.columns self.entry.level.now x result }
     {
         let level = self.level;
         let mut cardinal: u32 = 255;
         let mut diagonal: u32 = 255;
         for i in 0..4 {
-            cardinal = cardinal.max(self.key_at(x, 2 * i, inside));
-            diagonal = diagonal.max(self.key_at(x, 2 * i + 1, inside));
+            cardinal = cardinal.max(self.key_at::<INSIDE>(x, 2 * i));
+            diagonal = diagonal.max(self.key_at::<INSIDE>(x, 2 * i + 1));
         }
         Fall::chosen(cardinal, diagonal).at(level[x])
     }
@@ -174,10 +166,10 @@ impl Surface<'_> {
         ensures { Down self.entry.rows self.entry.columns self.entry.level.now direction.new falls.new steps.new to }
     {
         for x in from..to {
-            let fall = self.fall_at(x, true);
+            let fall = self.fall_at::<true>(x);
             direction[x] = fall.code;
             falls[x] = fall.fall;
-            steps[x] = start_steps(fall.code, self.is_open(x, true));
+            steps[x] = start_steps(fall.code, self.is_open::<true>(x));
         }
     }
 
@@ -193,10 +185,10 @@ impl Surface<'_> {
         while x < direction.len() {
             let end = run_end(self.rows, self.columns, x);
             self.point_run(direction, falls, steps, x, end);
-            let fall = self.fall_at(end, false);
+            let fall = self.fall_at::<false>(end);
             direction[end] = fall.code;
             falls[end] = fall.fall;
-            steps[end] = start_steps(fall.code, self.is_open(end, false));
+            steps[end] = start_steps(fall.code, self.is_open::<false>(end));
             x = end + 1;
         }
     }

@@ -3,7 +3,7 @@
 // Every store lowers a cell's steps to one more than those of a neighbour of equal level, and puts the cell into a queue;
 // taken from it, the cell reaches its neighbours. So once the queue is empty no steps can be lowered, in whatever order that
 // went; sweeps go on if the queue was full, which does not happen.
-ghost use Rattle.std.specs.Prelude.{◌≡◌, ℕ, ◌+◌, ◌*◌, ◌<◌, ◌≤◌, true, List, length, pos, if◌then◌else◌, nat_eq, nat_lt, slice_index_or};
+ghost use Rattle.std.specs.Prelude.{◌≡◌, ℕ, ◌+◌, ◌*◌, ◌<◌, ◌≤◌, true, length, if◌then◌else◌, nat_eq, nat_lt};
 ghost use Rattle.laws.specs.Settle.{start_of, Sweeping};
 ghost use Rattle.terrain.specs.Flat.{far_steps, flat_at, nearest_of, flat_stepping, flat_steps};
 ghost use Rattle.terrain.specs.InnerFlats.{Within, StepsKept, Put, Reached, Shores, Wading, Spreading, Waded};
@@ -13,25 +13,13 @@ use crate::cells::{beside, near, value_at};
 use crate::surface::Surface;
 
 // More than any steps.
-pub(crate) const FAR: u32 = 2000000;
+pub(crate) const FAR: u32 = 2_000_000;
 
 // The steps of a cell of level w, as a cell of level v sees them: far unless the levels are equal.
 fn seen(v: u32, w: u32, steps: u32) -> u32
     ensures { result ≡ (if nat_eq w v then steps else far_steps) }
 {
     if w == v { steps } else { FAR }
-}
-
-// The cell at an entry of the queue; what is below 0 is none.
-fn cell_in(queue: &[i32], at: usize) -> usize
-    requires { at < length queue.now }
-    ensures { (x : ℕ) → x < 1048576 → slice_index_or queue.now at (pos 0) ≡ pos x → result ≡ x }
-{
-    let entry = queue[at];
-    if entry < 0 {
-        return queue.len();
-    }
-    entry as usize
 }
 
 // Sets the steps of the cell y to d and adds it to a queue of `end` entries, if there is room. The number of entries.
@@ -164,8 +152,9 @@ impl Surface<'_> {
         let mut at: usize = 0;
         // A `while`, since a turn may move the end.
         while at < end {
-            let x = cell_in(queue, at);
-            end = self.spread(steps, queue, end, x);
+            if let Ok(x) = usize::try_from(queue[at]) {
+                end = self.spread(steps, queue, end, x);
+            }
             at += 1;
         }
         end
@@ -202,10 +191,7 @@ impl Surface<'_> {
         requires { StepsKept self.rows self.columns self.level.now steps.old }
         ensures { steps.new ≡ flat_steps self.entry.rows self.entry.columns self.entry.level.now }
     {
-        let mut again = true;
-        while again {
-            again = self.sweep(steps);
-        }
+        while self.sweep(steps) {}
     }
 
     // The steps over flats of every cell, from those that they start from. The queue is scratch; flat cells do not fill it, since no

@@ -4,7 +4,7 @@ ghost use Rattle.std.specs.Prelude.{◌≡◌, ◌*◌, ◌<◌, length};
 ghost use Rattle.terrain.specs.Cells.{Shifts};
 ghost use Rattle.terrain.specs.Falls.{fall_at, falls_of};
 ghost use Rattle.terrain.specs.Given.{kept_at, first_broken, given_tests};
-ghost use Rattle.terrain.specs.InnerLevels.{Levels, open_at};
+ghost use Rattle.terrain.specs.InnerLevels.{Levels};
 ghost use Rattle.terrain.specs.InnerGiven.{Keeping, cell_below};
 ghost use Rattle.terrain.specs.InnerAnswers.{found};
 ghost use Rattle.laws.specs.Tests.{verdict};
@@ -14,22 +14,9 @@ use crate::direction::{NO_CODE, NO_FALL, code_of};
 use crate::ring::first_on_ring;
 use crate::surface::Surface;
 use crate::trail::receiver;
-use crate::{Judgement, unsound};
+use text::{Fault, Refusal};
 
 impl Surface<'_> {
-    // Whether a neighbour of the cell x has no data or is past the edge of the grid. It is not `is_open` of `direction`, which is to
-    // have no caller but the loops of our own directions, so that the compiler joins it into them.
-    fn is_beside_none(self, x: usize) -> bool
-        requires { x < self.rows * self.columns }
-        ensures { result ≡ open_at self.entry.rows self.entry.columns self.entry.level.now x 8 }
-    {
-        let mut found = false;
-        for k in 0..8 {
-            found |= value_at(self.level, near(self.rows, self.columns, x, k)) < 1;
-        }
-        found
-    }
-
     // Whether the code of the cell x keeps the rules of refusal 17.
     fn is_kept(self, direction: &[u8], x: usize) -> bool
         requires { (length direction.now ≡ self.rows * self.columns) × (x < self.rows * self.columns) }
@@ -42,7 +29,7 @@ impl Surface<'_> {
             return code == NO_CODE;
         }
         if code == 0 {
-            return self.is_beside_none(x);
+            return self.is_open::<false>(x);
         }
         let k = code.trailing_zeros() as usize;
         if 8 <= k {
@@ -104,7 +91,12 @@ impl Surface<'_> {
 }
 
 // Makes the tests of refusals 17 and 18, in that order. The levels are scratch, and as they were.
-pub(crate) fn judge(rows: usize, columns: usize, direction: &[u8], level: &mut [u32]) -> Judgement
+pub(crate) fn judge(
+    rows: usize,
+    columns: usize,
+    direction: &[u8],
+    level: &mut [u32],
+) -> Result<(), Refusal>
     requires { Levels rows columns level.old × (length direction.now ≡ rows * columns) }
     ensures { (found result ≡ verdict (given_tests rows columns level.old direction.now))
         × (level.new ≡ level.old) }
@@ -115,10 +107,16 @@ pub(crate) fn judge(rows: usize, columns: usize, direction: &[u8], level: &mut [
         level,
     };
     if let Some(x) = surface.first_broken(direction) {
-        return unsound(17, x);
+        return Err(Refusal {
+            fault: Fault::Direction,
+            place: x,
+        });
     }
     if let Some(x) = first_on_ring(rows, columns, direction, level) {
-        return unsound(18, x);
+        return Err(Refusal {
+            fault: Fault::Ring,
+            place: x,
+        });
     }
-    Judgement::Sound
+    Ok(())
 }

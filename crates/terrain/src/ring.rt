@@ -15,9 +15,9 @@ use crate::direction::NO_CODE;
 use crate::trail::receiver;
 
 // One inflow that a cell waits for, and what a cell that is taken has in its place.
-const WAIT: u32 = 2097152;
+const WAIT: u32 = 1 << 21;
 
-const SHUT: u32 = 18874368;
+const SHUT: u32 = 9 * WAIT;
 
 // Lets the cell that the cell x points at, if x is valid, wait for it.
 fn await_one(
@@ -51,7 +51,8 @@ fn await_all(rows: usize, columns: usize, shifts: &[usize; 8], direction: &[u8],
     }
 }
 
-// Takes the cell x, which waits for none: the cell that it points at waits for one less. That cell.
+// Takes the cell x, which waits for none: the cell that it points at waits for one less. That cell, or the number of cells where
+// there is none: no Option, since `follow` asks of both at once whether they come after the start.
 fn take(
     rows: usize,
     columns: usize,

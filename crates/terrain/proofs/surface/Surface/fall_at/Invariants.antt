@@ -3,4 +3,4 @@ use Rattle.terrain.proofs.InnerKeys.{KeysTo}
 use Rattle.terrain.proofs.surface.Surface.fall_at.Given as goal
 
 abbrev pub invariant-loop-i : goal.invariant-loop-i
-invariant-loop-i l = KeysTo l.self.rows l.self.columns l.self.level.now l.x l.i l.cardinal l.diagonal
+invariant-loop-i g l = KeysTo l.self.rows l.self.columns l.self.level.now l.x l.i l.cardinal l.diagonal
