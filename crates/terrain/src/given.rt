@@ -43,7 +43,7 @@ impl Surface<'_> {
     }
 
     // The first cell whose code breaks one of them.
-    fn first_broken(self, direction: &[u8]) -> Option<usize>
+    pub(crate) fn first_broken(self, direction: &[u8]) -> Option<usize>
         requires { length direction.now ≡ self.rows * self.columns }
         ensures { result ≡ cell_below (self.entry.rows * self.entry.columns)
             (first_broken self.entry.rows self.entry.columns self.entry.level.now direction.now) }
