@@ -11,7 +11,12 @@ use lib.IntN.{ℤ}
 use lib.Dec.{ltb, leb}
 use borrow.Author.Tests.{eq-eqb, lt-ltb, le-ltb, ltb-false, not-true}
 use Rattle.laws.specs.Tests.{Test, passed, failed, verdict}
-use Rattle.laws.proofs.First.{first-before}
+use Rattle.laws.proofs.First.{first-before, first-is, first-none}
+use Rattle.laws.proofs.Tests.{two as either}
+use Rattle.std.specs.List.{position, position_or_len}
+use Rattle.std.proofs.lemmas.List.Quantifiers.{position-Some}
+use Rattle.std.proofs.lemmas.List.Sums.{fails_before_first}
+use Rattle.std.proofs.Common.{Option, Some, None, ◌⊎◌, inl, inr}
 use Rattle.laws.proofs.Verdicts.{passed-failed, verdict-none, verdict-next, verdict-stops, verdict-passed, verdict-parts, verdict-before, verdict-after, test-yes, test-no, test-passed, Numbered, OfNumber, test-number, verdict-number}
 use Rattle.text.specs.Ranges.{size_accepted, side_accepted, first_bad, all_long, size_test, length_test, side_test, height_test}
 use Rattle.text.proofs.Accepted.{size-passes, size-passed, area-few, rows-fail, columns-fail, AllLong, lengths-pass, lengths-fail, lengths-passed, side-is, side-passed, side-passes, side-fails}
@@ -275,6 +280,25 @@ module _ (rows cols side : ℕ) (settings : Settings) (elevation : List ℤ) (g 
         same m given q = cc
 
 -- ---- the judgement of two farms
+
+-- the first mark above 1, as the code finds it: there, and where there is none
+pub marked-at : (marks : List ℕ) {x : ℕ} → position (ltb 1) marks ≡ Some x → (x ≡ first_mark (length marks) marks) × (x < length marks)
+unfolding first_mark
+marked-at marks {x} e =
+    let h = position-Some (ltb 1) marks x 0 e in
+    (sym (first-is (λ y. ltb 1 (farm_at marks y)) (length marks) x h.2 h.0 h.1), h.0)
+
+pub marked-none : (marks : List ℕ) → position (ltb 1) marks ≡ None → first_mark (length marks) marks ≡ length marks
+unfolding first_mark
+marked-none marks e =
+    first-none (λ y. ltb 1 (farm_at marks y)) (length marks) (λ j h. fails_before_first (ltb 1) marks j 0 (omega (arith, long (either (ltb at (length marks))))))
+  where
+    at : ℕ
+    at = position_or_len (ltb 1) marks
+
+    long : (ltb at (length marks) ≡ true) ⊎ (ltb at (length marks) ≡ false) → length marks ≤ at
+    long (inl t) = absurd (let q : ◌≡◌ {A = Option ℕ} (Some at) None = sym (ap (λ (b : Bool). cond b (Some at) None) t) ∙ e in cc)
+    long (inr t) = ltb-false at (length marks) t
 
 -- a place in refusal 4 is 1, 2 or 3
 pub place-few : (s : Settings) {place : ℕ} → judged_of s ≡ Refused place → place ≤ 3

@@ -20,7 +20,7 @@ mod steepness;
 mod tests;
 mod thresholds;
 
-ghost use Rattle.std.specs.Prelude.{◌≡◌, true, ◌*◌, length, replicate};
+ghost use Rattle.std.specs.Prelude.{◌≡◌, true, ◌*◌};
 ghost use Rattle.terrain.specs.Drainage.{Trails, Totals, Surface};
 ghost use Rattle.factor.specs.Farms.{Farms, one, two, of_farm};
 ghost use Rattle.factor.specs.Answers.{lent, lent_before, lent_after, answer, after, told, accepts};
@@ -40,17 +40,6 @@ use text::Refusal;
 pub enum Answer {
     Accepted { valid: u32, longest: u32 },
     Refused(Refusal),
-}
-
-// Sets every place of the workspace to 0.
-fn clear(workspace: &mut [u32])
-    ensures { workspace.new ≡ replicate (length workspace.old) 0 }
-{
-    let mut x: usize = 0;
-    while x < workspace.len() {
-        workspace[x] = 0;
-        x += 1;
-    }
 }
 
 // Maps a ground that passed the first tests, each cell by the rules of the farm that it names: at the place x * `each` of the marks.
@@ -101,7 +90,7 @@ fn map_sound(
                 lengths,
                 factors,
             );
-            clear(workspace);
+            workspace.fill(0);
             Answer::Accepted {
                 valid: valid,
                 longest: longest,

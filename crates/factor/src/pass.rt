@@ -3,7 +3,7 @@
 //
 // The grid of lengths holds what is gathered until a cell's turn comes: one more than the greatest amount brought, 0 for none. The
 // grid of factors holds the cells' falls until then, and NoData's LS, which is NoData's fall too.
-ghost use Rattle.std.specs.Prelude.{◌≡◌, List, [], ◌∷◌, length, get_or, replicate, ltb, ℕ, ◌*◌, ◌≤◌, ◌<◌, max};
+ghost use Rattle.std.specs.Prelude.{◌≡◌, List, [], ◌∷◌, length, get_or, ltb, ℕ, ◌*◌, ◌≤◌, ◌<◌};
 ghost use Rattle.terrain.specs.InnerCells.{Beside, beside_of};
 ghost use Rattle.terrain.specs.Cells.{Shifts};
 ghost use Rattle.settings.specs.declared.Rules.{Rules};
@@ -36,39 +36,23 @@ pub(crate) struct Terms {
     second: Formula,
 }
 
-// A mark as an index.
-fn wide(mark: u8) -> usize
-    ensures { result ≡ mark }
-{
-    mark as usize
-}
-
 // The farm that the cell x names.
 fn farm_of(marks: &[u8], each: usize, x: usize) -> usize
     requires { (length marks.now ≤ 1048576) × (x * each < length marks.now) }
     ensures { result ≡ farm_by marks.now each x }
 {
     let place = x * each;
-    wide(marks[place])
-}
-
-fn longer(a: u64, b: u64) -> u64
-    ensures { result ≡ max a b }
-{
-    if a < b { b } else { a }
+    usize::from(marks[place])
 }
 
 // The length of a cell of this count, from where it would start and what is gathered there. Counts above `most` are those of channels.
 fn final_length(most: u64, count: u32, start: u64, gathered: u64) -> u64
     ensures { result ≡ final_length (ltb most count) start gathered }
 {
-    if most < count as u64 {
+    if most < u64::from(count) {
         return 0;
     }
-    if gathered < 1 {
-        return start;
-    }
-    gathered - 1
+    gathered.checked_sub(1).unwrap_or(start)
 }
 
 // The neighbour k of a cell x that has it, by the shifts.
@@ -117,11 +101,9 @@ fn formula_in(terms: Terms, farm: usize) -> Formula
     ensures { result ≡ formula_in terms farm }
 {
     if farm == 0 {
-        let first = terms.first;
-        return first;
+        return terms.first;
     }
-    let second = terms.second;
-    second
+    terms.second
 }
 
 // Stores the length and the LS of the cell x of this farm and fall, of steepness q, whose inflows have handed on; gives the length.
@@ -183,7 +165,7 @@ fn hand_on(
         start_length(direction[y]),
         length,
     );
-    lengths[y] = longer(lengths[y], amount + 1);
+    lengths[y] = lengths[y].max(amount + 1);
 }
 
 // The turn of the cell x.
@@ -243,37 +225,26 @@ fn turn(
     );
 }
 
-// Sets every length to 0.
-fn clear(lengths: &mut [u64])
-    ensures { lengths.new ≡ replicate (length lengths.old) 0 }
-{
-    let mut x: usize = 0;
-    while x < lengths.len() {
-        lengths[x] = 0;
-        x += 1;
-    }
-}
-
 // What the cutoffs of two farms leave, squared: the high ones, then the low ones.
 fn lefts_of(first: Rules, second: Rules) -> [u64; 4]
     ensures { result ≡ left_by first.high ∷ left_by second.high ∷ left_by first.low ∷ left_by second.low ∷ [] }
 {
-    let high = left_by(first.high);
-    let high_second = left_by(second.high);
-    let low = left_by(first.low);
-    let low_second = left_by(second.low);
-    [high, high_second, low, low_second]
+    [
+        left_by(first.high),
+        left_by(second.high),
+        left_by(first.low),
+        left_by(second.low),
+    ]
 }
 
 // The greatest count of each of two farms that is no channel's, by the largest flow count of the map.
 fn bounds_of(first: Rules, second: Rules, largest: u32) -> [u64; 2]
     ensures { Bounds first second largest result }
 {
-    let threshold = first.threshold;
-    let threshold_second = second.threshold;
-    let bound = channel_bound(threshold, largest);
-    let bound_second = channel_bound(threshold_second, largest);
-    [bound, bound_second]
+    [
+        channel_bound(first.threshold, largest),
+        channel_bound(second.threshold, largest),
+    ]
 }
 
 // The length and the LS of every cell by the rules of the farm that it names, from the falls in `factors`, along the order of the valid
@@ -303,22 +274,19 @@ pub(crate) fn measure(
         × (factors.new
         ≡ factors_of rows columns side (λ x. of_farm first second (farm_by marks.now each x)) lv direction.now lengths.new) }
 {
-    let formula = first.formula;
-    let formula_second = second.formula;
     let terms = Terms {
-        columns: columns,
-        side: side,
-        first: formula,
-        second: formula_second,
+        columns,
+        side,
+        first: first.formula,
+        second: second.formula,
     };
     let lefts = lefts_of(first, second);
     let bounds = bounds_of(first, second, largest(count));
     let shifts = terrain::shifts_of(columns);
     let lists = thresholds::all();
     let mut guesses: Guesses = [0; 7708];
-    clear(lengths);
-    let mut place: usize = 0;
-    while place < places {
+    lengths.fill(0);
+    for place in 0..places {
         turn(
             terms,
             &lefts,
@@ -334,6 +302,5 @@ pub(crate) fn measure(
             &lists,
             &mut guesses,
         );
-        place += 1;
     }
 }

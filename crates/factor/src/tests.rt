@@ -1,9 +1,8 @@
 // The tests of refusals 1 to 4, and of 19 for two farms, which are judged before the terrain layer is called; it judges 5. RULES 3.2.
-ghost use Rattle.std.specs.Prelude.{◌≡◌, ◌∷◌, length};
+ghost use Rattle.std.specs.Prelude.{◌≡◌, ◌∷◌, length, ltb, position};
 ghost use Rattle.laws.specs.Tests.{failed};
 ghost use Rattle.text.specs.Ranges.{all_long};
 ghost use Rattle.settings.specs.declared.Settings.{Settings};
-ghost use Rattle.factor.specs.Farms.{first_mark};
 ghost use Rattle.factor.specs.Answers.{lent_at, places_of, found, Judges, found_in, JudgesFarms, JudgesRest};
 
 use settings::{Judged, Rules, Settings};
@@ -128,18 +127,11 @@ fn are_long_in(
         )
 }
 
-// The first cell with a mark above 1; the number of marks where there is none.
-fn first_mark(marks: &[u8]) -> usize
-    ensures { result ≡ first_mark (length marks.now) marks.now }
+// The first cell with a mark above 1.
+fn first_mark(marks: &[u8]) -> Option<usize>
+    ensures { result ≡ position (ltb 1) marks.now }
 {
-    let mut x: usize = 0;
-    while x < marks.len() {
-        if 1 < marks[x] {
-            return x;
-        }
-        x += 1;
-    }
-    x
+    marks.iter().position(|mark| 1 < *mark)
 }
 
 // Makes the tests of refusal 4 for farm 1 and of 19, once those before them are passed.
@@ -150,8 +142,7 @@ pub fn judge_rest(first: Rules, second: Settings, marks: &[u8]) -> FarmJudgement
     match judged {
         Judged::Refused(place) => unsound_farms(4, 3 + place),
         Judged::Accepted(rules) => {
-            let x = first_mark(marks);
-            if x < marks.len() {
+            if let Some(x) = first_mark(marks) {
                 return unsound_farms(19, x);
             }
             FarmJudgement::Sound {

@@ -4,6 +4,7 @@ use mathlib.Core.List.{List, [], ◌∷◌, ◌++◌}
 use Prim.Native.Nat.{ℕ, ◌*◌, ◌≤◌}
 use native.Mathlib.Omega.{arith}
 use lib.ListN.{length}
+use Rattle.std.specs.Prelude.{Ok, Err}
 use Rattle.laws.specs.Tests.{Test, passed, failed, verdict}
 use Rattle.laws.proofs.Verdicts.{verdict-passed}
 use Rattle.text.specs.declared.Refusal.{Refusal}
@@ -16,24 +17,23 @@ use Rattle.factor.specs.Farms.{two, Marked, mark_places, farm_tests}
 use Rattle.factor.proofs.Judging.{lent-long, marks-few}
 use Rattle.report.specs.Maps.{Map, map_of, cells_of}
 use Rattle.report.specs.Answers.{early_tests, map_tests, judgement_for, judgement_of}
-use Rattle.report.specs.declared.tests.Judgement.TheVariants.{Sound, Unsound}
 
 module _ (m : Map) where
-  pub judged-unsound : (s : Settings) {f : Refusal} → Unsound f ≡ judgement_of s m → verdict (map_tests m) ≡ failed f.number f.place
+  pub judged-unsound : (s : Settings) {f : Refusal} → Err f ≡ judgement_of s m → verdict (map_tests m) ≡ failed f.number f.place
   unfolding judgement_of
   judged-unsound s {f} e = go (verdict (map_tests m)) e
     where
-      go : (t : Test) → Unsound f ≡ judgement_for (rules_of s) t → t ≡ failed f.number f.place
+      go : (t : Test) → Err f ≡ judgement_for (rules_of s) t → t ≡ failed f.number f.place
       go passed q = absurd (let z : ◌≡◌ {A = ℕ} 0 1 = cc in omega arith)
       go (failed n p) q =
           let r : f ≡ record { number = n; place = p } = cc in
           sym (ap (λ (g : Refusal). failed g.number g.place) r)
 
-  pub judged-sound : (s : Settings) {rules : Rules} → Sound rules ≡ judgement_of s m → (verdict (map_tests m) ≡ passed) × (rules ≡ rules_of s)
+  pub judged-sound : (s : Settings) {rules : Rules} → Ok rules ≡ judgement_of s m → (verdict (map_tests m) ≡ passed) × (rules ≡ rules_of s)
   unfolding judgement_of
   judged-sound s {rules} e = go (verdict (map_tests m)) e
     where
-      go : (t : Test) → Sound rules ≡ judgement_for (rules_of s) t → (t ≡ passed) × (rules ≡ rules_of s)
+      go : (t : Test) → Ok rules ≡ judgement_for (rules_of s) t → (t ≡ passed) × (rules ≡ rules_of s)
       go passed q = (refl, cc)
       go (failed n p) q = absurd (let z : ◌≡◌ {A = ℕ} 0 1 = cc in omega arith)
 

@@ -5,6 +5,7 @@ use mathlib.Core.List.{List, [], ◌∷◌, ◌++◌}
 use Prim.Native.Nat.{ℕ, ◌*◌}
 use lib.Dec.{eqb}
 use lib.ListN.{length}
+use Rattle.std.specs.Prelude.{Ok}
 use borrow.Author.Tests.{eq-eqb, ne_eqb}
 use Rattle.laws.specs.Tests.{Test, failed, verdict}
 use Rattle.laws.proofs.Tests.{and-false-left, and-false-right}
@@ -21,7 +22,6 @@ use Rattle.factor.specs.Answers.{found_in, JudgesRest}
 use Rattle.factor.specs.declared.tests.FarmJudgement.{FarmJudgement}
 use Rattle.report.specs.Maps.{Map, map_of, cells_of}
 use Rattle.report.specs.Answers.{early_tests, map_tests, unsound_with, judgement_for, judgement_of, JudgesFarms}
-use Rattle.report.specs.declared.tests.Judgement.TheVariants.{Sound}
 
 module _ (m : Map) where
   abbrev lengths : List ℕ
@@ -90,11 +90,11 @@ module _ (rows columns : ℕ) (s : Settings) (count factors : List ℕ) where
       pub settings-refused : {place : ℕ} → judged_of s ≡ Refused place → unsound_with 4 place ≡ judgement_of s (map_of rows columns (one s) count factors)
       settings-refused e = refuses (after-long ∙ verdict-stops [] (judged-failed s e))
 
-      pub map-sound : {rules : Rules} → judged_of s ≡ Accepted rules → Sound rules ≡ judgement_of s (map_of rows columns (one s) count factors)
+      pub map-sound : {rules : Rules} → judged_of s ≡ Accepted rules → Ok rules ≡ judgement_of s (map_of rows columns (one s) count factors)
       unfolding judgement_of
       map-sound e =
           let w = judged-passed s e in
-          ap Sound w.1 ∙ sym (ap (judgement_for _) (after-long ∙ verdict-next [] w.0 ∙ verdict-none))
+          ap Ok w.1 ∙ sym (ap (judgement_for _) (after-long ∙ verdict-next [] w.0 ∙ verdict-none))
 
 -- ---- two farms
 

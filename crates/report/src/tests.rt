@@ -11,17 +11,10 @@ use factor::FarmJudgement;
 use settings::{Judged, Rules, Settings};
 use text::Refusal;
 
-// What is found of a map: the rules of its settings, or why it is refused.
-#[derive(Clone, Copy)]
-pub enum Judgement {
-    Sound(Rules),
-    Unsound(Refusal),
-}
-
-fn unsound(number: u32, place: usize) -> Judgement
+fn unsound(number: u32, place: usize) -> Result<Rules, Refusal>
     ensures { result ≡ unsound_with number place }
 {
-    Judgement::Unsound(Refusal { number, place })
+    Err(Refusal { number, place })
 }
 
 // Makes these tests, in that order, and adds nothing.
@@ -31,7 +24,7 @@ pub fn judge(
     settings: Settings,
     count: &[u32],
     factors: &[u32],
-) -> Judgement
+) -> Result<Rules, Refusal>
     ensures { result ≡ judgement_of settings (map_of rows columns (one settings) count.now factors.now) }
 {
     if !text::is_size(rows) {
@@ -48,7 +41,7 @@ pub fn judge(
     }
     let judged = settings::judge(settings);
     match judged {
-        Judged::Accepted(rules) => Judgement::Sound(rules),
+        Judged::Accepted(rules) => Ok(rules),
         Judged::Refused(place) => unsound(4, place),
     }
 }

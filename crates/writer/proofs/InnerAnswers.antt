@@ -1,7 +1,7 @@
 -- Laws of a call's answer and of the room: which test decides, and what comes of it. Assumes nothing.
 use mathlib.Core.Path.{◌≡◌, sym, ap, ◌∙◌, subst}
 use mathlib.Core.Bool.{not}
-use mathlib.Core.List.{List, [], ◌∷◌, ◌++◌}
+use mathlib.Core.List.{List, [], ◌∷◌, ◌++◌, map}
 use Prim.Native.Nat.{ℕ, ◌+◌, ◌*◌, ◌≤◌, ◌<◌}
 use native.Mathlib.Omega.{arith}
 use borrow.Author.Tests.{lt-ltb, le-ltb}
@@ -16,7 +16,7 @@ use Rattle.numerals.proofs.Writing.{wrote_as, wrote_then}
 use Rattle.writer.specs.Words.{height_word}
 use Rattle.writer.specs.Text.{Frame, header_words, lines, text_of}
 use Rattle.writer.specs.Answers.{room_test, frame_tests, Cells, height_cells, number_cells, judged, answer_of, room_of, answer, after}
-use Rattle.writer.specs.InnerCells.{cells_from, bytes_of}
+use Rattle.writer.specs.InnerCells.{cells_from, bytes_of, good_cells}
 use Rattle.writer.specs.declared.Answer.{Answer}
 use Rattle.writer.specs.declared.Answer.TheVariants.{Accepted, Refused}
 use Rattle.writer.proofs.Accepted.{FrameAccepted, corner-short, frame-accepted}
@@ -102,31 +102,69 @@ module _ (f : Frame) (c : Cells) (long : length c.words ≡ c.number) (frame_is 
 
 -- ---- heights, of which the first bad one was looked for
 
-module _ (f : Frame) (hs : List ℤ) (frame_is : verdict (frame_tests f (length hs)) ≡ passed) where
+module _ (f : Frame) (hs : List ℤ) (room : List ℕ) (frame_is : verdict (frame_tests f (length hs)) ≡ passed) where
   heights-many : length hs ≡ f.rows * f.columns
   heights-many = (frame-accepted f (length hs) frame_is).1
 
-  pub heights-fail : first_bad (length hs) hs < length hs → verdict (height_cells f hs).tests ≡ failed 5 (first_bad (length hs) hs)
+  heights-fail : first_bad (length hs) hs < length hs → verdict (height_cells f hs).tests ≡ failed 5 (first_bad (length hs) hs)
   unfolding height_cells
   heights-fail h =
       subst (λ (n : ℕ). verdict (height_test n hs ∷ []) ≡ failed 5 (first_bad (length hs) hs)) heights-many (verdict-stops [] (height-fails (length hs) hs h))
 
-  pub heights-pass : length hs ≤ first_bad (length hs) hs → verdict (height_cells f hs).tests ≡ passed
+  heights-pass : length hs ≤ first_bad (length hs) hs → verdict (height_cells f hs).tests ≡ passed
   unfolding height_cells
   heights-pass h =
       subst (λ (n : ℕ). verdict (height_test n hs ∷ []) ≡ passed) heights-many (verdict-next [] (height-passes (length hs) hs h) ∙ verdict-none)
+
+  pub heights-refuse : first_bad (length hs) hs < length hs
+      → Promised f (height_cells f hs) room (Refused (record { number = 5; place = first_bad (length hs) hs })) room
+  unfolding height_cells
+  heights-refuse h = number-refuses f (height_cells f hs) room frame_is (heights-fail h)
+
+  -- heights that are good are written as any cells
+  pub heights-good : {r : Answer} {then : List ℕ} → length hs ≤ first_bad (length hs) hs → Promised f (good_cells height_word hs) room r then
+      → Promised f (height_cells f hs) room r then
+  unfolding height_cells answer after
+  heights-good h p =
+      let text = text_of f (map height_word hs) in
+      let same = left-to-room f (good_cells height_word hs) room frame_is verdict-none ∙ sym (left-to-room f (height_cells f hs) room frame_is (heights-pass h)) in
+      record { answers = p.answers ∙ ap (answer_of text) same; leaves = p.leaves ∙ ap (room_of text room) same }
 
   pub heights-long : length (height_cells f hs).words ≡ (height_cells f hs).number
   unfolding height_cells
   heights-long = length-map hs height_word
 
--- ---- counts, LS and directions, of which any number is good
+-- ---- cells of which each is good
+
+module _ {A : Type 0} (word : A → List ℕ) (cells : List A) (f : Frame) (frame_is : verdict (frame_tests f (length cells)) ≡ passed) where
+  many : length (map word cells) ≡ length cells
+  many = length-map cells word
+
+  pub good-few : length cells ≤ 1048576
+  good-few = cells-few f (good_cells word cells) many frame_is
+
+  pub good-columns : 1 ≤ f.columns
+  good-columns = columns-some f (good_cells word cells) many frame_is
+
+  pub good-corners : (length f.x ≤ 17) × (length f.y ≤ 17)
+  good-corners = corners-short f (good_cells word cells) many frame_is
+
+  -- the text has n bytes
+  module _ (room : List ℕ) {n : ℕ} (n_is : n ≡ length (lines (header_words f)) + bytes_of (map word cells)) where
+    text_is : length (text_of f (map word cells)) ≡ n
+    text_is = text-length f (good_cells word cells) many frame_is ∙ sym n_is
+
+    pub good-refused : length room < n → Promised f (good_cells word cells) room (Refused (record { number = 13; place = 0 })) room
+    good-refused h = room-refuses f (good_cells word cells) room frame_is verdict-none (omega (arith, text_is))
+
+    pub good-accepted : {mid then : List ℕ} {next end : ℕ} → n ≤ length room → Wrote room 0 (lines (header_words f)) next mid
+        → Wrote mid next (cells_from f.columns 0 (map word cells)) end then → Promised f (good_cells word cells) room (Accepted n) then
+    good-accepted {then = then} h p q =
+        let text = text-is f (good_cells word cells) many frame_is in
+        subst (λ (k : ℕ). Promised f (good_cells word cells) room (Accepted k) then) text_is
+        (all-accept f (good_cells word cells) room frame_is verdict-none text (omega (arith, text_is)) p q)
 
 module _ (word : ℕ → List ℕ) (numbers : List ℕ) where
-  pub numbers-pass : verdict (number_cells word numbers).tests ≡ passed
-  unfolding number_cells
-  numbers-pass = verdict-none
-
   pub numbers-long : length (number_cells word numbers).words ≡ (number_cells word numbers).number
   unfolding number_cells
   numbers-long = length-map numbers word

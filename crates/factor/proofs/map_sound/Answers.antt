@@ -39,7 +39,7 @@ returns-in-Accepted c =
     accepted-promised a.rows a.columns a.side farms a.source a.elevation.now (lent c.args.filled.now c.args.direction.now c.args.count.now c.args.lengths.now c.args.factors.now c.args.workspace.now) h.passes (terrain.lent c.map-drained.new.filled c.map-drained.new.direction c.map-drained.new.count c.map-drained.new.falls c.map-drained.new.workspace) q c.map-drained.ensures.leaves
     h.rules-are
     (c.measure.ensures a.rows lv n c.requires.1)
-    (c.clear.ensures ∙ ap (λ (i : ℕ). replicate i 0) long)
+    (c.fill.ensures.after (λ y e. e) ∙ ap (λ (i : ℕ). replicate i 0) long)
     (subst (Drainage a.rows a.columns a.elevation.now (terrain.lent c.map-drained.new.filled c.map-drained.new.direction c.map-drained.new.count c.map-drained.new.falls c.map-drained.new.workspace).filled (terrain.lent c.map-drained.new.filled c.map-drained.new.direction c.map-drained.new.count c.map-drained.new.falls c.map-drained.new.workspace).direction (terrain.lent c.map-drained.new.filled c.map-drained.new.direction c.map-drained.new.count c.map-drained.new.falls c.map-drained.new.workspace).count)
     (ap terrain.valid_in c.in-Accepted.is)
     (c.map-drained.ensures.drains (ap terrain.accepts c.in-Accepted.is)))

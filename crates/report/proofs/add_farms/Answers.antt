@@ -24,7 +24,7 @@ report_in-requires c =
 
 pub returns-in-Unsound : goal.returns-in-Unsound
 returns-in-Unsound c =
-    c.refused.ensures ∙ sym (add-refused c.args.report (map_of c.args.rows c.args.columns (two c.args.first c.args.second c.args.marks.now) c.args.count.now c.args.factors.now)
+    sym (add-refused c.args.report.now (map_of c.args.rows c.args.columns (two c.args.first c.args.second c.args.marks.now) c.args.count.now c.args.factors.now)
     (sym (sym (ap found_in c.in-Unsound.is) ∙ c.judge_farms-judgement.ensures.verdict-is)))
 
 pub returns-in-Sound : goal.returns-in-Sound
@@ -33,6 +33,6 @@ returns-in-Sound c =
     let a = c.args in
     let r = c.judge_farms-judgement.ensures.rules-are c.in-Sound.first c.in-Sound.second c.in-Sound.is in
     c.join.ensures
-    ∙ ap (after_join a.report) (c.report_in.ensures a.rows a.columns a.first a.second r.0 r.1
+    ∙ ap (after_join a.report.now) (c.report_in.ensures a.rows a.columns a.first a.second r.0 r.1
     (sym (passed-long (map_of c.args.rows c.args.columns (two c.args.first c.args.second c.args.marks.now) c.args.count.now c.args.factors.now) passes).0))
-    ∙ sym (add-joins a.report (map_of c.args.rows c.args.columns (two c.args.first c.args.second c.args.marks.now) c.args.count.now c.args.factors.now) passes)
+    ∙ sym (add-joins a.report.now (map_of c.args.rows c.args.columns (two c.args.first c.args.second c.args.marks.now) c.args.count.now c.args.factors.now) passes)

@@ -16,8 +16,8 @@ turn-requires c =
     let a = c.args in
     let m = c.requires.2 in
     let q = measure-charted m a.first a.second (farm_by a.marks.now a.each) c.requires.3.few c.lefts_of-lefts.ensures bounds-are in
-    let w = c.loop-place.invariant.3 c.requires.0 c.requires.1 (λ x. of_farm a.first a.second (farm_by a.marks.now a.each x)) q
-    (walk_start m (λ x. of_farm a.first a.second (farm_by a.marks.now a.each x)) c.clear.ensures) in (
+    let w = c.loop-place.invariant.2 c.requires.0 c.requires.1 (λ x. of_farm a.first a.second (farm_by a.marks.now a.each x)) q
+    (walk_start m (λ x. of_farm a.first a.second (farm_by a.marks.now a.each x)) (c.fill.ensures.after (λ y e. e))) in (
       walk-turning q w c.loop-place-test.true refl,
       c.all-lists.ensures,
       c.shifts_of-shifts.ensures m.directed.drawn.sized.cols-small,
@@ -28,8 +28,7 @@ pub loop-place-preserved : goal.loop-place-preserved
 loop-place-preserved c = (
   c.lengths-in-loop-place-1.given ∙ c.loop-place.invariant.0,
   c.factors-1.given ∙ c.loop-place.invariant.1,
-  omega (arith, c.loop-place-test.true),
-  λ rows lv rules m w. walk_turn m (c.loop-place.invariant.3 rows lv rules m w) c.loop-place-test.true refl c.turn.ensures,
+  λ rows lv rules m w. walk_turn m (c.loop-place.invariant.2 rows lv rules m w) c.loop-place-test.true refl c.turn.ensures,
 )
 
 pub returns : goal.returns
@@ -43,5 +42,5 @@ returns c =
     walk-all m (λ x. of_farm a.first a.second (farm_by a.marks.now a.each x))
     (subst (Walking rows a.columns a.side (λ x. of_farm a.first a.second (farm_by a.marks.now a.each x)) lv a.direction.now a.count.now
     a.order.now c.loop-place.lengths c.loop-place.factors) e
-    (c.loop-place.invariant.3 rows lv (λ x. of_farm a.first a.second (farm_by a.marks.now a.each x)) q
-    (walk_start m (λ x. of_farm a.first a.second (farm_by a.marks.now a.each x)) c.clear.ensures)))
+    (c.loop-place.invariant.2 rows lv (λ x. of_farm a.first a.second (farm_by a.marks.now a.each x)) q
+    (walk_start m (λ x. of_farm a.first a.second (farm_by a.marks.now a.each x)) (c.fill.ensures.after (λ y e. e)))))

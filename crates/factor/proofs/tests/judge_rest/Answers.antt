@@ -1,7 +1,7 @@
 -- `factor::tests::judge_rest` meets its contract. Assumes nothing.
-use Rattle.factor.proofs.Judging.{place-few, rest-settings, rest-marks, rest-sound}
+use Rattle.factor.proofs.Judging.{place-few, marked-at, marked-none, rest-settings, rest-marks, rest-sound}
 use native.Mathlib.Omega.{arith}
-use mathlib.Core.Path.{sym, ◌∙◌}
+use mathlib.Core.Path.{refl, sym, ◌∙◌}
 use Rattle.factor.proofs.tests.judge_rest.Goals as goal
 
 pub overflow_add-place : goal.overflow_add-place
@@ -9,11 +9,11 @@ overflow_add-place c =
     omega
     (arith, place-few c.args.second (sym c.judge-judged.ensures ∙ c.in-Refused.is))
 
-pub returns-then-x-marks : goal.returns-then-x-marks
-returns-then-x-marks c =
+pub returns-in-Some : goal.returns-in-Some
+returns-in-Some c =
     let a = c.args in
-    rest-marks a.first a.second a.marks.now (sym c.judge-judged.ensures ∙ c.in-Accepted.is)
-    c.first_mark-x.ensures c.if-x-marks.true c.unsound_farms-then-x-marks.ensures
+    let m = marked-at a.marks.now (sym c.first_mark.ensures ∙ c.in-Some.is) in
+    rest-marks a.first a.second a.marks.now (sym c.judge-judged.ensures ∙ c.in-Accepted.is) m.0 m.1 c.unsound_farms-in-Some.ensures
 
 pub returns-in-Refused : goal.returns-in-Refused
 returns-in-Refused c =
@@ -21,7 +21,8 @@ returns-in-Refused c =
     rest-settings a.first a.second a.marks.now c.unsound_farms.ensures (sym c.judge-judged.ensures ∙ c.in-Refused.is)
     (omega arith)
 
-pub returns-else-x-marks : goal.returns-else-x-marks
-returns-else-x-marks c =
+pub returns-in_default : goal.returns-in_default
+returns-in_default c =
     let a = c.args in
-    rest-sound a.first a.second a.marks.now (sym c.judge-judged.ensures ∙ c.in-Accepted.is) c.first_mark-x.ensures c.if-x-marks.false
+    let m = marked-none a.marks.now (sym c.first_mark.ensures ∙ c.in_default.is) in
+    rest-sound a.first a.second a.marks.now (sym c.judge-judged.ensures ∙ c.in-Accepted.is) refl (omega (arith, m))
