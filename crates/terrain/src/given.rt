@@ -1,7 +1,6 @@
 // Directions that somebody else drew: the tests of refusals 17 and 18, which touch nothing but the levels, and the falls along them.
 // RULES 4.7.
 ghost use Rattle.std.specs.Prelude.{◌≡◌, ◌*◌, ◌<◌, length};
-ghost use Rattle.terrain.specs.Cells.{Shifts};
 ghost use Rattle.terrain.specs.Falls.{fall_at, falls_of};
 ghost use Rattle.terrain.specs.Given.{kept_at, first_broken, given_tests};
 ghost use Rattle.terrain.specs.InnerLevels.{Levels};
@@ -11,8 +10,8 @@ ghost use Rattle.laws.specs.Tests.{verdict};
 
 use crate::cells::{near, shifts_of, value_at};
 use crate::direction::{NO_CODE, NO_FALL, code_of, is_open};
+use crate::drawing::Drawing;
 use crate::ring::first_on_ring;
-use crate::trail::receiver;
 use text::{Fault, Refusal};
 
 // Whether the code of the cell x keeps the rules of refusal 17.
@@ -84,22 +83,15 @@ pub(crate) fn judge(
 }
 
 // The fall of the cell x along its direction.
-fn fall_along(
-    rows: usize,
-    columns: usize,
-    shifts: &[usize; 8],
-    level: &[u32],
-    direction: &[u8],
-    x: usize,
-) -> u32
-    requires { Keeping rows columns level.now direction.now × (x < rows * columns) × Shifts columns shifts.now }
-    ensures { result ≡ fall_at rows columns level.now direction.now x }
+fn fall_along(drawing: Drawing, level: &[u32], x: usize) -> u32
+    requires { Keeping drawing.rows drawing.columns level.now drawing.direction.now × (x < drawing.rows * drawing.columns) }
+    ensures { result ≡ fall_at drawing.entry.rows drawing.entry.columns level.now drawing.entry.direction.now x }
 {
-    let code = direction[x];
+    let code = drawing.direction[x];
     if code == NO_CODE {
         return NO_FALL;
     }
-    let y = receiver(rows, columns, shifts, direction, x);
+    let y = drawing.receiver(x);
     if level.len() <= y {
         return 0;
     }
@@ -122,7 +114,13 @@ pub(crate) fn write_falls(
     ensures { falls.new ≡ falls_of rows columns level.now direction.now }
 {
     let shifts = shifts_of(columns);
+    let drawing = Drawing {
+        rows,
+        columns,
+        shifts: &shifts,
+        direction,
+    };
     for x in 0..falls.len() {
-        falls[x] = fall_along(rows, columns, &shifts, level, direction, x);
+        falls[x] = fall_along(drawing, level, x);
     }
 }
