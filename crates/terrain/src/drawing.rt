@@ -19,8 +19,8 @@ pub(crate) struct Drawing<'a> {
 }
 
 impl Drawing<'_> {
-    // The cell that the valid cell x points at; the number of cells where it points nowhere. No Option: callers look at their slice's
-    // end anyway, and this number is past it.
+    // The cell that the valid cell x points at; the number of cells where it points nowhere. No Option: every caller tests it against
+    // the end of its slice, and a `None` would be one more test in each hot loop.
     pub(crate) fn receiver(self, x: usize) -> usize
         requires { mapped_at self.rows self.columns self.direction.now x ≡ true }
         ensures { result ≡ receiver_of self.entry.rows self.entry.columns self.entry.direction.now x }
