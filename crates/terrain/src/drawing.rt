@@ -70,8 +70,7 @@ pub(crate) fn hand_on(numbers: &mut [u32], amount: u32, y: usize)
     requires { y < length numbers.old → slice_index numbers.old y + amount < 4294967296 }
     ensures { numbers.new ≡ slice_set numbers.old y (slice_index numbers.old y + amount) }
 {
-    if numbers.len() <= y {
-        return;
+    if y < numbers.len() {
+        numbers[y] += amount;
     }
-    numbers[y] += amount;
 }

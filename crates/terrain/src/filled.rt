@@ -61,13 +61,7 @@ fn start(ground: Ground, words: &mut [u32])
 }
 
 // Takes the cells of the list of a level, until it is empty: each is done at this level, and reaches its neighbours.
-fn drain(
-    ground: Ground,
-    heads: &mut [u32; 2048],
-    words: &mut [u32],
-    band: usize,
-    list: usize,
-)
+fn drain(ground: Ground, heads: &mut [u32; 2048], words: &mut [u32], band: usize, list: usize)
     requires { (length words.old ≡ ground.rows * ground.columns) × (band < 1024) × (list < 2048)
         × Waiting ground.rows ground.columns words.old (level_in band list) }
     ensures { FloodedTo ground.entry.rows ground.entry.columns words.old words.new (level_in band list) }
