@@ -1,5 +1,6 @@
 -- Only inner functions cite this file: what those of `pass` assume of a map, and what they leave. Assumes nothing.
-use Rattle.std.specs.Prelude.{◌≡◌, cond, List, ℕ, ◌+◌, ◌*◌, ◌≤◌, ◌<◌, max, ltb, eqb, length, get_or, set}
+use Rattle.std.specs.Prelude.{◌≡◌, cond, List, ℕ, ◌+◌, ◌*◌, ◌≤◌, ◌<◌, max, ltb, eqb, length, get_or, set, Option, Some, None}
+use Rattle.std.specs.Borrow.{Bor}
 use Rattle.std.specs.Int.Count.{count_trailing_zeros}
 use Rattle.settings.specs.declared.Formula.{Formula}
 use Rattle.settings.specs.declared.Rules.{Rules}
@@ -15,15 +16,20 @@ use Rattle.factor.specs.Inflow.{start_length}
 use Rattle.factor.specs.Inner.{greatest_fall, steepest, greatest_length, steepness_of, final_length, left_by, brought_by}
 use Rattle.factor.specs.declared.pass.Terms.{Terms}
 
--- the farm that the cell x names, at its place in the marks: `each` is 1 where every cell has a mark of its own, and 0 where one mark stands for all
-abbrev pub farm_by : List ℕ → ℕ → ℕ → ℕ
-farm_by marks each x = get_or marks (x * each) 0
+-- the farm that the cell x names; farm 0 where there are no marks
+abbrev pub farm_by : Option (Bor (List ℕ)) → ℕ → ℕ
+farm_by None x = 0
+farm_by (Some marks) x = get_or marks.now x 0
+
+-- the cell x has a place in the marks, where there are some
+abbrev pub Marking : Option (Bor (List ℕ)) → ℕ → Type 0
+Marking None x = Unit {0}
+Marking (Some marks) x = x < length marks.now
 
 -- each of the n cells has a place in the marks, and names farm 0 or 1
-pub record Naming (n : ℕ) (marks : List ℕ) (each : ℕ) : Type 0 where
-  pub short : length marks ≤ 1048576
-  pub within : (x : ℕ) → x < n → x * each < length marks
-  pub few : (x : ℕ) → farm_by marks each x < 2
+pub record Naming (n : ℕ) (marks : Option (Bor (List ℕ))) : Type 0 where
+  pub within : (x : ℕ) → x < n → Marking marks x
+  pub few : (x : ℕ) → farm_by marks x < 2
 
 -- the terms hold an accepted cell side
 pub record Sided (terms : Terms) : Type 0 where

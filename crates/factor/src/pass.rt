@@ -12,22 +12,23 @@ ghost use Rattle.factor.specs.Inflow.{cutoff_for};
 ghost use Rattle.factor.specs.Length.{lengths_of};
 ghost use Rattle.factor.specs.Grid.{factors_of};
 ghost use Rattle.factor.specs.Inner.{steepest, greatest_length, steepness_of, final_length, left_by, brought_by, Sloping, Listed};
-ghost use Rattle.factor.specs.InnerPass.{farm_by, Naming, formula_in, Ruled, Bounds, Settling, Settled, Receiving, lengths_with, Turning, Turned, Measuring};
+ghost use Rattle.factor.specs.InnerPass.{farm_by, Marking, Naming, formula_in, Ruled, Bounds, Settling, Settled, Receiving, lengths_with, Turning, Turned, Measuring};
 
 use crate::cell::factor_of;
 use crate::channel::{channel_bound, largest};
 use crate::guess::Guesses;
 use crate::inflow::{amount_of, left_by, start_length, step_over};
 use crate::slope::{Slope, steepness_of};
+use crate::tests::FarmRules;
 use crate::thresholds;
 use crate::thresholds::Lists;
-use settings::{Formula, Rules};
+use settings::Formula;
 
 // What lengths and LS are measured by: the columns of the map, its cell side in cm, and the steepness formula of farm 0 and of farm 1.
 //
 // Beside it stand two tables, made once for a map, which each cell reads at its farm: the `lefts`, what the high cutoffs of farm 0 and of
-// farm 1 leave, squared, then their low ones; and the `bounds`, the greatest count of each farm that is no channel's. The cell x names its
-// farm at the place x * each of the `marks`: with `each` 1 every cell has a mark of its own, with 0 one mark stands for all of them.
+// farm 1 leave, squared, then their low ones; and the `bounds`, the greatest count of each farm that is no channel's. Each cell names its
+// farm in the `marks`; without marks all are of farm 0.
 #[derive(Clone, Copy)]
 pub(crate) struct Terms {
     columns: usize,
@@ -37,12 +38,14 @@ pub(crate) struct Terms {
 }
 
 // The farm that the cell x names.
-fn farm_of(marks: &[u8], each: usize, x: usize) -> usize
-    requires { (length marks.now ≤ 1048576) × (x * each < length marks.now) }
-    ensures { result ≡ farm_by marks.now each x }
+fn farm_of(marks: Option<&[u8]>, x: usize) -> usize
+    requires { Marking marks x }
+    ensures { result ≡ farm_by marks.entry x }
 {
-    let place = x * each;
-    usize::from(marks[place])
+    match marks {
+        Some(marks) => usize::from(marks[x]),
+        None => 0,
+    }
 }
 
 // The length of a cell of this count, from where it would start and what is gathered there. Counts above `most` are those of channels.
@@ -173,8 +176,7 @@ fn turn(
     terms: Terms,
     lefts: &[u64; 4],
     bounds: &[u64; 2],
-    marks: &[u8],
-    each: usize,
+    marks: Option<&[u8]>,
     direction: &[u8],
     count: &[u32],
     lengths: &mut [u64],
@@ -184,9 +186,9 @@ fn turn(
     lists: &Lists,
     guesses: &mut Guesses,
 )
-    requires { Turning terms lefts.now (farm_by marks.now each) direction.now count.now lengths.old factors.old x
-        × Listed lists.now × Shifts terms.columns shifts.now × Naming (length direction.now) marks.now each }
-    ensures { Turned terms lefts.now bounds.now (farm_by marks.now each)
+    requires { Turning terms lefts.now (farm_by marks) direction.now count.now lengths.old factors.old x
+        × Listed lists.now × Shifts terms.columns shifts.now × Naming (length direction.now) marks }
+    ensures { Turned terms lefts.now bounds.now (farm_by marks.entry)
         direction.now count.now lengths.old factors.old x
         lengths.new factors.new }
 {
@@ -195,7 +197,7 @@ fn turn(
     let length = settle(
         terms,
         bounds,
-        farm_of(marks, each, x),
+        farm_of(marks, x),
         direction,
         count,
         lengths,
@@ -214,7 +216,7 @@ fn turn(
     hand_on(
         terms,
         lefts,
-        farm_of(marks, each, y),
+        farm_of(marks, y),
         direction,
         lengths,
         factors,
@@ -226,24 +228,24 @@ fn turn(
 }
 
 // What the cutoffs of two farms leave, squared: the high ones, then the low ones.
-fn lefts_of(first: Rules, second: Rules) -> [u64; 4]
-    ensures { result ≡ left_by first.high ∷ left_by second.high ∷ left_by first.low ∷ left_by second.low ∷ [] }
+fn lefts_of(rules: FarmRules) -> [u64; 4]
+    ensures { result ≡ left_by rules.first.high ∷ left_by rules.second.high ∷ left_by rules.first.low ∷ left_by rules.second.low ∷ [] }
 {
     [
-        left_by(first.high),
-        left_by(second.high),
-        left_by(first.low),
-        left_by(second.low),
+        left_by(rules.first.high),
+        left_by(rules.second.high),
+        left_by(rules.first.low),
+        left_by(rules.second.low),
     ]
 }
 
 // The greatest count of each of two farms that is no channel's, by the largest flow count of the map.
-fn bounds_of(first: Rules, second: Rules, largest: u32) -> [u64; 2]
-    ensures { Bounds first second largest result }
+fn bounds_of(rules: FarmRules, largest: u32) -> [u64; 2]
+    ensures { Bounds rules.first rules.second largest result }
 {
     [
-        channel_bound(first.threshold, largest),
-        channel_bound(second.threshold, largest),
+        channel_bound(rules.first.threshold, largest),
+        channel_bound(rules.second.threshold, largest),
     ]
 }
 
@@ -252,10 +254,8 @@ fn bounds_of(first: Rules, second: Rules, largest: u32) -> [u64; 2]
 pub(crate) fn measure(
     columns: usize,
     side: u32,
-    first: Rules,
-    second: Rules,
-    marks: &[u8],
-    each: usize,
+    rules: FarmRules,
+    marks: Option<&[u8]>,
     direction: &[u8],
     count: &[u32],
     order: &[u32],
@@ -264,24 +264,24 @@ pub(crate) fn measure(
     factors: &mut [u32],
 )
     requires { (rows : ℕ) × (lv : List ℕ) × Measuring rows columns side lv direction.now count.now order.now places lengths.old factors.old
-        × Naming (rows * columns) marks.now each }
+        × Naming (rows * columns) marks }
     ensures { (rows : ℕ) (lv : List ℕ) →
         Measuring rows columns side lv direction.now count.now order.now places
         lengths.old factors.old →
-        Naming (rows * columns) marks.now each →
+        Naming (rows * columns) marks.entry →
         (lengths.new
-        ≡ lengths_of rows columns side (λ x. of_farm first second (farm_by marks.now each x)) lv direction.now count.now)
+        ≡ lengths_of rows columns side (λ x. of_farm rules.first rules.second (farm_by marks.entry x)) lv direction.now count.now)
         × (factors.new
-        ≡ factors_of rows columns side (λ x. of_farm first second (farm_by marks.now each x)) lv direction.now lengths.new) }
+        ≡ factors_of rows columns side (λ x. of_farm rules.first rules.second (farm_by marks.entry x)) lv direction.now lengths.new) }
 {
     let terms = Terms {
         columns,
         side,
-        first: first.formula,
-        second: second.formula,
+        first: rules.first.formula,
+        second: rules.second.formula,
     };
-    let lefts = lefts_of(first, second);
-    let bounds = bounds_of(first, second, largest(count));
+    let lefts = lefts_of(rules);
+    let bounds = bounds_of(rules, largest(count));
     let shifts = terrain::shifts_of(columns);
     let lists = thresholds::all();
     let mut guesses: Guesses = [0; 7708];
@@ -292,7 +292,6 @@ pub(crate) fn measure(
             &lefts,
             &bounds,
             marks,
-            each,
             direction,
             count,
             lengths,

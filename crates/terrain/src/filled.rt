@@ -32,7 +32,7 @@ fn has_lower(ground: Ground, level: &[u32], x: usize, v: u32) -> bool
 {
     let mut found = UNREACHED < v;
     for k in 0..8 {
-        found = found | (level[beside(ground.columns, x, k)] < v);
+        found |= level[beside(ground.columns, x, k)] < v;
     }
     found
 }
@@ -113,11 +113,7 @@ fn flood(rows: usize, columns: usize, words: &mut [u32])
 fn faulty(v: u32, elevation: u32, lower: bool) -> u32
     ensures { (low : ℕ) → lower ≡ nat_lt low v → FaultyCell v elevation low result }
 {
-    if (v < elevation) | ((elevation < v) & lower) {
-        1
-    } else {
-        0
-    }
+    u32::from((v < elevation) | ((elevation < v) & lower))
 }
 
 // How many cells are at fault in a run of cells that are inside.
@@ -136,7 +132,7 @@ fn faulty_run(ground: Ground, level: &[u32], from: usize, to: usize) -> u32
     sum
 }
 
-// How many cells are at fault.
+// How many cells are at fault. No `for`: each turn goes on after a run and the cell at its end.
 fn faulty_cells(ground: Ground, level: &[u32]) -> u32
     requires { length level.now ≡ ground.rows * ground.columns }
     ensures { Faulty ground.entry.rows ground.entry.columns ground.entry.elevation.now level.now 0 (ground.entry.rows * ground.entry.columns) result }

@@ -15,26 +15,6 @@ use crate::ring::first_on_ring;
 use crate::surface::Surface;
 use text::{Fault, Refusal};
 
-// The fall of the cell x along its direction.
-fn fall_along(drawing: Drawing, level: &[u32], x: usize) -> u32
-    requires { Keeping drawing.rows drawing.columns level.now drawing.direction.now × (x < drawing.rows * drawing.columns) }
-    ensures { result ≡ fall_at drawing.entry.rows drawing.entry.columns level.now drawing.entry.direction.now x }
-{
-    let code = drawing.direction[x];
-    if code == NO_CODE {
-        return NO_FALL;
-    }
-    let y = drawing.receiver(x);
-    if level.len() <= y {
-        return 0;
-    }
-    let drop = level[x] - level[y];
-    if drop < 1 {
-        return 0;
-    }
-    2 * drop + code.trailing_zeros() % 2
-}
-
 impl Surface<'_> {
     // Whether the code of the cell x keeps the rules of refusal 17.
     fn is_kept(self, direction: &[u8], x: usize) -> bool
@@ -122,4 +102,24 @@ pub(crate) fn judge(
         });
     }
     Ok(())
+}
+
+// The fall of the cell x along its direction.
+fn fall_along(drawing: Drawing, level: &[u32], x: usize) -> u32
+    requires { Keeping drawing.rows drawing.columns level.now drawing.direction.now × (x < drawing.rows * drawing.columns) }
+    ensures { result ≡ fall_at drawing.entry.rows drawing.entry.columns level.now drawing.entry.direction.now x }
+{
+    let code = drawing.direction[x];
+    if code == NO_CODE {
+        return NO_FALL;
+    }
+    let y = drawing.receiver(x);
+    if level.len() <= y {
+        return 0;
+    }
+    let drop = level[x] - level[y];
+    if drop < 1 {
+        return 0;
+    }
+    2 * drop + code.trailing_zeros() % 2
 }

@@ -1,6 +1,6 @@
 // Maps one field and writes its name, rows and columns; its answer: number, place, valid cells and longest trail; ground,
 // filled heights, directions and counts row by row; and what became of the workspace.
-use factor::{Answer, Source};
+use factor::Source;
 use settings::{Channel, Formula, Settings};
 use std::fmt::Display;
 use std::io;
@@ -164,10 +164,8 @@ pub(crate) fn map(
         grids.workspace,
     );
     match answer {
-        Answer::Accepted { valid, longest } => print!(rt; "\nanswer 0 0 {valid} {longest}"),
-        Answer::Refused(refusal) => {
-            print!(rt; "\nanswer {} {} 0 0", refusal.number, refusal.place)
-        }
+        Ok(summary) => print!(rt; "\nanswer 0 0 {} {}", summary.valid, summary.longest),
+        Err(refusal) => { print!(rt; "\nanswer {} {} 0 0", refusal.fault.number(), refusal.place) }
     }
 }
 

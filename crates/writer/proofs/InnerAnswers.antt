@@ -9,7 +9,13 @@ use lib.IntN.{ℤ}
 use lib.ListN.{length, length-append, length-map}
 use Rattle.laws.specs.Tests.{passed, failed, verdict}
 use Rattle.laws.proofs.Verdicts.{test-yes, test-no, verdict-none, verdict-next, verdict-stops, verdict-before, verdict-after}
+use Rattle.std.specs.Prelude.{Result, Ok, Err}
+use Rattle.text.specs.declared.Refusal.{Refusal}
+use Rattle.text.specs.declared.faults.Fault.{Fault}
+use Rattle.text.specs.declared.faults.Fault.TheVariants.{Height, Room}
+use Rattle.text.specs.Faults.{number_of, fault_of}
 use Rattle.text.specs.Ranges.{first_bad, height_test}
+use Rattle.text.proofs.FaultNumbers.{back-fault}
 use Rattle.text.proofs.Accepted.{size_is, area-few, height-passes, height-fails}
 use Rattle.numerals.specs.Writing.{overlay, Wrote}
 use Rattle.numerals.proofs.Writing.{wrote_as, wrote_then}
@@ -17,37 +23,37 @@ use Rattle.writer.specs.Words.{height_word}
 use Rattle.writer.specs.Text.{Frame, header_words, lines, text_of}
 use Rattle.writer.specs.Answers.{room_test, frame_tests, Cells, height_cells, number_cells, judged, answer_of, room_of, answer, after}
 use Rattle.writer.specs.InnerCells.{cells_from, bytes_of, good_cells}
-use Rattle.writer.specs.declared.Answer.{Answer}
-use Rattle.writer.specs.declared.Answer.TheVariants.{Accepted, Refused}
 use Rattle.writer.proofs.Accepted.{FrameAccepted, corner-short, frame-accepted}
 use Rattle.writer.proofs.InnerCells.{cells-length}
 use Rattle.writer.proofs.InnerRows.{text-flat}
 
 -- what a call that is given f and c with this room promises: its answer, and what the room holds then
-pub record Promised (f : Frame) (c : Cells) (room : List ℕ) (r : Answer) (then : List ℕ) : Type 0 where
+pub record Promised (f : Frame) (c : Cells) (room : List ℕ) (r : Result ℕ Refusal) (then : List ℕ) : Type 0 where
   pub answers : r ≡ answer f c room
   pub leaves : then ≡ after f c room
 
 module _ (f : Frame) (c : Cells) (room : List ℕ) where
   -- a call that is refused, and one that is not
-  refused : {n p : ℕ} → judged f c room ≡ failed n p → Promised f c room (Refused (record { number = n; place = p })) room
+  refused : {n p : ℕ} → judged f c room ≡ failed n p → Promised f c room (Err (record { fault = fault_of n; place = p })) room
   unfolding answer answer_of after room_of
   refused e =
       record { answers = sym (ap (answer_of (text_of f c.words)) e); leaves = sym (ap (room_of (text_of f c.words) room) e) }
 
-  accepted : judged f c room ≡ passed → Promised f c room (Accepted (length (text_of f c.words))) (overlay room 0 (text_of f c.words))
+  accepted : judged f c room ≡ passed → Promised f c room (Ok (length (text_of f c.words))) (overlay room 0 (text_of f c.words))
   unfolding answer answer_of after room_of
   accepted e =
       record { answers = sym (ap (answer_of (text_of f c.words)) e); leaves = sym (ap (room_of (text_of f c.words) room) e) }
 
   -- the frame's tests decide
-  pub frame-refuses : {n p : ℕ} → verdict (frame_tests f c.number) ≡ failed n p → Promised f c room (Refused (record { number = n; place = p })) room
+  pub frame-refuses : (r : Refusal) → failed (number_of r.fault) r.place ≡ verdict (frame_tests f c.number) → Promised f c room (Err r) room
   unfolding judged
-  frame-refuses e = refused (verdict-before (frame_tests f c.number ++ c.tests) _ (verdict-before (frame_tests f c.number) c.tests e))
+  frame-refuses r e =
+      subst (λ (x : Fault). Promised f c room (Err (record { fault = x; place = r.place })) room) (back-fault r.fault)
+      (refused (verdict-before (frame_tests f c.number ++ c.tests) _ (verdict-before (frame_tests f c.number) c.tests (sym e))))
 
   module _ (frame_is : verdict (frame_tests f c.number) ≡ passed) where
     -- the tests of the numbers decide
-    pub number-refuses : {n p : ℕ} → verdict c.tests ≡ failed n p → Promised f c room (Refused (record { number = n; place = p })) room
+    pub number-refuses : {n p : ℕ} → verdict c.tests ≡ failed n p → Promised f c room (Err (record { fault = fault_of n; place = p })) room
     unfolding judged
     number-refuses e =
         refused (verdict-before (frame_tests f c.number ++ c.tests) _ (verdict-after (frame_tests f c.number) c.tests frame_is ∙ e))
@@ -58,8 +64,8 @@ module _ (f : Frame) (c : Cells) (room : List ℕ) where
       left-to-room = verdict-after (frame_tests f c.number ++ c.tests) _ (verdict-after (frame_tests f c.number) c.tests frame_is ∙ numbers-are)
 
       -- the room decides
-      pub room-refuses : length room < length (text_of f c.words) → Promised f c room (Refused (record { number = 13; place = 0 })) room
-      unfolding room_test
+      pub room-refuses : length room < length (text_of f c.words) → Promised f c room (Err (record { fault = Room; place = 0 })) room
+      unfolding room_test fault_of
       room-refuses h =
           refused (left-to-room ∙ verdict-stops [] (test-no 13 0 (ap not (lt-ltb (length room) (length (text_of f c.words)) h))))
 
@@ -72,7 +78,7 @@ module _ (f : Frame) (c : Cells) (room : List ℕ) where
       pub all-accept : {mid then : List ℕ} {next end : ℕ}
           → text_of f c.words ≡ lines (header_words f) ++ cells_from f.columns 0 c.words → length (text_of f c.words) ≤ length room
           → Wrote room 0 (lines (header_words f)) next mid → Wrote mid next (cells_from f.columns 0 c.words) end then
-          → Promised f c room (Accepted (length (text_of f c.words))) then
+          → Promised f c room (Ok (length (text_of f c.words))) then
       all-accept e h p q =
           let a = accepted (room-passes h) in
           record { answers = a.answers; leaves = (wrote_as (sym e) (wrote_then p q)).laid ∙ a.leaves }
@@ -117,12 +123,12 @@ module _ (f : Frame) (hs : List ℤ) (room : List ℕ) (frame_is : verdict (fram
       subst (λ (n : ℕ). verdict (height_test n hs ∷ []) ≡ passed) heights-many (verdict-next [] (height-passes (length hs) hs h) ∙ verdict-none)
 
   pub heights-refuse : first_bad (length hs) hs < length hs
-      → Promised f (height_cells f hs) room (Refused (record { number = 5; place = first_bad (length hs) hs })) room
-  unfolding height_cells
+      → Promised f (height_cells f hs) room (Err (record { fault = Height; place = first_bad (length hs) hs })) room
+  unfolding height_cells fault_of
   heights-refuse h = number-refuses f (height_cells f hs) room frame_is (heights-fail h)
 
   -- heights that are good are written as any cells
-  pub heights-good : {r : Answer} {then : List ℕ} → length hs ≤ first_bad (length hs) hs → Promised f (good_cells height_word hs) room r then
+  pub heights-good : {r : Result ℕ Refusal} {then : List ℕ} → length hs ≤ first_bad (length hs) hs → Promised f (good_cells height_word hs) room r then
       → Promised f (height_cells f hs) room r then
   unfolding height_cells answer after
   heights-good h p =
@@ -154,14 +160,14 @@ module _ {A : Type 0} (word : A → List ℕ) (cells : List A) (f : Frame) (fram
     text_is : length (text_of f (map word cells)) ≡ n
     text_is = text-length f (good_cells word cells) many frame_is ∙ sym n_is
 
-    pub good-refused : length room < n → Promised f (good_cells word cells) room (Refused (record { number = 13; place = 0 })) room
+    pub good-refused : length room < n → Promised f (good_cells word cells) room (Err (record { fault = Room; place = 0 })) room
     good-refused h = room-refuses f (good_cells word cells) room frame_is verdict-none (omega (arith, text_is))
 
     pub good-accepted : {mid then : List ℕ} {next end : ℕ} → n ≤ length room → Wrote room 0 (lines (header_words f)) next mid
-        → Wrote mid next (cells_from f.columns 0 (map word cells)) end then → Promised f (good_cells word cells) room (Accepted n) then
+        → Wrote mid next (cells_from f.columns 0 (map word cells)) end then → Promised f (good_cells word cells) room (Ok n) then
     good-accepted {then = then} h p q =
         let text = text-is f (good_cells word cells) many frame_is in
-        subst (λ (k : ℕ). Promised f (good_cells word cells) room (Accepted k) then) text_is
+        subst (λ (k : ℕ). Promised f (good_cells word cells) room (Ok k) then) text_is
         (all-accept f (good_cells word cells) room frame_is verdict-none text (omega (arith, text_is)) p q)
 
 module _ (word : ℕ → List ℕ) (numbers : List ℕ) where

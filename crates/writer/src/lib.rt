@@ -1,6 +1,7 @@
 // The writer: grids as text, in the form of the text that was read. RULES 10.
 //
-// Every grid gets an answer: no call has a `requires`. A call judges everything, the room too, before it writes the first byte.
+// Every grid gets an answer, the text's length or a refusal: no call has a `requires`. A call judges everything, the room too, before it
+// writes the first byte.
 #![tactic(auto)]
 
 mod cells;
@@ -17,44 +18,34 @@ ghost use Rattle.writer.specs.InnerFrame.{frame_of};
 ghost use Rattle.writer.specs.InnerCells.{good_cells};
 
 use header::Frame;
-use judge::Judgement;
-use text::Refusal;
+use text::{Fault, Refusal};
 use words::{Counts, Directions, Factors, Heights, Word};
 
-// The answer of each call: how many bytes the text has, or why there is none.
-#[derive(Clone, Copy)]
-pub enum Answer {
-    Accepted { length: usize },
-    Refused(Refusal),
-}
-
 // Writes a grid whose header is good, and whose cells are.
-fn put_text<W: Word>(frame: Frame, cells: &[W::Cell], room: &mut [u8]) -> Answer
+fn put_text<W: Word>(frame: Frame, cells: &[W::Cell], room: &mut [u8]) -> Result<usize, Refusal>
     requires { verdict (frame_tests (frame_of frame) (length cells.now)) ≡ passed }
     ensures answers { result ≡ answer (frame_of frame.entry) (good_cells W.word cells.now) room.old }
     ensures leaves { room.new ≡ after (frame_of frame.entry) (good_cells W.word cells.now) room.old }
 {
     let length = frame.length() + cells::length::<W>(cells);
     if room.len() < length {
-        return Answer::Refused(Refusal {
-            number: 13,
+        return Err(Refusal {
+            fault: Fault::Room,
             place: 0,
         });
     }
     let next = frame.put(room);
     cells::put::<W>(room, next, frame.columns, cells);
-    Answer::Accepted { length }
+    Ok(length)
 }
 
 // Writes a grid of cells of which any is good.
-fn write<W: Word>(frame: Frame, cells: &[W::Cell], room: &mut [u8]) -> Answer
+fn write<W: Word>(frame: Frame, cells: &[W::Cell], room: &mut [u8]) -> Result<usize, Refusal>
     ensures answers { result ≡ answer (frame_of frame.entry) (good_cells W.word cells.now) room.old }
     ensures leaves { room.new ≡ after (frame_of frame.entry) (good_cells W.word cells.now) room.old }
 {
-    match frame.judge(cells.len()) {
-        Judgement::Unsound(refusal) => Answer::Refused(refusal),
-        Judgement::Sound => put_text::<W>(frame, cells, room),
-    }
+    frame.judge(cells.len())?;
+    put_text::<W>(frame, cells, room)
 }
 
 // Writes heights in cm, ground or filled, into the lent room.
@@ -66,7 +57,7 @@ pub fn write_heights(
     y: &[u8],
     heights: &[i32],
     room: &mut [u8],
-) -> Answer
+) -> Result<usize, Refusal>
     ensures answers { result ≡ answer (frame rows columns side x.now y.now)
         (height_cells (frame rows columns side x.now y.now) heights.now) room.old }
     ensures leaves { room.new ≡ after (frame rows columns side x.now y.now)
@@ -79,19 +70,15 @@ pub fn write_heights(
         x,
         y,
     };
-    match frame.judge(heights.len()) {
-        Judgement::Unsound(refusal) => Answer::Refused(refusal),
-        Judgement::Sound => {
-            let bad = text::first_bad(heights);
-            if bad < heights.len() {
-                return Answer::Refused(Refusal {
-                    number: 5,
-                    place: bad,
-                });
-            }
-            put_text::<Heights>(frame, heights, room)
-        }
+    frame.judge(heights.len())?;
+    let bad = text::first_bad(heights);
+    if bad < heights.len() {
+        return Err(Refusal {
+            fault: Fault::Height,
+            place: bad,
+        });
     }
+    put_text::<Heights>(frame, heights, room)
 }
 
 // Writes flow counts into the lent room.
@@ -103,7 +90,7 @@ pub fn write_counts(
     y: &[u8],
     counts: &[u32],
     room: &mut [u8],
-) -> Answer
+) -> Result<usize, Refusal>
     ensures answers { result ≡ answer (frame rows columns side x.now y.now)
         (count_cells counts.now) room.old }
     ensures leaves { room.new ≡ after (frame rows columns side x.now y.now)
@@ -128,7 +115,7 @@ pub fn write_factors(
     y: &[u8],
     factors: &[u32],
     room: &mut [u8],
-) -> Answer
+) -> Result<usize, Refusal>
     ensures answers { result ≡ answer (frame rows columns side x.now y.now)
         (factor_cells factors.now) room.old }
     ensures leaves { room.new ≡ after (frame rows columns side x.now y.now)
@@ -153,7 +140,7 @@ pub fn write_directions(
     y: &[u8],
     directions: &[u8],
     room: &mut [u8],
-) -> Answer
+) -> Result<usize, Refusal>
     ensures answers { result ≡ answer (frame rows columns side x.now y.now)
         (direction_cells directions.now) room.old }
     ensures leaves { room.new ≡ after (frame rows columns side x.now y.now)

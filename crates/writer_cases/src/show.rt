@@ -3,7 +3,7 @@
 ghost use Rattle.std.specs.Prelude.{◌≤◌};
 
 use std::io;
-use writer::Answer;
+use text::Refusal;
 
 // What every byte of a room is beforehand, a tilde, so that what is not written shows.
 const MARK: u8 = b'~';
@@ -52,8 +52,8 @@ pub(crate) fn answer(rt: &impl Print, given: Given, cells: Cells) -> io::Result<
     let mut bytes = [MARK; 160];
     let room = &mut bytes[..given.bytes];
     match write(given, cells, room) {
-        Answer::Accepted { length } => print!(rt; "answer 0 0 {length}")?,
-        Answer::Refused(refusal) => print!(rt; "answer {} {} 0", refusal.number, refusal.place)?,
+        Ok(length) => print!(rt; "answer 0 0 {length}")?,
+        Err(refusal) => print!(rt; "answer {} {} 0", refusal.fault.number(), refusal.place)?,
     }
     println!(rt; ", room of {}", room.len())?;
     rt.write_all(room)?;
@@ -61,7 +61,7 @@ pub(crate) fn answer(rt: &impl Print, given: Given, cells: Cells) -> io::Result<
 }
 
 // The call for the kind of the cells.
-fn write(given: Given, cells: Cells, room: &mut [u8]) -> Answer {
+fn write(given: Given, cells: Cells, room: &mut [u8]) -> Result<usize, Refusal> {
     let Given {
         bytes: _,
         rows,

@@ -11,17 +11,17 @@ use Rattle.factor.proofs.pass.measure.Goals as goal
 
 pub turn-requires : goal.turn-requires
 turn-requires c =
-    let bounds-are : let a = c.args in Bounds a.first a.second (largest_of (length a.count.now) a.count.now) c.bounds_of-bounds.result = let a = c.args in
-    subst (λ (n : ℕ). Bounds a.first a.second n c.bounds_of-bounds.result) c.largest.ensures c.bounds_of-bounds.ensures in
+    let bounds-are : let a = c.args in Bounds a.rules.first a.rules.second (largest_of (length a.count.now) a.count.now) c.bounds_of-bounds.result = let a = c.args in
+    subst (λ (n : ℕ). Bounds a.rules.first a.rules.second n c.bounds_of-bounds.result) c.largest.ensures c.bounds_of-bounds.ensures in
     let a = c.args in
     let m = c.requires.2 in
-    let q = measure-charted m a.first a.second (farm_by a.marks.now a.each) c.requires.3.few c.lefts_of-lefts.ensures bounds-are in
-    let w = c.loop-place.invariant.2 c.requires.0 c.requires.1 (λ x. of_farm a.first a.second (farm_by a.marks.now a.each x)) q
-    (walk_start m (λ x. of_farm a.first a.second (farm_by a.marks.now a.each x)) (c.fill.ensures.after (λ y e. e))) in (
+    let q = measure-charted m a.rules.first a.rules.second (farm_by a.marks) c.requires.3.few c.lefts_of-lefts.ensures bounds-are in
+    let w = c.loop-place.invariant.2 c.requires.0 c.requires.1 (λ x. of_farm a.rules.first a.rules.second (farm_by a.marks x)) q
+    (walk_start m (λ x. of_farm a.rules.first a.rules.second (farm_by a.marks x)) (c.fill.ensures.after (λ y e. e))) in (
       walk-turning q w c.loop-place-test.true refl,
       c.all-lists.ensures,
       c.shifts_of-shifts.ensures m.directed.drawn.sized.cols-small,
-      subst (λ (n : ℕ). Naming n a.marks.now a.each) (sym m.directed.drawn.long) c.requires.3,
+      subst (λ (n : ℕ). Naming n a.marks) (sym m.directed.drawn.long) c.requires.3,
     )
 
 pub loop-place-preserved : goal.loop-place-preserved
@@ -33,14 +33,14 @@ loop-place-preserved c = (
 
 pub returns : goal.returns
 returns c =
-    let bounds-are : let a = c.args in Bounds a.first a.second (largest_of (length a.count.now) a.count.now) c.bounds_of-bounds.result = let a = c.args in
-    subst (λ (n : ℕ). Bounds a.first a.second n c.bounds_of-bounds.result) c.largest.ensures c.bounds_of-bounds.ensures in
+    let bounds-are : let a = c.args in Bounds a.rules.first a.rules.second (largest_of (length a.count.now) a.count.now) c.bounds_of-bounds.result = let a = c.args in
+    subst (λ (n : ℕ). Bounds a.rules.first a.rules.second n c.bounds_of-bounds.result) c.largest.ensures c.bounds_of-bounds.ensures in
     let a = c.args in
     let e : c.loop-place.place ≡ a.places = omega arith in
     λ rows lv m k.
-    let q = measure-charted m a.first a.second (farm_by a.marks.now a.each) k.few c.lefts_of-lefts.ensures bounds-are in
-    walk-all m (λ x. of_farm a.first a.second (farm_by a.marks.now a.each x))
-    (subst (Walking rows a.columns a.side (λ x. of_farm a.first a.second (farm_by a.marks.now a.each x)) lv a.direction.now a.count.now
+    let q = measure-charted m a.rules.first a.rules.second (farm_by a.marks) k.few c.lefts_of-lefts.ensures bounds-are in
+    walk-all m (λ x. of_farm a.rules.first a.rules.second (farm_by a.marks x))
+    (subst (Walking rows a.columns a.side (λ x. of_farm a.rules.first a.rules.second (farm_by a.marks x)) lv a.direction.now a.count.now
     a.order.now c.loop-place.lengths c.loop-place.factors) e
-    (c.loop-place.invariant.2 rows lv (λ x. of_farm a.first a.second (farm_by a.marks.now a.each x)) q
-    (walk_start m (λ x. of_farm a.first a.second (farm_by a.marks.now a.each x)) (c.fill.ensures.after (λ y e. e)))))
+    (c.loop-place.invariant.2 rows lv (λ x. of_farm a.rules.first a.rules.second (farm_by a.marks x)) q
+    (walk_start m (λ x. of_farm a.rules.first a.rules.second (farm_by a.marks x)) (c.fill.ensures.after (λ y e. e)))))

@@ -10,6 +10,6 @@ use Rattle.factor.proofs.pass.measure.Given as goal
 
 abbrev pub invariant-loop-place : goal.invariant-loop-place
 invariant-loop-place l = (length l.lengths ≡ length l.initial.lengths) × (length l.factors ≡ length l.initial.factors)
-    × ((rows : ℕ) (lv : List ℕ) (rules : ℕ → Rules) → Charted rows lv rules l.terms l.lefts l.bounds (farm_by l.marks l.each) l.direction l.count l.order l.places →
+    × ((rows : ℕ) (lv : List ℕ) (rules : ℕ → Rules) → Charted rows lv rules l.terms l.lefts l.bounds (farm_by l.marks) l.direction l.count l.order l.places →
     Walking rows l.terms.columns l.terms.side rules lv l.direction l.count l.order l.initial.lengths l.initial.factors 0 →
     Walking rows l.terms.columns l.terms.side rules lv l.direction l.count l.order l.lengths l.factors l.place)

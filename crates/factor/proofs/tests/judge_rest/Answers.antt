@@ -1,28 +1,21 @@
 -- `factor::tests::judge_rest` meets its contract. Assumes nothing.
-use Rattle.factor.proofs.Judging.{place-few, marked-at, marked-none, rest-settings, rest-marks, rest-sound}
-use native.Mathlib.Omega.{arith}
-use mathlib.Core.Path.{refl, sym, ◌∙◌}
+use mathlib.Core.Path.{sym}
+use Rattle.std.proofs.lemmas.Result.{err_from_is_err_and}
+use Rattle.factor.proofs.Judging.{rest-settings, rest-marks, rest-sound}
 use Rattle.factor.proofs.tests.judge_rest.Goals as goal
 
-pub overflow_add-place : goal.overflow_add-place
-overflow_add-place c =
-    omega
-    (arith, place-few c.args.second (sym c.judge-judged.ensures ∙ c.in-Refused.is))
+pub returns-in_err-second : goal.returns-in_err-second
+returns-in_err-second c =
+    let a = c.args in
+    let p = err_from_is_err_and c.from_residual.result c.from_residual.ensures.1 in
+    rw (p.1, p.2) (rest-settings a.first a.second a.marks.now c.in_err-second.ensures)
 
 pub returns-in-Some : goal.returns-in-Some
 returns-in-Some c =
     let a = c.args in
-    let m = marked-at a.marks.now (sym c.first_mark.ensures ∙ c.in-Some.is) in
-    rest-marks a.first a.second a.marks.now (sym c.judge-judged.ensures ∙ c.in-Accepted.is) m.0 m.1 c.unsound_farms-in-Some.ensures
+    rest-marks a.first a.second a.marks.now c.in_ok-second.ensures (sym c.in-Some.ensures)
 
-pub returns-in-Refused : goal.returns-in-Refused
-returns-in-Refused c =
+pub returns-in-None : goal.returns-in-None
+returns-in-None c =
     let a = c.args in
-    rest-settings a.first a.second a.marks.now c.unsound_farms.ensures (sym c.judge-judged.ensures ∙ c.in-Refused.is)
-    (omega arith)
-
-pub returns-in_default : goal.returns-in_default
-returns-in_default c =
-    let a = c.args in
-    let m = marked-none a.marks.now (sym c.first_mark.ensures ∙ c.in_default.is) in
-    rest-sound a.first a.second a.marks.now (sym c.judge-judged.ensures ∙ c.in-Accepted.is) refl (omega (arith, m))
+    rest-sound a.first a.second a.marks.now c.in_ok-second.ensures (sym c.in-None.ensures)
