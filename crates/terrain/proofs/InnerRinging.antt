@@ -208,6 +208,9 @@ module _ {rows cols : ℕ} {dir : List ℕ} where
       marked-noted : Noted rows cols s.lv dir shutting marked
       marked-noted = noted-set s.noted x 9 h search-valid (omega (arith, hand_word))
 
+      pub marked-same : SameLevels words (set words x (get_or words x 0 + 18874368))
+      marked-same = same_set words x (get_or words x 0 + 18874368) (omega (arith, s.noted.long, h)) (omega arith)
+
       -- a cell that is not shut then is not taken
       marked-shut : (z : ℕ) → mapped_at rows cols dir z ≡ true → get_or shutting z 0 < 9 → stands_in (set s.order p x) (p + 1) z ≡ 0
       marked-shut z v l =
@@ -241,6 +244,9 @@ module _ {rows cols : ℕ} {dir : List ℕ} where
         -- the cell that it points at waits for it
         pub search-next-waits : 2097152 ≤ get_or (set words x (get_or words x 0 + 18874368)) y 0
         search-next-waits = omega (arith, marked-noted.is y next-valid, next-waits)
+
+        pub next-same : SameLevels words (set (set words x (get_or words x 0 + 18874368)) y (get_or (set words x (get_or words x 0 + 18874368)) y 0 - 2097152))
+        next-same = same_then marked-same (same_set marked y (get_or marked y 0 - 2097152) (omega (arith, l, marked-noted.long)) (omega (arith, search-next-waits)))
 
         -- and then for one less
         pub search-next : {hand : ℕ} → Following (rows * cols) b (set (set words x (get_or words x 0 + 18874368)) y (get_or (set words x (get_or words x 0 + 18874368)) y 0 - 2097152)) y hand → Searching rows cols dir (set (set words x (get_or words x 0 + 18874368)) y (get_or (set words x (get_or words x 0 + 18874368)) y 0 - 2097152)) (p + 1) b hand

@@ -19,8 +19,8 @@ pub(crate) struct Drawing<'a> {
 }
 
 impl Drawing<'_> {
-    // The cell that the valid cell x points at; the number of cells where it points nowhere. No Option: callers look at their slice's
-    // end anyway, and this number is past it.
+    // The cell that the valid cell x points at; the number of cells where it points nowhere. No Option: every caller tests it against
+    // the end of its slice, and a `None` would be one more test in each hot loop.
     pub(crate) fn receiver(self, x: usize) -> usize
         requires { mapped_at self.rows self.columns self.direction.now x ≡ true }
         ensures { result ≡ receiver_of self.entry.rows self.entry.columns self.entry.direction.now x }
@@ -70,8 +70,7 @@ pub(crate) fn hand_on(numbers: &mut [u32], amount: u32, y: usize)
     requires { y < length numbers.old → slice_index numbers.old y + amount < 4294967296 }
     ensures { numbers.new ≡ slice_set numbers.old y (slice_index numbers.old y + amount) }
 {
-    if numbers.len() <= y {
-        return;
+    if y < numbers.len() {
+        numbers[y] += amount;
     }
-    numbers[y] += amount;
 }

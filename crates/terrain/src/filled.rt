@@ -6,7 +6,7 @@
 ghost use Rattle.std.specs.Prelude.{◌≡◌, ℕ, ◌+◌, ◌*◌, ◌<◌, ◌≤◌, map, length, nat_lt, slice_index};
 ghost use Rattle.laws.specs.Settle.{start_of};
 ghost use Rattle.terrain.specs.Cells.{levels_of, height_of};
-ghost use Rattle.terrain.specs.InnerCells.{Sized, Inside, RunsTo};
+ghost use Rattle.terrain.specs.InnerCells.{Inside, RunsTo};
 ghost use Rattle.terrain.specs.Filled.{top, lowest_of, filling, filled_levels};
 ghost use Rattle.terrain.specs.InnerFlood.{FaultyCell, Faulty, FillSweeping, Lowered, done_of, queued_from, Waiting, Flooded, FloodedTo, level_in};
 
@@ -61,17 +61,10 @@ fn start(ground: Ground, words: &mut [u32])
 }
 
 // Takes the cells of the list of a level, until it is empty: each is done at this level, and reaches its neighbours.
-fn drain(
-    rows: usize,
-    columns: usize,
-    heads: &mut [u32; 2048],
-    words: &mut [u32],
-    band: usize,
-    list: usize,
-)
-    requires { Sized rows columns × (length words.old ≡ rows * columns) × (band < 1024) × (list < 2048)
-        × Waiting rows columns words.old (level_in band list) }
-    ensures { FloodedTo rows columns words.old words.new (level_in band list) }
+fn drain(ground: Ground, heads: &mut [u32; 2048], words: &mut [u32], band: usize, list: usize)
+    requires { (length words.old ≡ ground.rows * ground.columns) × (band < 1024) × (list < 2048)
+        × Waiting ground.rows ground.columns words.old (level_in band list) }
+    ensures { FloodedTo ground.entry.rows ground.entry.columns words.old words.new (level_in band list) }
 {
     let level = level_of(band, list);
     'turns: for _ in 0..words.len() {
@@ -79,33 +72,34 @@ fn drain(
             return;
         };
         words[x] = level;
-        spread(columns, heads, words, band, level, x);
+        spread(ground.columns, heads, words, band, level, x);
     }
 }
 
 // Takes the cells of a band, the lowest first.
-fn flood_band(rows: usize, columns: usize, heads: &mut [u32; 2048], words: &mut [u32], band: usize)
-    requires { Sized rows columns × (length words.old ≡ rows * columns) × (band < 1024) × Waiting rows columns words.old (level_in band 1024) }
-    ensures { FloodedTo rows columns words.old words.new (level_in (band + 1) 1024) }
+fn flood_band(ground: Ground, heads: &mut [u32; 2048], words: &mut [u32], band: usize)
+    requires { (length words.old ≡ ground.rows * ground.columns) × (band < 1024)
+        × Waiting ground.rows ground.columns words.old (level_in band 1024) }
+    ensures { FloodedTo ground.entry.rows ground.entry.columns words.old words.new (level_in (band + 1) 1024) }
 {
     if heads[band] < 1 {
         return;
     }
     open_band(heads, words, band);
     for list in 1024..2048 {
-        drain(rows, columns, heads, words, band, list);
+        drain(ground, heads, words, band, list);
     }
 }
 
 // Goes from the rim inwards, the lowest cells first.
-fn flood(rows: usize, columns: usize, words: &mut [u32])
-    requires { Sized rows columns × (length words.old ≡ rows * columns) × ((x : ℕ) → slice_index words.old x < queued_from) }
-    ensures { Flooded rows columns words.old words.new }
+fn flood(ground: Ground, words: &mut [u32])
+    requires { (length words.old ≡ ground.rows * ground.columns) × ((x : ℕ) → slice_index words.old x < queued_from) }
+    ensures { Flooded ground.entry.rows ground.entry.columns words.old words.new }
 {
     let mut heads: [u32; 2048] = [0; 2048];
-    reach_rims(columns, &mut heads, words);
+    reach_rims(ground.columns, &mut heads, words);
     for band in 0..1024 {
-        flood_band(rows, columns, &mut heads, words, band);
+        flood_band(ground, &mut heads, words, band);
     }
 }
 
@@ -202,7 +196,7 @@ pub(crate) fn fill(ground: Ground, level: &mut [u32])
     ensures { level.new ≡ filled_levels ground.entry.rows ground.entry.columns ground.entry.elevation.now }
 {
     start(ground, level);
-    flood(ground.rows, ground.columns, level);
+    flood(ground, level);
     if 0 < faulty_cells(ground, level) {
         settle(ground, level);
     }

@@ -28,6 +28,8 @@ fn await_all(drawing: Drawing, words: &mut [u32])
     }
 }
 
+// `take`, `follow` and `begin` have twins in downhill.rt: one generic form, a trait over both states with its laws, is longer.
+
 // Takes the cell x, which waits for none: the cell that it points at waits for one less. That cell, or the number of cells where
 // there is none: no Option, since `follow` asks of both at once whether they come after the start.
 fn take(drawing: Drawing, words: &mut [u32], place: usize, x: usize) -> usize

@@ -8,14 +8,10 @@ pub loop-k-init : goal.loop-k-init
 loop-k-init c = let a = c.args in lower-none a.ground.rows a.ground.columns a.level.now a.x a.v
 
 pub offset_bounds-level-beside : goal.offset_bounds-level-beside
-offset_bounds-level-beside c =
-    let read : c.beside.result < length c.args.level.now = omega (arith, c.requires.0, inside-lt c.args.ground.rows c.args.ground.columns c.args.x c.loop-k.k c.beside.result c.requires.1 (omega arith) c.beside.ensures) in
-    let h = read in omega arith
+offset_bounds-level-beside c = omega (arith, inside-lt c.args.ground.rows c.args.ground.columns c.args.x c.loop-k.k c.beside.result c.requires.1 (omega arith) c.beside.ensures)
 
 pub bounds-level-beside : goal.bounds-level-beside
-bounds-level-beside c =
-    let read : c.beside.result < length c.args.level.now = omega (arith, c.requires.0, inside-lt c.args.ground.rows c.args.ground.columns c.args.x c.loop-k.k c.beside.result c.requires.1 (omega arith) c.beside.ensures) in
-    let h = read in omega arith
+bounds-level-beside c = omega (arith, inside-lt c.args.ground.rows c.args.ground.columns c.args.x c.loop-k.k c.beside.result c.requires.1 (omega arith) c.beside.ensures)
 
 pub loop-k-preserved : goal.loop-k-preserved
 loop-k-preserved c =
