@@ -1,5 +1,5 @@
 -- Each fault has its own number, and each number of RULES 3.1 its fault. Assumes nothing.
-use mathlib.Core.Path.{◌≡◌, refl}
+use mathlib.Core.Path.{◌≡◌, refl, sym, ap, ◌∙◌}
 use mathlib.Core.Bool.{Bool, true, false, cond}
 use Prim.Native.Nat.{ℕ, ◌≤◌}
 use native.Mathlib.Omega.{arith}
@@ -31,6 +31,11 @@ back-fault Overflow = refl
 back-fault Direction = refl
 back-fault Ring = refl
 back-fault Mark = refl
+
+-- no fault has the number 0
+pub number-some : (f : Fault) → number_of f ≡ 0 → ⊥
+unfolding fault_of
+number-some f e = let mark : Mark ≡ f = sym (ap fault_of e) ∙ back-fault f in omega (arith, ap number_of mark, e)
 
 -- a test for the number k, and the tests that follow it
 row : (n k : ℕ) (f g : Fault) → number_of f ≡ k → ((n ≡ k → ⊥) → number_of g ≡ n) → number_of (cond (eqb n k) f g) ≡ n

@@ -22,21 +22,13 @@ pub(crate) fn case(rt: &impl Print, cells: usize, lines: &[u8]) -> io::Result<()
 fn second_line(lines: &[u8]) -> usize
     ensures { result ≤ length lines.now }
 {
-    let mut i = 0;
-    while i < lines.len() {
-        if lines[i] == b'\n' {
-            return i + 1;
-        }
-        i += 1;
-    }
-    i
+    let end = lines.iter().position(|b| *b == b'\n');
+    end.map_or(lines.len(), |i| i + 1)
 }
 
 fn answers(rt: &impl Print, text: &[u8], heights: &mut [i32]) -> io::Result<()> {
     write(rt, b"header")?;
-    let read = text::read_header(text);
-    let answer = read.answer;
-    write_answer(rt, answer)?;
+    write_answer(rt, text::read_header(text).map(|head| head.header))?;
     write(rt, b"\ngrid")?;
     write_answer(rt, text::read_grid(text, heights))?;
     write(rt, b":")?;
