@@ -1,10 +1,10 @@
 -- The promise of the map call: from the judge's finding, the terrain layer's promise, and the pass along the order. Assumes nothing.
 use mathlib.Core.Path.{◌≡◌, refl, sym, ap, ap₂, subst, ◌∙◌, fun_ext}
-use mathlib.Core.List.{List, [], ◌∷◌}
+use mathlib.Core.List.{List}
 use mathlib.Core.Bool.{Bool, true, false, cond, true≢false}
-use Prim.Native.Nat.{ℕ, ◌*◌, ◌≤◌, ◌<◌}
+use Prim.Native.Nat.{ℕ, ◌*◌}
 use native.Mathlib.Omega.{arith}
-use lib.ListN.{length, replicate, get_or}
+use lib.ListN.{length, replicate}
 use lib.IntN.{ℤ}
 use Rattle.laws.specs.Tests.{Test, passed, failed, verdict}
 use Rattle.text.specs.Faults.{number_of, fault_of}
@@ -24,7 +24,7 @@ use Rattle.terrain.specs.declared.Source.{Source}
 use Rattle.terrain.specs.Answers as terrain
 use Rattle.terrain.specs.declared.Summary.{Summary}
 use Rattle.std.specs.Borrow.{Bor}
-use Rattle.std.proofs.Common.{Option, Some, None, Result, Ok, Err}
+use Rattle.std.proofs.Common.{Some, None, Result, Ok, Err}
 use Rattle.terrain.proofs.Public.{accepted-ready, accepted-directed, filled-small, counts-long}
 use Rattle.factor.specs.Farms.{Farms, one, two, farm_at, Marked, of_farm, rules_in}
 use Rattle.factor.specs.Length.{lengths_of}

@@ -8,7 +8,7 @@ use native.Mathlib.Omega.{arith}
 use native.Mathlib.Decide.{dec_lt}
 use lib.ListN.{length, get_or-eq_default}
 use lib.IntN.{ℤ}
-use lib.Dec.{ltb, leb}
+use lib.Dec.{ltb}
 use borrow.Author.Tests.{eq-eqb, lt-ltb, le-ltb, ltb-false, not-true}
 use Rattle.laws.specs.Tests.{Test, passed, failed, verdict}
 use Rattle.laws.proofs.First.{first-before, first-is, first-none}
@@ -17,7 +17,7 @@ use Rattle.std.specs.List.{position, position_or_len}
 use Rattle.std.proofs.lemmas.List.Quantifiers.{position-Some}
 use Rattle.std.proofs.lemmas.List.Sums.{fails_before_first}
 use Rattle.std.proofs.Common.{Option, Some, None, Result, Ok, Err, ◌⊎◌, inl, inr}
-use Rattle.laws.proofs.Verdicts.{passed-failed, verdict-none, verdict-next, verdict-stops, verdict-passed, verdict-parts, verdict-before, verdict-after, test-yes, test-no, test-passed, Numbered, OfNumber, test-number, verdict-number}
+use Rattle.laws.proofs.Verdicts.{verdict-none, verdict-next, verdict-stops, verdict-passed, verdict-parts, verdict-before, verdict-after, test-yes, test-no, test-passed, Numbered, OfNumber, test-number, verdict-number}
 use Rattle.text.specs.Ranges.{size_accepted, side_accepted, first_bad, all_long, size_test, length_test, side_test, height_test}
 use Rattle.text.proofs.Accepted.{size-passes, size-passed, area-few, rows-fail, columns-fail, AllLong, lengths-pass, lengths-fail, lengths-passed, side-is, side-passed, side-passes, side-fails}
 use Rattle.settings.specs.declared.Settings.{Settings}
@@ -31,7 +31,7 @@ use Rattle.terrain.specs.Given.{first_broken, first_ring, code_test, ring_test}
 use Rattle.terrain.specs.declared.Source.{Source}
 use Rattle.terrain.specs.declared.Source.TheVariants.{Own, Given}
 use Rattle.factor.specs.Farms.{Farms, one, two, farm_at, Marked, mark_places, second_places, first_mark, mark_test, settings_tests, mark_tests, farm_tests}
-use Rattle.factor.specs.Answers.{Grids, places_of, tests, judged, answer_of, answer, refused_grids, found, early_tests, first_tests, Judges, JudgesFarms, JudgesRest, told, accepts}
+use Rattle.factor.specs.Answers.{Grids, places_of, tests, judged, answer_of, answer, refused_grids, early_tests, first_tests, Judges, JudgesFarms, JudgesRest, told, accepts}
 use Rattle.factor.specs.declared.tests.FarmRules.{FarmRules}
 use Rattle.factor.specs.Inner.{places_with, settings_found, shared_tests, JudgesGround}
 use Rattle.text.specs.Faults.{number_of, fault_of}

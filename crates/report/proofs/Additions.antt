@@ -8,6 +8,7 @@ use native.Mathlib.Omega.{arith}
 use Rattle.std.specs.Prelude.{Ok, Err}
 use Rattle.laws.specs.Tests.{Test, passed, failed, verdict}
 use Rattle.laws.proofs.Verdicts.{test-yes, test-no, verdict-next, verdict-stops, verdict-before, verdict-after, verdict-none}
+use Rattle.text.specs.Faults.{fault_of}
 use Rattle.report.specs.Maps.{Map}
 use Rattle.report.specs.Reports.{report_of}
 use Rattle.report.specs.Joins.{joined, fits}
@@ -19,7 +20,7 @@ abbrev pub accepted : Report → Reported
 accepted report = outcome (Ok tt) report
 
 abbrev pub refused : ℕ → ℕ → Report → Reported
-refused number place report = outcome (Err (record { number = number; place = place })) report
+refused number place report = outcome (Err (record { fault = fault_of number; place = place })) report
 
 -- ---- by the verdict
 

@@ -1,10 +1,10 @@
 // Valid cells and channel cells, by the flow counts alone. RULES 12.1.
 ghost use Rattle.std.specs.Prelude.{◌≡◌, ℕ, ◌<◌, ◌≤◌, min, length, get_or, ltb};
-ghost use Rattle.settings.specs.declared.Rules.{Rules};
 ghost use Rattle.factor.specs.Farms.{farm_at, of_farm, Marked};
 ghost use Rattle.factor.specs.Channel.{is_channel, largest_of};
 ghost use Rattle.report.specs.InnerCells.{Bounding, Bound, is_wet, count_to, cells_to};
 
+use factor::FarmRules;
 use settings::Threshold;
 
 // How many cells are valid, and how many are channels.
@@ -60,15 +60,14 @@ fn bound_for(threshold: Threshold, count: &[u32]) -> u32
 }
 
 // The valid cells and the channel cells of a map with these counts, each cell having the channel rule of its farm.
-pub(crate) fn flow_in(first: Threshold, second: Threshold, marks: &[u8], count: &[u32]) -> Flow
+pub(crate) fn flow_in(rules: FarmRules, marks: &[u8], count: &[u32]) -> Flow
     requires { (length count.now ≤ 1048576) × Marked (length count.now) marks.now }
     ensures { (result.valid ≡ count_to is_wet count.now (length count.now))
-        × ((f s : Rules) → f.threshold ≡ first → s.threshold ≡ second →
-        result.channel ≡ cells_to (λ x. is_channel (of_farm f s (farm_at marks.now x)).threshold
+        × (result.channel ≡ cells_to (λ x. is_channel (of_farm rules.first rules.second (farm_at marks.now x)).threshold
         (largest_of (length count.now) count.now) (get_or count.now x 0)) (length count.now)) }
 {
-    let bound = bound_for(first, count);
-    let bound_second = bound_for(second, count);
+    let bound = bound_for(rules.first.threshold, count);
+    let bound_second = bound_for(rules.second.threshold, count);
     let bounds = [bound, bound_second];
     count_above(
         count,

@@ -18,10 +18,9 @@ ghost use Rattle.report.specs.Maps.{map_of};
 ghost use Rattle.report.specs.Reports.{report_of};
 ghost use Rattle.report.specs.Answers.{outcome, after_add, after_join};
 
-use factor::FarmJudgement;
 use settings::Settings;
 pub use tests::{judge, judge_farms};
-use text::Refusal;
+use text::{Fault, Refusal};
 
 // An LS, with the map and the cell that have it, counted from 0.
 #[derive(Clone, Copy)]
@@ -76,7 +75,7 @@ pub fn join(report: &mut Report, other: Report) -> Result<(), Refusal>
 {
     let Some(next) = joins::join(*report, other) else {
         return Err(Refusal {
-            number: 16,
+            fault: Fault::Overflow,
             place: 0,
         });
     };
@@ -112,12 +111,6 @@ pub fn add_farms(
 ) -> Result<(), Refusal>
     ensures { outcome result report.new ≡ after_add report.old (map_of rows columns (two first second marks.now) count.now factors.now) }
 {
-    let judgement = judge_farms(rows, columns, first, second, marks, count, factors);
-    match judgement {
-        FarmJudgement::Unsound(refusal) => Err(refusal),
-        FarmJudgement::Sound { first, second } => join(
-            report,
-            single::report_in(first, second, marks, count, factors),
-        ),
-    }
+    let rules = judge_farms(rows, columns, first, second, marks, count, factors)?;
+    join(report, single::report_in(rules, marks, count, factors))
 }

@@ -11,7 +11,7 @@ use crate::classes::NO_DATA;
 use crate::flow::Flow;
 use crate::tally::Tally;
 use crate::{Report, flow, lead, tally};
-use factor::TOO_LONG;
+use factor::{FarmRules, TOO_LONG};
 use settings::Rules;
 
 // The cells too long: those that have neither an LS nor NoData.
@@ -61,26 +61,14 @@ pub(crate) fn report_of(rules: Rules, count: &[u32], factors: &[u32]) -> Report
     ensures { (rows columns : ℕ) (settings : Settings) → rules ≡ rules_of settings → rows * columns ≡ length count.now →
         result ≡ report_of (map_of rows columns (one settings) count.now factors.now ∷ []) }
 {
-    let threshold = rules.threshold;
-    report_with(flow::flow_of(threshold, count), factors)
+    report_with(flow::flow_of(rules.threshold, count), factors)
 }
 
 // The report of a map of two farms with these rules, marks, counts and LS.
-pub(crate) fn report_in(
-    first: Rules,
-    second: Rules,
-    marks: &[u8],
-    count: &[u32],
-    factors: &[u32],
-) -> Report
+pub(crate) fn report_in(rules: FarmRules, marks: &[u8], count: &[u32], factors: &[u32]) -> Report
     requires { (length count.now ≤ 1048576) × (length factors.now ≡ length count.now) × Marked (length count.now) marks.now }
-    ensures { (rows columns : ℕ) (s t : Settings) → first ≡ rules_of s → second ≡ rules_of t → rows * columns ≡ length count.now →
+    ensures { (rows columns : ℕ) (s t : Settings) → rules.first ≡ rules_of s → rules.second ≡ rules_of t → rows * columns ≡ length count.now →
         result ≡ report_of (map_of rows columns (two s t marks.now) count.now factors.now ∷ []) }
 {
-    let threshold = first.threshold;
-    let threshold_second = second.threshold;
-    report_with(
-        flow::flow_in(threshold, threshold_second, marks, count),
-        factors,
-    )
+    report_with(flow::flow_in(rules, marks, count), factors)
 }

@@ -13,6 +13,7 @@ mod flat;
 mod given;
 mod queue;
 mod ring;
+mod surface;
 mod trail;
 
 ghost use Rattle.std.specs.Prelude.{◌≡◌, ℕ, ◌*◌, ◌<◌, true, map, length, slice_index};
@@ -27,12 +28,12 @@ ghost use Rattle.terrain.specs.Downhill.{Downhill};
 ghost use Rattle.terrain.specs.Drainage.{Drainage};
 ghost use Rattle.terrain.specs.Answers.{lent_at, lent_before, lent_after, places_of, ground_judged, source_tests, judged, directions_by, After, answer, accepts, valid_in};
 ghost use Rattle.terrain.specs.InnerCells.{Ready};
-ghost use Rattle.terrain.specs.InnerLevels.{Levels};
 ghost use Rattle.terrain.specs.InnerGiven.{Keeping};
 ghost use Rattle.terrain.specs.InnerAnswers.{found, directions_for};
 ghost use Rattle.terrain.specs.declared.Source.TheVariants.{Given};
 
 pub use cells::shifts_of;
+use surface::Surface;
 use text::{Fault, Refusal};
 
 // What the call says of a map: the number of valid cells and the steps of the longest trail.
@@ -129,48 +130,46 @@ fn survey(
 
 // Works out directions, if they are not given, and falls; `count` and `filled` are scratch.
 fn direct(
-    rows: usize,
-    columns: usize,
+    surface: Surface,
     source: Source,
-    level: &[u32],
     direction: &mut [u8],
     falls: &mut [u32],
     count: &mut [u32],
     filled: &mut [i32],
 )
-    requires { Levels rows columns level.now × (length direction.old ≡ rows * columns) × (length falls.old ≡ rows * columns)
-        × (length count.old ≡ rows * columns) × (source ≡ Given → Keeping rows columns level.now direction.old) }
-    ensures { (direction.new ≡ directions_for source rows columns level.now direction.old)
-        × (falls.new ≡ falls_of rows columns level.now (directions_for source rows columns level.now direction.old)) }
+    requires { (length direction.old ≡ surface.rows * surface.columns) × (length falls.old ≡ surface.rows * surface.columns)
+        × (length count.old ≡ surface.rows * surface.columns)
+        × (source ≡ Given → Keeping surface.rows surface.columns surface.level.now direction.old) }
+    ensures { (direction.new ≡ directions_for source surface.entry.rows surface.entry.columns surface.entry.level.now direction.old)
+        × (falls.new ≡ falls_of surface.entry.rows surface.entry.columns surface.entry.level.now
+        (directions_for source surface.entry.rows surface.entry.columns surface.entry.level.now direction.old)) }
 {
     match source {
-        Source::Own => direction::point(rows, columns, level, direction, falls, count, filled),
-        Source::Given => given::write_falls(rows, columns, level, direction, falls),
+        Source::Own => surface.point(direction, falls, count, filled),
+        Source::Given => surface.write_falls(direction, falls),
     }
 }
 
 // The same, and the filled heights.
 fn shape(
-    rows: usize,
-    columns: usize,
+    surface: Surface,
     source: Source,
-    level: &[u32],
     filled: &mut [i32],
     direction: &mut [u8],
     count: &mut [u32],
     falls: &mut [u32],
 )
-    requires { Levels rows columns level.now × ((x : ℕ) → slice_index level.now x < top) × (length filled.old ≡ rows * columns)
-        × (length direction.old ≡ rows * columns) × (length count.old ≡ rows * columns) × (length falls.old ≡ rows * columns)
-        × (source ≡ Given → Keeping rows columns level.now direction.old) }
-    ensures { (filled.new ≡ map height_of level.now)
-        × (direction.new ≡ directions_for source rows columns level.now direction.old)
-        × (falls.new ≡ falls_of rows columns level.now (directions_for source rows columns level.now direction.old)) }
+    requires { ((x : ℕ) → slice_index surface.level.now x < top) × (length filled.old ≡ surface.rows * surface.columns)
+        × (length direction.old ≡ surface.rows * surface.columns) × (length count.old ≡ surface.rows * surface.columns)
+        × (length falls.old ≡ surface.rows * surface.columns)
+        × (source ≡ Given → Keeping surface.rows surface.columns surface.level.now direction.old) }
+    ensures { (filled.new ≡ map height_of surface.entry.level.now)
+        × (direction.new ≡ directions_for source surface.entry.rows surface.entry.columns surface.entry.level.now direction.old)
+        × (falls.new ≡ falls_of surface.entry.rows surface.entry.columns surface.entry.level.now
+        (directions_for source surface.entry.rows surface.entry.columns surface.entry.level.now direction.old)) }
 {
-    direct(
-        rows, columns, source, level, direction, falls, count, filled,
-    );
-    filled::write_heights(level, filled);
+    direct(surface, source, direction, falls, count, filled);
+    filled::write_heights(surface.level, filled);
 }
 
 // Works out the order of the cells, the longest trail and the flow counts.
@@ -224,8 +223,11 @@ pub fn map(
         workspace.fill(0);
         return Err(refusal);
     }
-    shape(
-        rows, columns, source, workspace, filled, direction, count, falls,
-    );
+    let surface = Surface {
+        rows,
+        columns,
+        level: workspace,
+    };
+    shape(surface, source, filled, direction, count, falls);
     Ok(route(rows, columns, direction, count, workspace))
 }

@@ -6,7 +6,7 @@ use Rattle.factor.specs.Farms.{one}
 use Rattle.report.specs.Maps.{map_of}
 use Rattle.report.specs.Answers.{after_join}
 use Rattle.report.proofs.InnerAdditions.{judged-unsound, judged-sound, passed-long, passed-few}
-use Rattle.report.proofs.Additions.{add-refused, add-joins}
+use Rattle.report.proofs.Additions.{add-joins}
 use Rattle.report.proofs.add.Goals as goal
 
 pub report_of-requires : goal.report_of-requires
@@ -22,7 +22,7 @@ returns-in_err-rules c =
     let a = c.args in
     let m = map_of a.rows a.columns (one a.settings) a.count.now a.factors.now in
     let p = err_from_is_err_and c.from_residual.result c.from_residual.ensures.1 in
-    rw (p.1, p.2) (sym (add-refused a.report.now m (judged-unsound m a.settings c.in_err-rules.ensures)))
+    rw (p.1, p.2) (judged-unsound m a.settings a.report.now c.in_err-rules.ensures)
 
 pub returns : goal.returns
 returns c =

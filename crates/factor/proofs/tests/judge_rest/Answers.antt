@@ -1,5 +1,5 @@
 -- `factor::tests::judge_rest` meets its contract. Assumes nothing.
-use mathlib.Core.Path.{sym, ◌∙◌}
+use mathlib.Core.Path.{sym}
 use Rattle.std.proofs.lemmas.Result.{err_from_is_err_and}
 use Rattle.factor.proofs.Judging.{rest-settings, rest-marks, rest-sound}
 use Rattle.factor.proofs.tests.judge_rest.Goals as goal

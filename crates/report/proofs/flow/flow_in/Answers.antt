@@ -1,11 +1,9 @@
 -- `report::flow::flow_in` meets its contract. Assumes nothing.
-use mathlib.Core.Path.{sym, subst, ◌∙◌}
+use mathlib.Core.Path.{◌∙◌}
 use mathlib.Core.List.{[], ◌∷◌}
 use native.Mathlib.Omega.{arith}
 use lib.ListN.{get_or}
-use Rattle.settings.specs.declared.Threshold.{Threshold}
 use Rattle.factor.specs.Farms.{farm_at}
-use Rattle.report.specs.InnerCells.{Bound}
 use Rattle.report.proofs.InnerFlow.{channels-shared}
 use Rattle.report.proofs.flow.flow_in.Goals as goal
 
@@ -19,7 +17,6 @@ returns c =
     let p = c.bound_for-bound.result in
     let q = c.bound_for-bound_second.result in (
       c.count_above.ensures.valid,
-      λ f s e d. c.count_above.ensures.channel (λ x. get_or (p ∷ q ∷ []) (farm_at a.marks.now x) 0) (λ x r h t. t)
-          ∙ channels-shared f s a.marks.now l p q c.requires.1 (subst (λ (t : Threshold). Bound t l p) (sym e) c.bound_for-bound.ensures)
-          (subst (λ (t : Threshold). Bound t l q) (sym d) c.bound_for-bound_second.ensures),
+      c.count_above.ensures.channel (λ x. get_or (p ∷ q ∷ []) (farm_at a.marks.now x) 0) (λ x r h t. t)
+          ∙ channels-shared a.rules.first a.rules.second a.marks.now l p q c.requires.1 c.bound_for-bound.ensures c.bound_for-bound_second.ensures,
     )
