@@ -1,7 +1,7 @@
 -- Counts of channels, as the code bounds them. Assumes nothing.
 use mathlib.Core.Path.{◌≡◌, sym, ap, ◌∙◌}
 use mathlib.Core.List.{List}
-use Prim.Native.Nat.{ℕ, ◌*◌, ◌/◌, ◌≤◌, ◌<◌}
+use Prim.Native.Nat.{ℕ, zero, suc, ◌*◌, ◌/◌, ◌≤◌, ◌<◌}
 use native.Mathlib.Omega.{arith}
 use native.Mathlib.Decide.{dec_lt}
 use lib.ListN.{length, get_or}
@@ -9,6 +9,9 @@ use lib.Dec.{ltb}
 use borrow.Author.Tests.{lt-ltb, le-ltb}
 use Rattle.laws.proofs.Sums.{greatest-ge}
 use Rattle.settings.specs.declared.Rules.{Rules}
+use Rattle.factor.specs.Farms.{of_farm}
+use Rattle.factor.specs.InnerPass.{farm_in, Farmed}
+use Rattle.factor.specs.declared.pass.Terms.{Terms}
 use Rattle.factor.specs.Channel.{is_channel, largest_of, channel_at}
 
 -- a share of the largest count, as a whole number of cells
@@ -31,3 +34,10 @@ pub bounded : (rows cols : ℕ) (rules : Rules) (most : ℕ) (count : List ℕ) 
 unfolding channel_at
 bounded rows cols rules most count e m x h =
     m (get_or count x 0) (largest-ge count x (omega arith)) ∙ ap (λ (n : ℕ). is_channel rules.threshold (largest_of n count) (get_or count x 0)) e
+
+-- the bounds of two farms
+pub bounds-both : (first second : Rules) (largest : ℕ) (terms : Terms) → Farmed first largest terms.first → Farmed second largest terms.second →
+    (farm c : ℕ) → farm < 2 → c ≤ largest → ltb (farm_in terms farm).most c ≡ is_channel (of_farm first second farm).threshold largest c
+bounds-both first second largest terms p q zero c h l = p.tells c l
+bounds-both first second largest terms p q (suc zero) c h l = q.tells c l
+bounds-both first second largest terms p q (suc (suc n)) c h l = absurd (omega arith)

@@ -343,8 +343,8 @@ module _ (first : Rules) (second : Settings) (marks : List ℕ) where
   rest-refuses fault place f =
       record { verdict-is = sym f; rules-are = (λ rules q. absurd (let z : ◌≡◌ {A = Result FarmRules Refusal} (Err (record { fault = fault; place = place })) (Ok rules) = q in cc)) }
 
-  pub rest-settings : {f : Refusal} → Err f ≡ settings_found 3 (judged_of second) → JudgesRest first second marks (Err f)
-  rest-settings {f} q = go (judged_of second) refl q
+  pub rest-found : {f : Refusal} → Err f ≡ settings_found 3 (judged_of second) → JudgesRest first second marks (Err f)
+  rest-found {f} q = go (judged_of second) refl q
     where
       go : (j : Result Rules Bad) → judged_of second ≡ j → Err f ≡ settings_found 3 j → JudgesRest first second marks (Err f)
       go (Ok rules) e q = absurd (let z : ◌≡◌ {A = Result Rules Refusal} (Err f) (Ok rules) = q in cc)
@@ -363,15 +363,15 @@ module _ (first : Rules) (second : Settings) (marks : List ℕ) where
     rest-left : rest ≡ verdict (mark_test (length marks) marks ∷ [])
     rest-left = verdict-next _ (ap second_places (judged-passed second accepted).0)
 
-    pub rest-marks : {x : ℕ} → position (ltb 1) marks ≡ Some x → JudgesRest first second marks (Err (record { fault = Mark; place = x }))
+    pub rest-marked : {x : ℕ} → position (ltb 1) marks ≡ Some x → JudgesRest first second marks (Err (record { fault = Mark; place = x }))
     unfolding mark_test
-    rest-marks {x} p =
+    rest-marked {x} p =
         let m = marked-at marks p in
         rest-refuses Mark x (rest-left ∙ verdict-stops [] (rw (sym m.0) (test-no 19 x (ap not (lt-ltb x (length marks) m.1)))))
 
-    pub rest-sound : position (ltb 1) marks ≡ None → JudgesRest first second marks (Ok (record { first = first; second = rules }))
+    pub rest-passed : position (ltb 1) marks ≡ None → JudgesRest first second marks (Ok (record { first = first; second = rules }))
     unfolding mark_test
-    rest-sound p =
+    rest-passed p =
         let h = marked-none marks p in
         let passes = test-yes 19 (first_mark (length marks) marks) (ap not (le-ltb (first_mark (length marks) marks) (length marks) (omega (arith, h)))) in
         record { verdict-is = sym (rest-left ∙ verdict-next [] passes ∙ verdict-none); rules-are = same (judged-passed second accepted).1 }
