@@ -43,7 +43,7 @@ unfolding rules_in
 one-rules settings e = fun_ext (λ x. e)
 
 pub one-naming : (n : ℕ) → Naming n None
-one-naming n = record { within = (λ x h. tt); few = (λ x. omega arith) }
+one-naming n x h = tt
 
 -- each cell has a mark of its own
 pub two-rules : (first second : Settings) (marks : Bor (List ℕ)) {f s : Rules} → (f ≡ rules_of first) × (s ≡ rules_of second) →
@@ -51,8 +51,8 @@ pub two-rules : (first second : Settings) (marks : Bor (List ℕ)) {f s : Rules}
 unfolding rules_in
 two-rules first second marks e = fun_ext (λ x. ap₂ (λ (f s : Rules). of_farm f s (farm_at marks.now x)) e.0 e.1)
 
-pub two-naming : {n : ℕ} {marks : Bor (List ℕ)} → Marked n marks.now → Naming n (Some marks)
-two-naming m = record { within = (λ x l. omega (arith, m.long)); few = m.few }
+pub two-naming : {n : ℕ} (marks : Bor (List ℕ)) → Marked n marks.now → Naming n (Some marks)
+two-naming marks m x l = omega (arith, m.long)
 
 -- grids that are the same one by one
 lent_same : {f f' : List ℤ} {d d' c c' l l' x x' w w' : List ℕ} → f ≡ f' → d ≡ d' → c ≡ c' → l ≡ l' → x ≡ x' → w ≡ w' →

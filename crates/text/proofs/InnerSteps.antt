@@ -4,24 +4,23 @@ use mathlib.Core.Bool.{Bool, true, false, cond, ◌&&◌}
 use mathlib.Core.List.{List}
 use Prim.Native.Nat.{ℕ, ◌+◌, ◌≤◌, ◌<◌}
 use native.Mathlib.Omega.{arith}
-use borrow.Author.Tests.{le-leb, lt-leb, leb-true, eq-eqb, ne_eqb, eqb-true}
+use borrow.Author.Tests.{leb-true, le-leb, lt-leb, eq-eqb, ne_eqb, eqb-true}
 use lib.ListN.{length}
 use lib.Dec.{eqb, leb}
 use Rattle.laws.proofs.Tests.{and_both}
 use Rattle.std.proofs.Common.{Some, Result, Ok, Err, IfOk}
 use Rattle.text.specs.Reader.{got, refused}
 use Rattle.text.specs.Words.{word_start, word_end, word}
-use Rattle.text.specs.Numbers.{malformed, number_at, count_form_at, comma_decimal, read, number, measure, count, centimetres}
+use Rattle.text.specs.Numbers.{malformed, number_at, count_form_at, comma_decimal, read, Placed, Number, number, measure, count, centimetres}
 use Rattle.text.specs.Ranges.{size_accepted}
 use Rattle.text.specs.Faults.{number_of}
 use Rattle.text.specs.declared.Refusal.{Refusal}
-use Rattle.text.specs.declared.words.Read.{Read}
-use Rattle.text.specs.declared.numbers.Number as D
 use Rattle.text.specs.declared.numbers.Formed.{Formed}
 use Rattle.text.specs.declared.numbers.Malformed.{Malformed}
-use Rattle.text.specs.InnerWords.{word_of, step_of}
+use Rattle.text.specs.InnerWords.{word_of}
 use Rattle.text.specs.InnerNumbers.{form_of, Parsed, DigitsFrom, placed_of}
 use Rattle.text.proofs.Ends.{first-solid, word-found, word_none, end-byte, end-digits, end-lower, end-upper}
+use Rattle.text.proofs.InnerTested.{size_none, size-some}
 use Rattle.text.proofs.InnerCommas.{count-no-comma, comma-place}
 
 pub word-step : (s : List ℕ) (at a e : ℕ) → a ≡ word_start s at → e ≡ word_end s a → a < length s
@@ -72,19 +71,19 @@ module _ (s : List ℕ) (at a : ℕ) (p : a ≡ word_start s at) where
 
 -- ---- the same in whole cm
 
-module _ (s : List ℕ) (at : ℕ) (r : Result (Read D.Number) Refusal) (m : step_of placed_of r ≡ number s at) where
-  pub measure-none : (f : Refusal) → r ≡ Err f → refused (number_of f.fault) f.place ≡ measure s at
+module _ (s : List ℕ) (at : ℕ) where
+  pub measure-none : (m p : ℕ) → number s at ≡ refused m p → refused m p ≡ measure s at
   unfolding measure
-  measure-none f e = rw (sym m ∙ ap (step_of placed_of) e)
+  measure-none m p e = rw e
 
-  module _ (x : Read D.Number) (e : r ≡ Ok x) where
-    pub measure-fine : x.value.fine ≡ true → refused 8 x.value.start ≡ measure s at
+  module _ (x : Placed Number) (j : ℕ) (e : number s at ≡ got x j) where
+    pub measure-fine : x.is.fine ≡ true → refused 8 x.place ≡ measure s at
     unfolding measure
-    measure-fine t = rw (sym m ∙ ap (step_of placed_of) e, t)
+    measure-fine t = rw (e, t)
 
-    pub measure-on : x.value.fine ≡ false → got (record { place = x.value.start; is = centimetres x.value.minus x.value.size }) x.rest.at ≡ measure s at
+    pub measure-on : x.is.fine ≡ false → got (record { place = x.place; is = centimetres x.is.minus x.is.size }) j ≡ measure s at
     unfolding measure
-    measure-on t = rw (sym m ∙ ap (step_of placed_of) e, t)
+    measure-on t = rw (e, t)
 
 -- ---- the next word as a count
 
@@ -115,16 +114,17 @@ module _ (s : List ℕ) (at a : ℕ) (p : a ≡ word_start s at) where
         count-size l = rw (word-found s at a p h, ← w.ends, ne_eqb d a some, e-is, t, ← w.is, l)
 
         pub count_low : v < 1 → refused 1 a ≡ count s at
-        unfolding size_accepted
-        count_low l = count-size (rw (lt-leb 1 v l))
+        count_low l = count-size (sym (size_none v l))
 
         pub count-high : 1 ≤ v → 1024 < v → refused 1 a ≡ count s at
-        unfolding size_accepted
-        count-high k l = count-size (rw (le-leb 1 v k, lt-leb v 1024 l))
+        count-high k l = count-size (sym (size-some v k) ∙ lt-leb v 1024 l)
 
-        pub count-on : size_accepted v ≡ true → got v d ≡ count s at
+        pub count-good : size_accepted v ≡ true → got v d ≡ count s at
         unfolding count read count_form_at size_accepted
-        count-on l = rw (word-found s at a p h, ← w.ends, ne_eqb d a some, e-is, t, ← w.is, l) (ap (got v) (eqb-true d (word_end s d) t))
+        count-good l = rw (word-found s at a p h, ← w.ends, ne_eqb d a some, e-is, t, ← w.is, l) (ap (got v) (eqb-true d (word_end s d) t))
+
+        pub count-on : 1 ≤ v → v ≤ 1024 → got v d ≡ count s at
+        count-on k l = count-good (sym (size-some v k) ∙ le-leb v 1024 l)
 
 pub size-few : (v : ℕ) → size_accepted v ≡ true → v ≤ 1024
 unfolding size_accepted

@@ -27,7 +27,7 @@ map_sound-requires c =
       rules-are = two-rules a.first a.second a.marks (c.in_ok-rules.ensures.rules-are rules refl);
     } in (
       (two a.first a.second a.marks.now, passing),
-      two-naming (first-marked a.rows a.columns a.side a.first a.second a.marks.now a.elevation.now (lent a.filled.now a.direction.now a.count.now a.lengths.now a.factors.now a.workspace.now) passing.passes),
+      two-naming a.marks (first-marked a.rows a.columns a.side a.first a.second a.marks.now a.elevation.now (lent a.filled.now a.direction.now a.count.now a.lengths.now a.factors.now a.workspace.now) passing.passes),
     )
 
 pub returns : goal.returns
