@@ -1,5 +1,5 @@
 -- `terrain::filled::has_lower` meets its contract. Assumes nothing.
-use Rattle.std.proofs.Common.{◌<◌, length, ◌∙◌, arith}
+use Rattle.std.proofs.Common.{◌∙◌, arith}
 use Rattle.terrain.proofs.InnerInterior.{inside_is, inside-lt}
 use Rattle.terrain.proofs.InnerFlooding.{lower-none, lower-more}
 use Rattle.terrain.proofs.filled.has_lower.Goals as goal
