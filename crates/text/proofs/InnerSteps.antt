@@ -24,7 +24,7 @@ use Rattle.text.proofs.InnerTested.{size_none, size-some}
 use Rattle.text.proofs.InnerCommas.{count-no-comma, comma-place}
 
 pub word-step : (s : List ℕ) (at a e : ℕ) → a ≡ word_start s at → e ≡ word_end s a → a < length s
-    → (word_of s (Some (record { start = a; end = e })) ≡ word s at) × ((a < e) × (e ≤ length s))
+    → (word_of s (Some (record { value = record { start = a; end = e }; rest = record { at = e } })) ≡ word s at) × ((a < e) × (e ≤ length s))
 word-step s at a e p q h = (
   rw q (sym (word-found s at a p h)),
   (omega (arith, q, end-byte s a h (first-solid s at a p h), end-lower s (a + 1)), omega (arith, q, end-upper s a (omega arith))),
