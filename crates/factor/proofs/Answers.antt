@@ -29,8 +29,9 @@ use Rattle.terrain.proofs.Public.{accepted-ready, accepted-directed, filled-smal
 use Rattle.factor.specs.Farms.{Farms, one, two, farm_at, Marked, of_farm, rules_in}
 use Rattle.factor.specs.Length.{lengths_of}
 use Rattle.factor.specs.Grid.{factors_of}
-use Rattle.factor.specs.Answers.{Grids, lent, judged, map_of, answer_of, refused_grids, grids_of, answer, after, first_tests}
-use Rattle.factor.specs.Inner.{Promised}
+use Rattle.factor.specs.Answers.{Grids, lent, judged, map_of, answer_of, refused_grids, grids_of, answer, after, first_tests, Judges, JudgesFarms}
+use Rattle.factor.specs.declared.tests.FarmRules.{FarmRules}
+use Rattle.factor.specs.Inner.{Passing, Promised}
 use Rattle.factor.specs.InnerPass.{farm_by, Naming, Measuring}
 use Rattle.factor.proofs.Judging.{lent_on, judged-row, first-fails, first-kept, first_passes, first-side, first-lengths}
 
@@ -45,11 +46,22 @@ one-rules settings e = fun_ext (λ x. e)
 pub one-naming : (n : ℕ) → Naming n None
 one-naming n x h = tt
 
+pub one-passing : {rows cols side : ℕ} {settings : Settings} {elevation : List ℤ} {g : Grids} {rules : Rules} →
+    Judges rows cols side settings elevation g (Ok rules) →
+    Passing rows cols side (one settings) (λ x. of_farm rules rules (farm_by None x)) elevation g
+one-passing {settings = settings} {rules = rules} j = record { passes = sym j.verdict-is; rules-are = one-rules settings (j.rules-are rules refl) }
+
 -- each cell has a mark of its own
 pub two-rules : (first second : Settings) (marks : Bor (List ℕ)) {f s : Rules} → (f ≡ rules_of first) × (s ≡ rules_of second) →
     (λ (x : ℕ). of_farm f s (farm_by (Some marks) x)) ≡ rules_in (two first second marks.now)
 unfolding rules_in
 two-rules first second marks e = fun_ext (λ x. ap₂ (λ (f s : Rules). of_farm f s (farm_at marks.now x)) e.0 e.1)
+
+pub two-passing : {rows cols side : ℕ} {first second : Settings} (marks : Bor (List ℕ)) {elevation : List ℤ} {g : Grids} {rules : FarmRules} →
+    JudgesFarms rows cols side first second marks.now elevation g (Ok rules) →
+    Passing rows cols side (two first second marks.now) (λ x. of_farm rules.first rules.second (farm_by (Some marks) x)) elevation g
+two-passing {first = first} {second = second} marks {rules = rules} j =
+    record { passes = sym j.verdict-is; rules-are = two-rules first second marks (j.rules-are rules refl) }
 
 pub two-naming : {n : ℕ} (marks : Bor (List ℕ)) → Marked n marks.now → Naming n (Some marks)
 two-naming marks m x l = omega (arith, m.long)

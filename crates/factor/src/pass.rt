@@ -74,7 +74,8 @@ fn farm_of(terms: &Terms, marks: Option<&[u8]>, x: usize) -> Farm
     }
 }
 
-// The length of a cell of this count, from where it would start and what is gathered there. Counts above `most` are those of channels.
+// The length of a cell of this count, from where it would start and what is gathered there. Counts above `most` are those of channels. An
+// Option of what is gathered has no place in the lent grid, so 0 stands for none there.
 fn final_length(most: u64, count: u32, start: u64, gathered: u64) -> u64
     ensures { result ≡ final_length (ltb most count) start gathered }
 {
