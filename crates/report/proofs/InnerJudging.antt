@@ -6,9 +6,9 @@ use Prim.Native.Nat.{ℕ, ◌*◌}
 use lib.ListN.{length}
 use Rattle.std.specs.Prelude.{Result, Ok, Err}
 use Rattle.laws.specs.Tests.{passed, failed, verdict}
-use Rattle.laws.proofs.Verdicts.{verdict-none, verdict-next, verdict-stops, verdict-passed, verdict-before, verdict-after}
+use Rattle.laws.proofs.Verdicts.{passed-failed, test-passed, verdict-none, verdict-next, verdict-stops, verdict-passed, verdict-before, verdict-after}
 use Rattle.text.specs.Faults.{number_of}
-use Rattle.text.specs.Ranges.{size_accepted, all_long}
+use Rattle.text.specs.Ranges.{size_accepted, all_long, length_test}
 use Rattle.text.proofs.Accepted.{size-passes, rows-fail, columns-fail, lengths-pass, lengths-fail, lengths-passed}
 use Rattle.text.specs.declared.faults.Fault.TheVariants as fault
 use Rattle.text.specs.declared.Refusal.{Refusal}
@@ -20,7 +20,7 @@ use Rattle.settings.specs.declared.Setting.{Setting}
 use Rattle.settings.specs.Settings.{rules_of, judged_of, place_of, settings_test}
 use Rattle.settings.proofs.Verdicts.{judged-passed, judged-failed}
 use Rattle.factor.specs.Farms.{two, mark_places, second_places, mark_test, farm_tests}
-use Rattle.factor.specs.Answers.{JudgesRest}
+use Rattle.factor.specs.Answers.{found, JudgesRest}
 use Rattle.factor.specs.declared.tests.FarmRules.{FarmRules}
 use Rattle.report.specs.Maps.{Map, map_of, cells_of}
 use Rattle.report.specs.Answers.{early_tests, map_tests, judgement_for, judgement_of, JudgesFarms}
@@ -58,11 +58,10 @@ module _ (rows columns : ℕ) (lengths : List ℕ) where
     pub shape-sound : all_long (rows * columns) lengths ≡ true → passed ≡ verdict (shape_tests rows columns lengths)
     shape-sound e = sym (verdict-next _ (size-passes rows columns r c) ∙ verdict-next [] (lengths-pass (rows * columns) lengths e) ∙ verdict-none)
 
-  -- the first list is long if they are passed
-  pub shape-long : {n : ℕ} {l : List ℕ} → lengths ≡ n ∷ l → passed ≡ verdict (shape_tests rows columns lengths) → n ≡ rows * columns
-  shape-long {n} {l} q e =
-      let p : verdict (shape_tests rows columns (n ∷ l)) ≡ passed = ap (λ (k : List ℕ). verdict (shape_tests rows columns k)) (sym q) ∙ sym e in
-      (lengths-passed (rows * columns) (n ∷ l) (verdict-passed _ _ (verdict-passed _ _ p).1).0).0
+  -- the lists are long if they are passed
+  pub shape-long : passed ≡ verdict (shape_tests rows columns lengths) → all_long (rows * columns) lengths ≡ true
+  unfolding length_test
+  shape-long e = test-passed (all_long (rows * columns) lengths) 2 0 (verdict-passed _ _ (verdict-passed _ _ (sym e)).1).0
 
 -- ---- one farm
 
@@ -82,45 +81,47 @@ module _ (s : Settings) (m : Map) where
           ap Ok w.1 ∙ sym (ap (judgement_for (rules_of s)) (left ∙ verdict-next [] w.0 ∙ verdict-none))
       go (Err bad) q = one-refused (sym (left ∙ verdict-stops [] (judged-failed s q)))
 
--- what is found of one farm's settings: their rules, or the refusal that their test tells
-pub found-rules : (s : Settings) {rules : Rules} → Ok rules ≡ settings_found (judged_of s) → (settings_test s ≡ passed) × (rules ≡ rules_of s)
-found-rules s {rules} e = go (judged_of s) refl e
+-- what is found of one farm's settings: their rules, or the first that is bad
+pub found-rules : (s : Settings) {rules : Rules} → Ok rules ≡ settings_found (judged_of s) → judged_of s ≡ Ok rules
+found-rules s {rules} e = go (judged_of s) e
   where
-    go : (j : Result Rules Setting) → judged_of s ≡ j → Ok rules ≡ settings_found j → (settings_test s ≡ passed) × (rules ≡ rules_of s)
-    go (Ok given) q p = let w = judged-passed s q in let same : rules ≡ given = cc in (w.0, same ∙ w.1)
-    go (Err bad) q p = absurd (cc)
+    go : (j : Result Rules Setting) → Ok rules ≡ settings_found j → j ≡ Ok rules
+    go (Ok given) p = cc
+    go (Err bad) p = absurd (cc)
 
-pub found-refused : (s : Settings) {f : Refusal} → Err f ≡ settings_found (judged_of s) → settings_test s ≡ failed (number_of f.fault) f.place
-found-refused s {f} e = go (judged_of s) refl e
+pub found-bad : (s : Settings) {f : Refusal} → Err f ≡ settings_found (judged_of s) →
+    (bad : Setting) × (judged_of s ≡ Err bad) × (failed (number_of f.fault) f.place ≡ failed 4 (place_of bad))
+found-bad s {f} e = go (judged_of s) e
   where
-    go : (j : Result Rules Setting) → judged_of s ≡ j → Err f ≡ settings_found j → settings_test s ≡ failed (number_of f.fault) f.place
-    go (Ok given) q p = absurd (cc)
-    go (Err bad) q p =
+    go : (j : Result Rules Setting) → Err f ≡ settings_found j → (bad : Setting) × (j ≡ Err bad) × (failed (number_of f.fault) f.place ≡ failed 4 (place_of bad))
+    go (Ok given) p = absurd (cc)
+    go (Err bad) p =
         let same : f ≡ record { fault = fault.Setting; place = place_of bad } = cc in
-        judged-failed s q ∙ sym (ap (λ (g : Refusal). failed (number_of g.fault) g.place) same)
+        (bad, refl, ap (λ (g : Refusal). failed (number_of g.fault) g.place) same)
 
 -- ---- two farms
 
-module _ (first second : Settings) (m : Map) where
-  pub farms-refused : {f : Refusal} → failed (number_of f.fault) f.place ≡ verdict (map_tests m) → JudgesFarms first second m (Err f)
-  farms-refused e = record { verdict-is = e; rules-are = (λ rules q. absurd (cc)) }
-
 module _ (rows columns : ℕ) (first second : Settings) (marks count factors : List ℕ) where
-  abbrev shared : Map
-  shared = map_of rows columns (two first second marks) count factors
+  pub farms-refused : {r : Result FarmRules Refusal} {n p : ℕ} → found r ≡ failed n p → verdict
+      (map_tests (map_of rows columns (two first second marks) count factors)) ≡ failed n p →
+      JudgesFarms first second (map_of rows columns (two first second marks) count factors) r
+  farms-refused e f = record { verdict-is = e ∙ sym f; rules-are = (λ rules q. absurd (passed-failed (sym (ap found q) ∙ e))) }
 
-  module _ (long : length marks ≡ rows * columns) (left : verdict (map_tests (map_of rows columns (two first second marks) count factors)) ≡ verdict
+  module _ (left : verdict (map_tests (map_of rows columns (two first second marks) count factors)) ≡ verdict
       (farm_tests (rows * columns) (two first second marks))) where
-    pub farms-settings : {f : Refusal} → Err f ≡ settings_found (judged_of first) →
-        JudgesFarms first second (map_of rows columns (two first second marks) count factors) (Err f)
-    farms-settings e = farms-refused first second shared (sym (left ∙ verdict-stops _ (found-refused first e)))
-
-    pub farms-rest : {rules : Rules} {r : Result FarmRules Refusal} → Ok rules ≡ settings_found (judged_of first) → JudgesRest rules second marks r →
+    pub farms-settings : {r : Result FarmRules Refusal} {bad : Setting} → found r ≡ failed 4 (place_of bad) → judged_of first ≡ Err bad →
         JudgesFarms first second (map_of rows columns (two first second marks) count factors) r
-    farms-rest e j =
-        let h = found-rules first e in
+    farms-settings f e = farms-refused f (left ∙ verdict-stops _ (judged-failed first e))
+
+    pub farms-rest : {rules : Rules} {r : Result FarmRules Refusal} → all_long (rows * columns) (length marks ∷ length count ∷ length factors ∷ []) ≡ true →
+        judged_of first ≡ Ok rules →
+        JudgesRest rules second marks r → JudgesFarms first second (map_of rows columns (two first second marks) count factors) r
+    farms-rest l e r =
+        let w = judged-passed first e in
+        let places = length marks ∷ length count ∷ length factors ∷ [] in
+        let n = (lengths-passed (rows * columns) places (lengths-pass (rows * columns) places l)).0 in
         record {
-          verdict-is = j.verdict-is ∙ ap (λ (n : ℕ). verdict (second_places (settings_test second) ∷ mark_test n marks ∷ [])) long
-              ∙ sym (left ∙ verdict-next _ h.0);
-          rules-are = (λ rules q. let w = j.rules-are rules q in (w.0 ∙ h.1, w.1));
+          verdict-is = r.verdict-is ∙ ap (λ (m : ℕ). verdict (second_places (settings_test second) ∷ mark_test m marks ∷ [])) n
+              ∙ sym (left ∙ verdict-next _ w.0);
+          rules-are = (λ given q. let s = r.rules-are given q in (s.0 ∙ w.1, s.1));
         }

@@ -7,7 +7,7 @@ use lib.ListN.{length, drop, get_or, length-append, get_or-append}
 use Rattle.std.proofs.lemmas.List.{get_or-drop, length-drop}
 use Rattle.text.proofs.Pieces.{drop_past}
 use Rattle.factor.specs.Cell.{too_long}
-use Rattle.report.specs.InnerCells.{all_to, below, is_no_data, Numbers32, Block, Counted, Leading, Tallied, FewIn}
+use Rattle.report.specs.InnerCells.{all_to, below, is_no_data, Numbers32, Block, Counted, CountedIn, Leading, Tallied, FewIn}
 use Rattle.report.specs.declared.classes.Counts.{Counts}
 use Rattle.report.specs.declared.lead.Lead.{Lead}
 use Rattle.report.specs.declared.tally.Tally.{Tally}
@@ -78,17 +78,30 @@ tallied-few {l} {n} small t = record {
   sum = omega (arith, t.sum, all-few l small n);
 }
 
-pub tallied-more : {l block : List ℕ} {from given s : ℕ} {t : Tally} {r : Counts} {lead : Lead} → Block l from block → Tallied l from t →
-    Counted block (length block) given r → s ≡ all_to block (length block) → Leading l (from + length block) lead →
-    Tallied l (from + length block) (more_of t r s lead)
-tallied-more {l} b t r added led =
+pub tallied-more : {l : List ℕ} {from to : ℕ} (s : ℕ) {t : Tally} {r : Counts} {lead : Lead} → Tallied l from t → CountedIn l from to r →
+    all_to l from + s ≡ all_to l to → Leading l to lead → Tallied l to (more_of t r s lead)
+tallied-more {l} s t r added led =
     record {
-      zero = omega (arith, t.zero, r.zero, count-block (below 1) l b);
-      under1 = omega (arith, t.under1, r.under1, count-block (below 100000) l b);
-      under5 = omega (arith, t.under5, r.under5, count-block (below 500000) l b);
-      under10 = omega (arith, t.under10, r.under10, count-block (below 1000000) l b);
-      known = omega (arith, t.known, r.known, count-block (below too_long) l b);
-      no-data = omega (arith, t.no-data, r.no-data, count-block is_no_data l b);
-      sum = omega (arith, t.sum, added, all-block b);
+      zero = omega (arith, t.zero, r.zero);
+      under1 = omega (arith, t.under1, r.under1);
+      under5 = omega (arith, t.under5, r.under5);
+      under10 = omega (arith, t.under10, r.under10);
+      known = omega (arith, t.known, r.known);
+      no-data = omega (arith, t.no-data, r.no-data);
+      sum = omega (arith, t.sum, added);
       lead = led;
     }
+
+-- of a block by itself: what it counts is counted between its ends
+pub tallied-block : {l block : List ℕ} {from given s : ℕ} {t : Tally} {r : Counts} {lead : Lead} → Block l from block → Tallied l from t →
+    Counted block (length block) given r → s ≡ all_to block (length block) → Leading l (from + length block) lead →
+    Tallied l (from + length block) (more_of t r s lead)
+tallied-block {l} {block} {from} {given} {s} {t} {r} b so_far next added led =
+    tallied-more s {r = r} so_far (record {
+      zero = omega (arith, next.zero, count-block (below 1) l b);
+      under1 = omega (arith, next.under1, count-block (below 100000) l b);
+      under5 = omega (arith, next.under5, count-block (below 500000) l b);
+      under10 = omega (arith, next.under10, count-block (below 1000000) l b);
+      known = omega (arith, next.known, count-block (below too_long) l b);
+      no-data = omega (arith, next.no-data, count-block is_no_data l b);
+    }) (omega (arith, added, all-block b)) led

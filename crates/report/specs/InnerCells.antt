@@ -78,6 +78,19 @@ pub record Counted (l : List ℕ) (n given : ℕ) (r : Counts) : Type 0 where
   pub no-data : r.no_data ≡ count_to is_no_data l n
   pub lower : r.lower ≡ count_to (below given) l n
 
+-- c of the numbers from one place to under another pass the test
+abbrev pub CountIn : (ℕ → Bool) → List ℕ → ℕ → ℕ → ℕ → Type 0
+CountIn test l from to c = count_to test l from + c ≡ count_to test l to
+
+-- and how many of them pass each test
+pub record CountedIn (l : List ℕ) (from to : ℕ) (r : Counts) : Type 0 where
+  pub zero : CountIn (below 1) l from to r.zero
+  pub under1 : CountIn (below 100000) l from to r.under1
+  pub under5 : CountIn (below 500000) l from to r.under5
+  pub under10 : CountIn (below 1000000) l from to r.under10
+  pub known : CountIn (below too_long) l from to r.known
+  pub no-data : CountIn is_no_data l from to r.no_data
+
 -- no count is above the number of cells
 pub record Few (r : Counts) (n : ℕ) : Type 0 where
   pub zero : r.zero ≤ n

@@ -52,6 +52,7 @@ pub(crate) fn greatest_of(factors: &[u32], lead: Lead) -> Option<Greatest>
     Some(Greatest {
         factor: u64::from(v),
         map: 0,
+        // No From leads from usize to u64.
         cell: (lead.from + after) as u64,
     })
 }

@@ -19,6 +19,7 @@ fn long_of(factors: &[u32], tally: Tally) -> u64
     requires { Numbers32 factors.now × Tallied factors.now (length factors.now) tally }
     ensures { result ≡ count_to is_long factors.now (length factors.now) }
 {
+    // No From leads from usize to u64.
     (factors.len() as u64) - u64::from(tally.known) - u64::from(tally.no_data)
 }
 

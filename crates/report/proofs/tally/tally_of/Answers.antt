@@ -3,7 +3,7 @@ use mathlib.Core.Path.{◌≡◌, ap, ◌∙◌}
 use native.Mathlib.Omega.{arith}
 use Rattle.std.specs.Slice.Iter.{chunks_rest, chunks_size}
 use Rattle.report.specs.InnerCells.{Block}
-use Rattle.report.proofs.InnerTally.{block-is, left-is, tallied-few, tallied-more, tallied-end}
+use Rattle.report.proofs.InnerTally.{block-is, left-is, tallied-few, tallied-block, tallied-end}
 use Rattle.report.proofs.tally.tally_of.Goals as goal
 
 pub loop-block-init : goal.loop-block-init
@@ -30,7 +30,7 @@ loop-block-preserved c =
     let steps = c.in-Some.ensures.steps in
     let b : Block l from c.in-Some.block.now = block-is l (chunks_rest c.loop-block.block-iterator) c.in-Some.block.now (chunks_rest c.next.new.self) from k.rest steps.1.0 k.inside in
     let size : chunks_size c.next.new.self ≡ 4096 = steps.0 ∙ k.size in
-    let tallied = tallied-more b k.tallied c.count_below-counts.ensures.counted c.sum_all-sum.ensures.is
+    let tallied = tallied-block b k.tallied c.count_below-counts.ensures.counted c.sum_all-sum.ensures.is
     (c.lead_after-lead.ensures l b k.tallied.lead c.count_below-counts.ensures.counted) in
     record {
       can = omega arith;
