@@ -66,39 +66,49 @@ module _ (rows columns side : ℕ) (settings : Settings) (elevation : List ℤ) 
       (map_lines (record { rows = rows; columns = columns; side = side; valid = (told a).valids; longest = (told a).longest })
       (grids_of elevation m.filled m.direction m.count m.lengths m.factors))
 
-  pub map-refused : (f : Refusal) → r ≡ Err f → refusal_line (number_of f.fault) f.place ≡ map_sheet rows columns side settings elevation g
+  sheet-is : answered (after rows columns side (one settings) Own elevation g) (answer rows columns side (one settings) Own elevation g)
+      ≡ map_sheet rows columns side settings elevation g
   unfolding map_sheet
+  sheet-is = refl
+
+  pub map-refused : (f : Refusal) → r ≡ Err f → refusal_line (number_of f.fault) f.place ≡ map_sheet rows columns side settings elevation g
   map-refused f h =
-      sym (lines-no (number_of f.fault) f.place _ (number-some f.fault))
-      ∙ ap (answered (after rows columns side (one settings) Own elevation g)) (sym h ∙ e)
+      let m = after rows columns side (one settings) Own elevation g in
+      let line : refusal_line (number_of f.fault) f.place ≡ answered m (Err f) = sym (lines-no (number_of f.fault) f.place _ (number-some f.fault)) in
+      line ∙ ap (answered m) (sym h ∙ e) ∙ sheet-is
 
   pub map-printed : (s : Summary) → r ≡ Ok s → (m : Grids) → m ≡ after rows columns side (one settings) Own elevation g →
       map_lines (record { rows = rows; columns = columns; side = side; valid = s.valid; longest = s.longest })
       (grids_of elevation m.filled m.direction m.count m.lengths m.factors) ≡ map_sheet rows columns side settings elevation g
-  unfolding map_sheet
-  map-printed s h m f = sym (lines-yes 0 0 _ refl) ∙ ap₂ answered f (sym h ∙ e)
+  map-printed s h m f =
+      let lines : map_lines (record { rows = rows; columns = columns; side = side; valid = s.valid; longest = s.longest })
+      (grids_of elevation m.filled m.direction m.count m.lengths m.factors) ≡ answered m (Ok s) = sym (lines-yes 0 0 _ refl) in
+      lines ∙ ap₂ answered f (sym h ∙ e) ∙ sheet-is
 
   pub map-columns : (s : Summary) → r ≡ Ok s → 0 < columns
   map-columns s h = accepted-columns rows columns side settings elevation g (ap accepts (sym e ∙ h))
 
 -- ---- the reader call
 
-module _ (rows columns side : ℕ) (settings : Settings) (text : List ℕ) (heights : List ℤ) (g : Grids) {r : Result Header Refusal} {elevation : List ℤ}
-    (e : grid_outcome_of r elevation ≡ grid_answer heights text) where
+module _ (rows columns side : ℕ) (settings : Settings) (text : List ℕ) (heights : List ℤ) (g : Grids) where
   -- what the reader's answer comes to
   abbrev mapped : GridOutcome → List ℕ
   mapped a = lines_or a.answer.number a.answer.place (map_sheet rows columns side settings a.heights g)
 
-  pub grid-refused : (f : Refusal) → r ≡ Err f → refusal_line (number_of f.fault) f.place ≡ grid_sheet rows columns side settings text heights g
+  grid-is : mapped (grid_answer heights text) ≡ grid_sheet rows columns side settings text heights g
   unfolding grid_sheet
-  grid-refused f h =
-      sym (lines-no (number_of f.fault) f.place _ (number-some f.fault))
-      ∙ ap mapped (sym (ap (λ (x : Result Header Refusal). grid_outcome_of x elevation) h) ∙ e)
+  grid-is = refl
 
-  pub grid-printed : (h : Header) → r ≡ Ok h → map_sheet rows columns side settings elevation g ≡ grid_sheet rows columns side settings text heights g
-  unfolding grid_sheet
-  grid-printed x h =
-      sym (lines-yes 0 0 _ refl) ∙ ap mapped (sym (ap (λ (x : Result Header Refusal). grid_outcome_of x elevation) h) ∙ e)
+  module _ {r : Result Header Refusal} {elevation : List ℤ} (e : grid_outcome_of r elevation ≡ grid_answer heights text) where
+    pub grid-refused : (f : Refusal) → r ≡ Err f → refusal_line (number_of f.fault) f.place ≡ grid_sheet rows columns side settings text heights g
+    grid-refused f h =
+        let line : refusal_line (number_of f.fault) f.place ≡ mapped (grid_outcome_of (Err f) elevation) = sym (lines-no (number_of f.fault) f.place _ (number-some f.fault)) in
+        line ∙ ap mapped (sym (ap (λ (x : Result Header Refusal). grid_outcome_of x elevation) h) ∙ e) ∙ grid-is
+
+    pub grid-printed : (h : Header) → r ≡ Ok h → map_sheet rows columns side settings elevation g ≡ grid_sheet rows columns side settings text heights g
+    grid-printed x h =
+        let lines : map_sheet rows columns side settings elevation g ≡ mapped (grid_outcome_of (Ok x) elevation) = sym (lines-yes 0 0 _ refl) in
+        lines ∙ ap mapped (sym (ap (λ (x : Result Header Refusal). grid_outcome_of x elevation) h) ∙ e) ∙ grid-is
 
 -- ---- the number of cells, the header and the text's length
 
