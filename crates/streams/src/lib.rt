@@ -17,7 +17,7 @@ fn print_case(rt: &impl Print, number: usize, text: &[u8], rules: Settings) -> i
     rt.write_all(&lines[..end])
 }
 
-// Prints the sheet of each text, as far as the frames are whole.
+// Prints the sheet of each text, as far as the frames are whole. There are fewer frames than bytes.
 fn print_cases(rt: &impl Print, stream: &[u8], rules: Settings) -> io::Result<()> {
     let mut rest = stream;
     for number in 0..stream.len() {

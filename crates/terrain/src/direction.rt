@@ -132,8 +132,7 @@ impl Surface<'_> {
         requires { (x < self.rows * self.columns) × (k < 8) × (INSIDE ≡ true → Inside self.rows self.columns x) }
         ensures { result ≡ bearing_key self.entry.rows self.entry.columns self.entry.level.now x k }
     {
-        let level = self.level;
-        key_of(level[x], self.level_beside::<INSIDE>(x, k), k)
+        key_of(self.level[x], self.level_beside::<INSIDE>(x, k), k)
     }
 
     // The code, but for flats, and the fall of a cell x that is inside, or not.
@@ -141,14 +140,13 @@ impl Surface<'_> {
         requires { (x < self.rows * self.columns) × (INSIDE ≡ true → Inside self.rows self.columns x) }
         ensures { FallTo self.entry.rows self.entry.columns self.entry.level.now x result }
     {
-        let level = self.level;
         let mut cardinal: u32 = 255;
         let mut diagonal: u32 = 255;
         for i in 0..4 {
             cardinal = cardinal.max(self.key_at::<INSIDE>(x, 2 * i));
             diagonal = diagonal.max(self.key_at::<INSIDE>(x, 2 * i + 1));
         }
-        Fall::chosen(cardinal, diagonal).at(level[x])
+        Fall::chosen(cardinal, diagonal).at(self.level[x])
     }
 
     // Writes the codes, but for flats, the falls and the first steps of a run of cells that are inside.
@@ -198,11 +196,10 @@ impl Surface<'_> {
         requires { (y < self.rows * self.columns) × (y < length steps.now) }
         ensures { result ≡ (slice_index steps.now y == d && slice_index self.entry.level.now y == v) }
     {
-        let level = self.level;
         if steps[y] != d {
             return false;
         }
-        level[y] == v
+        self.level[y] == v
     }
 
     // Points every flat cell at its first neighbour of the same level that is one step nearer. All its neighbours are on the grid.
@@ -211,10 +208,9 @@ impl Surface<'_> {
             × (direction.old ≡ tab (self.rows * self.columns) (down_at self.rows self.columns self.level.now)) }
         ensures { direction.new ≡ directions_of self.entry.rows self.entry.columns self.entry.level.now }
     {
-        let level = self.level;
         for x in 0..direction.len() {
             if 0 < steps[x] {
-                let v = level[x];
+                let v = self.level[x];
                 let d = steps[x] - 1;
                 // The papers name this form: a loop over eight codes inside a sweep, yielding its code by break.
                 direction[x] = 'codes: {

@@ -1,7 +1,6 @@
 // Directions that somebody else drew: the tests of refusals 17 and 18, which touch nothing but the levels, and the falls along them.
 // RULES 4.7.
 ghost use Rattle.std.specs.Prelude.{◌≡◌, ◌*◌, ◌<◌, length};
-ghost use Rattle.terrain.specs.Cells.{Shifts};
 ghost use Rattle.terrain.specs.Falls.{fall_at, falls_of};
 ghost use Rattle.terrain.specs.Given.{kept_at, first_broken, given_tests};
 ghost use Rattle.terrain.specs.InnerLevels.{Levels};
@@ -11,9 +10,9 @@ ghost use Rattle.laws.specs.Tests.{verdict};
 
 use crate::cells::{near, shifts_of, value_at};
 use crate::direction::{NO_CODE, NO_FALL, code_of};
+use crate::drawing::Drawing;
 use crate::ring::first_on_ring;
 use crate::surface::Surface;
-use crate::trail::receiver;
 use text::{Fault, Refusal};
 
 impl Surface<'_> {
@@ -56,36 +55,20 @@ impl Surface<'_> {
         None
     }
 
-    // The fall of the cell x along its direction.
-    fn fall_along(self, shifts: &[usize; 8], direction: &[u8], x: usize) -> u32
-        requires { Keeping self.rows self.columns self.level.now direction.now × (x < self.rows * self.columns)
-            × Shifts self.columns shifts.now }
-        ensures { result ≡ fall_at self.entry.rows self.entry.columns self.entry.level.now direction.now x }
-    {
-        let level = self.level;
-        let code = direction[x];
-        if code == NO_CODE {
-            return NO_FALL;
-        }
-        let y = receiver(self.rows, self.columns, shifts, direction, x);
-        if level.len() <= y {
-            return 0;
-        }
-        let drop = level[x] - level[y];
-        if drop < 1 {
-            return 0;
-        }
-        2 * drop + code.trailing_zeros() % 2
-    }
-
     // Writes the fall of every cell.
     pub(crate) fn write_falls(self, direction: &[u8], falls: &mut [u32])
         requires { Keeping self.rows self.columns self.level.now direction.now × (length falls.old ≡ self.rows * self.columns) }
         ensures { falls.new ≡ falls_of self.entry.rows self.entry.columns self.entry.level.now direction.now }
     {
         let shifts = shifts_of(self.columns);
+        let drawing = Drawing {
+            rows: self.rows,
+            columns: self.columns,
+            shifts: &shifts,
+            direction,
+        };
         for x in 0..falls.len() {
-            falls[x] = self.fall_along(&shifts, direction, x);
+            falls[x] = fall_along(drawing, self.level, x);
         }
     }
 }
@@ -119,4 +102,24 @@ pub(crate) fn judge(
         });
     }
     Ok(())
+}
+
+// The fall of the cell x along its direction.
+fn fall_along(drawing: Drawing, level: &[u32], x: usize) -> u32
+    requires { Keeping drawing.rows drawing.columns level.now drawing.direction.now × (x < drawing.rows * drawing.columns) }
+    ensures { result ≡ fall_at drawing.entry.rows drawing.entry.columns level.now drawing.entry.direction.now x }
+{
+    let code = drawing.direction[x];
+    if code == NO_CODE {
+        return NO_FALL;
+    }
+    let y = drawing.receiver(x);
+    if level.len() <= y {
+        return 0;
+    }
+    let drop = level[x] - level[y];
+    if drop < 1 {
+        return 0;
+    }
+    2 * drop + code.trailing_zeros() % 2
 }

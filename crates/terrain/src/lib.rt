@@ -8,9 +8,11 @@
 mod cells;
 mod direction;
 mod downhill;
+mod drawing;
 mod filled;
 mod flat;
 mod given;
+mod ground;
 mod queue;
 mod ring;
 mod surface;
@@ -33,6 +35,8 @@ ghost use Rattle.terrain.specs.InnerAnswers.{found, directions_for};
 ghost use Rattle.terrain.specs.declared.Source.TheVariants.{Given};
 
 pub use cells::shifts_of;
+use drawing::Drawing;
+use ground::Ground;
 use surface::Surface;
 use text::{Fault, Refusal};
 
@@ -121,7 +125,12 @@ fn survey(
     ensures { (found result ≡ verdict (source_tests source rows columns (filled_levels rows columns elevation.now) direction.now))
         × (level.new ≡ filled_levels rows columns elevation.now) }
 {
-    filled::fill(rows, columns, elevation, level);
+    let ground = Ground {
+        rows,
+        columns,
+        elevation,
+    };
+    filled::fill(ground, level);
     match source {
         Source::Own => Ok(()),
         Source::Given => given::judge(rows, columns, direction, level),
@@ -186,9 +195,15 @@ fn route(
         × (result.valid ≡ places) × (result.longest ≡ longest_of rows columns direction.now)) }
 {
     let shifts = shifts_of(columns);
-    let places = downhill::descend(rows, columns, &shifts, direction, count, workspace);
-    let longest = trail::longest_trail(rows, columns, &shifts, direction, workspace, places, count);
-    trail::count_flow(rows, columns, &shifts, direction, workspace, places, count);
+    let drawing = Drawing {
+        rows,
+        columns,
+        shifts: &shifts,
+        direction,
+    };
+    let places = downhill::descend(drawing, count, workspace);
+    let longest = trail::longest_trail(drawing, workspace, places, count);
+    trail::count_flow(drawing, workspace, places, count);
     Summary {
         valid: places as u32,
         longest: longest,

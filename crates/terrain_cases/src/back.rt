@@ -30,9 +30,7 @@ fn field_back(
     let mut back = back_room.lend(places);
     print!(rt; "{name} {rows} {columns}")?;
     map(rt, rows, columns, Source::Own, ground, &mut own)?;
-    for (code, own_code) in back.direction.iter_mut().zip(own.direction.iter()) {
-        *code = *own_code;
-    }
+    back.give(own.direction);
     map(rt, rows, columns, Source::Given, ground, &mut back)?;
     write_workspace(rt, back.workspace)?;
     let same = *back.filled == *own.filled

@@ -200,9 +200,7 @@ fn lend(
 ) -> io::Result<()> {
     let mut room = Room::new();
     let mut grids = room.lend(Places::of(ground.len()));
-    for (place, code) in grids.direction.iter_mut().zip(codes) {
-        *place = *code;
-    }
+    grids.give(codes);
     print!(rt; "{name} {rows} {columns}")?;
     write_map(rt, rows, columns, Source::Given, ground, &mut grids)?;
     let untouched = grids.filled.iter().all(|n| *n == i32::from(MARK))

@@ -1,5 +1,5 @@
 // The large fields, whose heights are worked out cell by cell: spirals, comb, plane, bowl, strips and noise.
-ghost use Rattle.std.specs.Prelude.{◌≤◌, ◌<◌};
+ghost use Rattle.std.specs.Prelude.{◌≡◌, pos, ◌≤◌, ◌<◌};
 
 use crate::show::{MOST, field};
 use crate::{drawn, spiral};
@@ -86,6 +86,7 @@ impl Land<'_> {
 // A height of so many cm.
 fn cm(n: usize) -> i32
     requires { n ≤ 900000 }
+    ensures { result ≡ pos n }
 {
     n as i32
 }
@@ -94,7 +95,7 @@ fn cm(n: usize) -> i32
 fn signed(n: usize) -> i32
     requires { n ≤ 950000 }
 {
-    if n < 50000 { !cm(n) } else { cm(n - 50000) }
+    if n < 50000 { -1 - cm(n) } else { cm(n - 50000) }
 }
 
 // Eight heights, with NoData here and there.

@@ -43,6 +43,15 @@ pub(crate) struct Grids<'a> {
     pub(crate) workspace: &'a mut [u32],
 }
 
+impl Grids<'_> {
+    // Gives the map call these directions.
+    pub(crate) fn give(&mut self, codes: &[u8]) {
+        for (place, code) in self.direction.iter_mut().zip(codes) {
+            *place = *code;
+        }
+    }
+}
+
 // Room for the grids of the largest field.
 #[derive(Drop)]
 pub(crate) struct Room {

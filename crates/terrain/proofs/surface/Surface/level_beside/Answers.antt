@@ -7,7 +7,7 @@ pub offset_bounds-level-beside : goal.offset_bounds-level-beside
 offset_bounds-level-beside g c =
     let s = c.args.self in
     let inside = c.requires.2 (ap not (ne_eqb g.row.INSIDE 0 c.if-this-ne0.true)) in
-    omega (arith, s.levels.sized.small, inside-lt s.rows s.columns c.args.x c.args.k c.beside.result inside c.requires.1 c.beside.ensures)
+    omega (arith, s.levels.long, inside-lt s.rows s.columns c.args.x c.args.k c.beside.result inside c.requires.1 c.beside.ensures)
 
 pub bounds-level-beside : goal.bounds-level-beside
 bounds-level-beside g c =

@@ -1,11 +1,8 @@
 -- `terrain::surface::Surface::reach_shore` meets its contract. Assumes nothing.
 use Rattle.std.proofs.Common.{sym, ◌∙◌, arith, ltb-true}
 use Rattle.terrain.specs.Flat.{nearest_of}
-use Rattle.terrain.proofs.InnerWading.{steps-flat, shores-put}
+use Rattle.terrain.proofs.InnerWading.{shores-put}
 use Rattle.terrain.proofs.surface.Surface.reach_shore.Goals as goal
-
-pub is_shore-requires : goal.is_shore-requires
-is_shore-requires c = (steps-flat c.args.self.levels c.requires.0.kept c.args.x (omega (arith, c.if-steps-x-lt-FAR.false)), c.requires.0.kept.long)
 
 pub returns-then-is_shore : goal.returns-then-is_shore
 returns-then-is_shore c =
