@@ -16,9 +16,11 @@ use Rattle.terrain.specs.Filled.{filled_levels}
 use Rattle.terrain.specs.Drainage.{Totals}
 use Rattle.terrain.specs.Answers.{source_tests, directions_by}
 use Rattle.terrain.specs.declared.Source.{Source}
-use Rattle.factor.specs.Farms.{Farms, mark_tests}
-use Rattle.factor.specs.Answers.{Grids, tests, judged, answer_of, grids_of, answer, after, found, early_tests, first_tests, Numbers, told, accepts}
-use Rattle.std.specs.Prelude.{Result, Ok, Err}
+use Rattle.settings.specs.declared.Settings.{Settings}
+use Rattle.factor.specs.Farms.{Farms, two, mark_tests}
+use Rattle.factor.specs.declared.tests.FarmRules.{FarmRules}
+use Rattle.factor.specs.Answers.{Grids, tests, judged, answer_of, grids_of, answer, after, found, early_tests, first_tests, JudgesFarms, Numbers, told, accepts}
+use Rattle.std.specs.Prelude.{Some, Result, Ok, Err}
 use Rattle.std.specs.Result.{result_err}
 use Rattle.text.specs.Faults.{number_of, fault_of}
 use Rattle.text.specs.declared.faults.Fault.{Fault}
@@ -26,9 +28,10 @@ use Rattle.text.specs.declared.faults.Fault.TheVariants.{Setting}
 use Rattle.text.proofs.FaultNumbers.{back-fault}
 use Rattle.terrain.specs.declared.Summary.{Summary}
 use Rattle.factor.proofs.Judging.{answer-some, first-kept, early-number, marks-number, later-number, joined_number, is-numbered}
+use Rattle.fullsize.specs.Crossing.{two_formulas}
 use Rattle.fullsize.specs.Mapping.{judged_by, answer_by, after_by}
-use Rattle.fullsize.specs.InnerMapping.{before_marks, refusal_before}
-use Rattle.fullsize.proofs.Formulas.{NotOfMarks, OfMarks, formulas-pass, formulas-fail}
+use Rattle.fullsize.specs.InnerMapping.{before_marks, formula_place, refusal_before}
+use Rattle.fullsize.proofs.Formulas.{NotOfMarks, OfMarks, formulas-pass, formulas-fail, two-fails}
 
 module _ (rows cols side : ℕ) (farms : Farms) (formulas : List Test) (source : Source) (elevation : List ℤ) (g : Grids) where
   abbrev early : List Test
@@ -139,6 +142,18 @@ module _ (rows cols side : ℕ) (farms : Farms) (formulas : List Test) (source :
 
   pub without-leaves : g ≡ after_by rows cols side farms formulas source elevation g
   without-leaves = none-leaves rows cols side farms formulas source elevation g h e
+
+-- ---- two farms, one of them without a formula
+
+module _ (rows cols side : ℕ) (first second : Settings) (marks : List ℕ) (n m : ℕ) (source : Source) (elevation : List ℤ) (g : Grids) {place : ℕ}
+    (h : formula_place n m ≡ Some place) {j : Result FarmRules Refusal} (judges : JudgesFarms rows cols side first second marks elevation g j) where
+  pub two-answers : {f : Refusal} → f ≡ refusal_before place (result_err j) → Err f ≡ answer_by rows cols side (two first second marks)
+      (two_formulas n m) source elevation g
+  two-answers e =
+      without-answers rows cols side (two first second marks) (two_formulas n m) source elevation g (two-fails n m h) j judges.verdict-is e
+
+  pub two-leaves : g ≡ after_by rows cols side (two first second marks) (two_formulas n m) source elevation g
+  two-leaves = without-leaves rows cols side (two first second marks) (two_formulas n m) source elevation g (two-fails n m h) j judges.verdict-is
 
 -- ---- the numbers that are handed out
 

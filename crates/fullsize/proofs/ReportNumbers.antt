@@ -19,7 +19,8 @@ use Rattle.text.proofs.FaultNumbers.{back-fault}
 use Rattle.text.specs.Ranges.{size_accepted, all_long, size_test, length_test}
 use Rattle.settings.specs.declared.Settings.{Settings}
 use Rattle.settings.specs.Settings.{rules_of}
-use Rattle.factor.specs.Farms.{one, mark_places, settings_tests, mark_tests}
+use Rattle.factor.specs.declared.tests.FarmRules.{FarmRules}
+use Rattle.factor.specs.Farms.{one, two, mark_places, settings_tests, mark_tests}
 use Rattle.factor.specs.Answers.{found}
 use Rattle.factor.proofs.Judging.{joined_number, settings-number, marks-number}
 use Rattle.report.specs.declared.Greatest.{Greatest}
@@ -27,10 +28,11 @@ use Rattle.report.specs.declared.Report.{Report}
 use Rattle.report.specs.Maps.{Map, map_of, cells_of}
 use Rattle.report.specs.Reports.{report_of}
 use Rattle.report.specs.Joins.{joined}
-use Rattle.report.specs.Answers.{Reported, early_tests, map_tests, fit_test, outcome, outcome_of, after_add, judgement_for, judgement_of}
+use Rattle.report.specs.Answers.{Reported, early_tests, map_tests, fit_test, outcome, outcome_of, after_add, judgement_for, judgement_of, JudgesFarms}
+use Rattle.fullsize.specs.Crossing.{two_formulas}
 use Rattle.fullsize.specs.Reporting.{greatest_from, greatest_numbers, report_from, numbers_from, added_by}
-use Rattle.fullsize.specs.InnerMapping.{before_marks, refusal_before}
-use Rattle.fullsize.proofs.Formulas.{NotOfMarks, OfMarks, formulas-pass, formulas-fail}
+use Rattle.fullsize.specs.InnerMapping.{before_marks, formula_place, refusal_before}
+use Rattle.fullsize.proofs.Formulas.{NotOfMarks, OfMarks, formulas-pass, formulas-fail, two-fails}
 
 -- ---- fourteen numbers
 
@@ -137,6 +139,15 @@ pub without-added : (report : Report) (m : Map) (formulas : List Test) {place : 
     found j ≡ verdict (map_tests m) → f ≡ refusal_before place (result_err j) → outcome (Err f) report ≡ added_by report m formulas
 without-added report m formulas {place} h j e p =
     ap (λ (r : Refusal). outcome (Err r) report) p ∙ none-told report (next report m formulas) place j ∙ none-added report m formulas h e
+
+-- ---- two farms, one of them without a formula
+
+pub two-added : (report : Report) (rows cols : ℕ) (first second : Settings) (marks count factors : List ℕ) (n m : ℕ) {place : ℕ} → formula_place n m ≡ Some place →
+    {j : Result FarmRules Refusal} {f : Refusal} → JudgesFarms first second (map_of rows cols (two first second marks) count factors) j →
+    f ≡ refusal_before place (result_err j) →
+    outcome (Err f) report ≡ added_by report (map_of rows cols (two first second marks) count factors) (two_formulas n m)
+two-added report rows cols first second marks count factors n m h {j} judges e =
+    without-added report (map_of rows cols (two first second marks) count factors) (two_formulas n m) (two-fails n m h) j judges.verdict-is e
 
 -- ---- one farm's judgement tells the verdict
 

@@ -2,7 +2,8 @@
 //
 // Each call hands on what it is lent and gives the number of the refusal, 0 where the input is accepted; the place and the other
 // numbers go to single numbers that are lent too. The promise of each call is that of the call it wraps, for every input. No call has a
-// `requires`: a caller owes only what no call can see, that each pointer with its length is memory of its own.
+// `requires`: a caller owes only what no call can see, that each pointer with its length is memory of its own. Each list of parameters is
+// C's: numbers and lent memory, no structs.
 #![tactic(auto)]
 
 mod answers;

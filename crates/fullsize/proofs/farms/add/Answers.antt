@@ -4,16 +4,16 @@ use Rattle.factor.specs.Farms.{two}
 use Rattle.report.specs.Maps.{map_of}
 use Rattle.fullsize.specs.Crossing.{two_formulas}
 use Rattle.fullsize.specs.InnerMapping.{refusal_before}
-use Rattle.fullsize.proofs.Formulas.{two-passes, two-fails}
-use Rattle.fullsize.proofs.ReportNumbers.{added_is, without-added}
+use Rattle.fullsize.proofs.Formulas.{two-passes}
+use Rattle.fullsize.proofs.ReportNumbers.{added_is, two-added}
 use Rattle.fullsize.proofs.farms.add.Goals as goal
 
 pub returns-in-Some : goal.returns-in-Some
 returns-in-Some c =
     let a = c.args in
-    let m = map_of a.rows a.columns (two a.first a.second a.marks.now) a.count.now a.factors.now in
-    without-added a.report.now m (two_formulas a.formula a.formula1) (two-fails a.formula a.formula1 (sym c.formula_place.ensures ∙ c.in-Some.is))
-    c.judge_farms-judged.result c.judge_farms-judged.ensures.verdict-is (c.refusal_before.ensures ∙ ap (refusal_before c.in-Some.place) c.err.ensures.value)
+    two-added a.report.now a.rows a.columns a.first a.second a.marks.now a.count.now a.factors.now a.formula a.formula1
+    (sym c.formula_place.ensures ∙ c.in-Some.is) c.judge_farms-judged.ensures
+    (c.refusal_before.ensures ∙ ap (refusal_before c.in-Some.place) c.err.ensures.value)
 
 pub returns : goal.returns
 returns c =

@@ -5,20 +5,19 @@ use Rattle.factor.specs.Farms.{two}
 use Rattle.factor.specs.Answers.{lent}
 use Rattle.fullsize.specs.Crossing.{two_formulas}
 use Rattle.fullsize.specs.InnerMapping.{refusal_before}
-use Rattle.fullsize.proofs.Formulas.{two-passes, two-fails}
-use Rattle.fullsize.proofs.Maps.{answer-is, after_is, without-answers, without-leaves}
+use Rattle.fullsize.proofs.Formulas.{two-passes}
+use Rattle.fullsize.proofs.Maps.{answer-is, after_is, two-answers, two-leaves}
 use Rattle.fullsize.proofs.farms.map.Goals as goal
 
 pub returns-in-Some : goal.returns-in-Some
 returns-in-Some c =
     let a = c.args in
     let g = lent a.filled.now a.direction.now a.count.now a.lengths.now a.factors.now a.workspace.now in
-    let farms = two a.first a.second a.marks.now in
-    let h = two-fails a.formula a.formula1 (sym c.formula_place.ensures ∙ c.in-Some.is) in
+    let h = sym c.formula_place.ensures ∙ c.in-Some.is in
     record {
-      answers = without-answers a.rows a.columns a.side farms (two_formulas a.formula a.formula1) a.source a.elevation.now g h c.judge_farms-judged.result c.judge_farms-judged.ensures.verdict-is
+      answers = two-answers a.rows a.columns a.side a.first a.second a.marks.now a.formula a.formula1 a.source a.elevation.now g h c.judge_farms-judged.ensures
           (c.refusal_before.ensures ∙ ap (refusal_before c.in-Some.place) c.err.ensures.value);
-      leaves = without-leaves a.rows a.columns a.side farms (two_formulas a.formula a.formula1) a.source a.elevation.now g h c.judge_farms-judged.result c.judge_farms-judged.ensures.verdict-is;
+      leaves = two-leaves a.rows a.columns a.side a.first a.second a.marks.now a.formula a.formula1 a.source a.elevation.now g h c.judge_farms-judged.ensures;
       trails = (λ z. absurd (true≢false (sym z)));
       totals = (λ z. absurd (true≢false (sym z)));
       surface = (λ z. absurd (true≢false (sym z)));
