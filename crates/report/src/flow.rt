@@ -46,6 +46,7 @@ fn count_above<F: Fn(usize) -> u32>(count: &[u32], bound_at: F) -> Flow
         channel += u32::from(bound_at(x) < *n);
     }
     Flow {
+        // No From leads from usize to u32; the length fits by the requires.
         valid: (count.len() as u32) - dry,
         channel,
     }

@@ -28,6 +28,7 @@ fn keep(maps: u64, first: &Option<Greatest>, second: &Option<Greatest>) -> Optio
         },
         Some(earlier) => match second {
             Some(later) if earlier.factor < later.factor => Some(Some(later.after(maps)?)),
+            // After no maps it stays as it is, and is known to fit.
             _ => Some(Some(earlier.after(0)?)),
         },
     }
