@@ -8,18 +8,22 @@ use native.Mathlib.Omega.{arith}
 use native.Mathlib.Decide.{dec_lt}
 use lib.ListN.{length, get_or-eq_default}
 use lib.IntN.{ℤ}
-use lib.Dec.{ltb, leb}
+use lib.Dec.{ltb}
 use borrow.Author.Tests.{eq-eqb, lt-ltb, le-ltb, ltb-false, not-true}
 use Rattle.laws.specs.Tests.{Test, passed, failed, verdict}
-use Rattle.laws.proofs.First.{first-before}
-use Rattle.laws.proofs.Verdicts.{passed-failed, verdict-none, verdict-next, verdict-stops, verdict-passed, verdict-parts, verdict-before, verdict-after, test-yes, test-no, test-passed, Numbered, OfNumber, test-number, verdict-number}
+use Rattle.laws.proofs.First.{first-before, first-is, first-none}
+use Rattle.laws.proofs.Tests.{two as either}
+use Rattle.std.specs.List.{position, position_or_len}
+use Rattle.std.proofs.lemmas.List.Quantifiers.{position-Some}
+use Rattle.std.proofs.lemmas.List.Sums.{fails_before_first}
+use Rattle.std.proofs.Common.{Option, Some, None, Result, Ok, Err, ◌⊎◌, inl, inr}
+use Rattle.laws.proofs.Verdicts.{verdict-none, verdict-next, verdict-stops, verdict-passed, verdict-parts, verdict-before, verdict-after, test-yes, test-no, test-passed, Numbered, OfNumber, test-number, verdict-number}
 use Rattle.text.specs.Ranges.{size_accepted, side_accepted, first_bad, all_long, size_test, length_test, side_test, height_test}
 use Rattle.text.proofs.Accepted.{size-passes, size-passed, area-few, rows-fail, columns-fail, AllLong, lengths-pass, lengths-fail, lengths-passed, side-is, side-passed, side-passes, side-fails}
 use Rattle.settings.specs.declared.Settings.{Settings}
 use Rattle.settings.specs.declared.Rules.{Rules}
-use Rattle.settings.specs.declared.Judged.{Judged}
-use Rattle.settings.specs.declared.Judged.TheVariants.{Accepted, Refused}
-use Rattle.settings.specs.Settings.{threshold_accepted, rules_of, verdict_of, judged_of, settings_test, told as test_of}
+use Rattle.settings.specs.declared.Setting.{Setting as Bad}
+use Rattle.settings.specs.Settings.{rules_of, judged_of, place_of, settings_test, told as test_of}
 use Rattle.settings.proofs.Verdicts.{judged-passed, judged-failed}
 use Rattle.terrain.specs.Answers.{Grids as TerrainGrids, lent as lent_terrain, places_of as terrain_places, ground_tests, tests as terrain_tests, judged as terrain_judged, source_tests, directions_by}
 use Rattle.terrain.specs.Filled.{filled_levels}
@@ -27,11 +31,13 @@ use Rattle.terrain.specs.Given.{first_broken, first_ring, code_test, ring_test}
 use Rattle.terrain.specs.declared.Source.{Source}
 use Rattle.terrain.specs.declared.Source.TheVariants.{Own, Given}
 use Rattle.factor.specs.Farms.{Farms, one, two, farm_at, Marked, mark_places, second_places, first_mark, mark_test, settings_tests, mark_tests, farm_tests}
-use Rattle.factor.specs.Answers.{Grids, places_of, tests, judged, answer_of, answer, refused_grids, found, early_tests, first_tests, Judges, found_in, JudgesFarms, JudgesRest, told, accepts}
-use Rattle.factor.specs.declared.tests.Judgement.{Judgement}
-use Rattle.factor.specs.declared.tests.Judgement.TheVariants.{Sound}
-use Rattle.factor.specs.declared.tests.FarmJudgement.{FarmJudgement}
-use Rattle.factor.specs.declared.tests.FarmJudgement.TheVariants as farm
+use Rattle.factor.specs.Answers.{Grids, places_of, tests, judged, answer_of, answer, refused_grids, early_tests, first_tests, Judges, JudgesFarms, JudgesRest, told, accepts}
+use Rattle.factor.specs.declared.tests.FarmRules.{FarmRules}
+use Rattle.factor.specs.Inner.{places_with, settings_found, shared_tests, JudgesGround}
+use Rattle.text.specs.Faults.{number_of, fault_of}
+use Rattle.text.specs.declared.Refusal.{Refusal}
+use Rattle.text.specs.declared.faults.Fault.{Fault}
+use Rattle.text.specs.declared.faults.Fault.TheVariants.{Size, Length, Side, Setting, Height, Name, Malformed, Fine, Ended, Trailing, Large, Comma, Room, FloatBytes, NotFinite, Overflow, Direction, Ring, Mark}
 
 -- the grids that are lent on to the terrain layer: the grid of LS for its falls, and all but that of the lengths
 abbrev pub lent_on : Grids → TerrainGrids
@@ -43,12 +49,34 @@ unfolding all_long
 all-long n [] w = refl
 all-long n (a ∷ l) w = ap₂ ◌&&◌ (eq-eqb a n w.0) (all-long n l w.1)
 
+-- no fault has number 0
+fault-some : (f : Fault) → 1 ≤ number_of f
+fault-some Size = omega arith
+fault-some Length = omega arith
+fault-some Side = omega arith
+fault-some Setting = omega arith
+fault-some Height = omega arith
+fault-some Name = omega arith
+fault-some Malformed = omega arith
+fault-some Fine = omega arith
+fault-some Ended = omega arith
+fault-some Trailing = omega arith
+fault-some Large = omega arith
+fault-some Comma = omega arith
+fault-some Room = omega arith
+fault-some FloatBytes = omega arith
+fault-some NotFinite = omega arith
+fault-some Overflow = omega arith
+fault-some Direction = omega arith
+fault-some Ring = omega arith
+fault-some Mark = omega arith
+
 -- an answer with number 0 is no refusal, whatever the tests were, if none of them refuses with 0
 pub answer-some : (rows cols : ℕ) (elevation : List ℤ) (dir : List ℕ) (t : Test) → Numbered t → (told (answer_of rows cols elevation dir t)).number ≡ 0 →
     accepts (answer_of rows cols elevation dir t) ≡ true
 unfolding answer_of
 answer-some rows cols elevation dir passed n e = refl
-answer-some rows cols elevation dir (failed number place) n e = absurd (omega arith)
+answer-some rows cols elevation dir (failed number place) n e = absurd (omega (arith, fault-some (fault_of number)))
 
 -- ---- the number of a refusal
 
@@ -66,9 +94,9 @@ is-numbered (failed number place) h = h
 -- ---- the tests of the farms
 
 -- what the number of a refusal is: of 4, whatever its place, and of 19
-setting-number : (P : ℕ → Type 0) → P 4 → (j : Judged) → OfNumber P (test_of j)
-setting-number P four (Accepted rules) = tt
-setting-number P four (Refused place) = four
+setting-number : (P : ℕ → Type 0) → P 4 → (j : Result Rules Bad) → OfNumber P (test_of j)
+setting-number P four (Ok rules) = tt
+setting-number P four (Err bad) = four
 
 second-number : (P : ℕ → Type 0) (t : Test) → OfNumber P t → OfNumber P (second_places t)
 second-number P passed h = h
@@ -114,34 +142,6 @@ module _ (rows cols side : ℕ) (farms : Farms) (elevation : List ℤ) (g : Grid
   -- what the first tests decide
   abbrev pub first : Test
   first = verdict (first_tests rows cols side farms elevation g)
-
-  -- ---- the cases in their order, as the code tests them
-
-  pub rows-refused : size_accepted rows ≡ false → verdict (first_tests rows cols side farms elevation g) ≡ failed 1 0
-  unfolding first_tests early_tests
-  rows-refused e = verdict-stops (long ∷ sided ∷ chosen) (rows-fail rows cols e)
-
-  pub columns-refused : size_accepted cols ≡ false → verdict (first_tests rows cols side farms elevation g) ≡ failed 1 0
-  unfolding first_tests early_tests
-  columns-refused e = verdict-stops (long ∷ sided ∷ chosen) (columns-fail rows cols e)
-
-  module _ (r : size_accepted rows ≡ true) (c : size_accepted cols ≡ true) where
-    size-left : first ≡ verdict (long ∷ sided ∷ chosen)
-    unfolding first_tests early_tests
-    size-left = verdict-next (long ∷ sided ∷ chosen) (size-passes rows cols r c)
-
-    pub long-refused : all_long (rows * cols) (mark_places farms ++ places_of elevation g) ≡ false → verdict (first_tests rows cols side farms elevation g) ≡ failed 2 0
-    long-refused e = size-left ∙ verdict-stops (sided ∷ chosen) (lengths-fail (rows * cols) (mark_places farms ++ places_of elevation g) e)
-
-    module _ (l : all_long (rows * cols) (mark_places farms ++ places_of elevation g) ≡ true) where
-      long-left : first ≡ verdict (sided ∷ chosen)
-      long-left = size-left ∙ verdict-next (sided ∷ chosen) (lengths-pass (rows * cols) (mark_places farms ++ places_of elevation g) l)
-
-      pub side-refused : side_accepted side ≡ false → verdict (first_tests rows cols side farms elevation g) ≡ failed 3 0
-      side-refused e = long-left ∙ verdict-stops chosen (side-fails side e)
-
-      pub farms-left : side_accepted side ≡ true → verdict (first_tests rows cols side farms elevation g) ≡ verdict (farm_tests (rows * cols) farms)
-      farms-left s = long-left ∙ verdict-next chosen (side-passes side s)
 
   -- ---- what is left to the terrain layer
 
@@ -241,6 +241,12 @@ module _ (rows cols side : ℕ) (farms : Farms) (elevation : List ℤ) (g : Grid
   judged-number P a b c d e f h i source = joined_number P (first_tests rows cols side farms elevation g) (heights ∷ later source)
       (first-number P a b c d e) (later-number P f h i source)
 
+  -- each number stands in the table
+  pub judged-row : (source : Source) {number place : ℕ} → judged rows cols side farms source elevation g ≡ failed number place → number_of (fault_of number) ≡ number
+  unfolding fault_of
+  judged-row source e =
+      subst (OfNumber (λ n. number_of (fault_of n) ≡ n)) e (judged-number (λ n. number_of (fault_of n) ≡ n) refl refl refl refl refl refl refl refl source)
+
   -- no number is 0, so an answer with number 0 is no refusal
   pub number-some : (source : Source) → (told (answer rows cols side farms source elevation g)).number ≡ 0 →
       accepts (answer rows cols side farms source elevation g) ≡ true
@@ -254,99 +260,150 @@ module _ (rows cols side : ℕ) (farms : Farms) (elevation : List ℤ) (g : Grid
   pub first-kept : {number place : ℕ} → verdict (first_tests rows cols side farms elevation g) ≡ failed number place → refused_grids number g ≡ g
   first-kept e = subst (OfNumber (λ n. refused_grids n g ≡ g)) e (first-number (λ n. refused_grids n g ≡ g) refl refl refl refl refl)
 
+-- ---- the tests that both calls make first, in their order, as the code makes them
+
+module _ (rows cols side : ℕ) (settings : Settings) (marks : Option ℕ) (elevation : List ℤ) (g : Grids) where
+  abbrev ground : List Test
+  ground = shared_tests rows cols side settings marks elevation g
+
+  ground-refuses : (fault : Fault) (place : ℕ) → verdict (shared_tests rows cols side settings marks elevation g) ≡ failed (number_of fault) place →
+      JudgesGround rows cols side settings marks elevation g (Err (record { fault = fault; place = place }))
+  ground-refuses fault place f = record { verdict-is = sym f; rules-are = (λ rules q. absurd (let z : ◌≡◌ {A = Result Rules Refusal} (Err (record { fault = fault; place = place })) (Ok rules) = q in cc)) }
+
+  pub ground-rows : size_accepted rows ≡ false → JudgesGround rows cols side settings marks elevation g (Err (record { fault = Size; place = 0 }))
+  ground-rows e = ground-refuses Size 0 (verdict-stops _ (rows-fail rows cols e))
+
+  pub ground-columns : size_accepted cols ≡ false → JudgesGround rows cols side settings marks elevation g (Err (record { fault = Size; place = 0 }))
+  ground-columns e = ground-refuses Size 0 (verdict-stops _ (columns-fail rows cols e))
+
+  module _ (r : size_accepted rows ≡ true) (c : size_accepted cols ≡ true) where
+    size-left : verdict ground ≡ verdict (length_test (rows * cols) (places_with marks ++ places_of elevation g) ∷ side_test side ∷ settings_test settings ∷ [])
+    size-left = verdict-next _ (size-passes rows cols r c)
+
+    pub ground-long : all_long (rows * cols) (places_with marks ++ places_of elevation g) ≡ false →
+        JudgesGround rows cols side settings marks elevation g (Err (record { fault = Length; place = 0 }))
+    ground-long e = ground-refuses Length 0 (size-left ∙ verdict-stops _ (lengths-fail (rows * cols) (places_with marks ++ places_of elevation g) e))
+
+    module _ (l : all_long (rows * cols) (places_with marks ++ places_of elevation g) ≡ true) where
+      long-left : verdict ground ≡ verdict (side_test side ∷ settings_test settings ∷ [])
+      long-left = size-left ∙ verdict-next _ (lengths-pass (rows * cols) (places_with marks ++ places_of elevation g) l)
+
+      pub ground-side : side_accepted side ≡ false → JudgesGround rows cols side settings marks elevation g (Err (record { fault = Side; place = 0 }))
+      ground-side e = ground-refuses Side 0 (long-left ∙ verdict-stops _ (side-fails side e))
+
+      pub ground-settings : side_accepted side ≡ true → JudgesGround rows cols side settings marks elevation g (settings_found 0 (judged_of settings))
+      ground-settings s = go (judged_of settings) refl
+        where
+          left : verdict ground ≡ verdict (settings_test settings ∷ [])
+          left = long-left ∙ verdict-next _ (side-passes side s)
+
+          same : {rules : Rules} → rules ≡ rules_of settings → (given : Rules) → ◌≡◌ {A = Result Rules Refusal} (Ok rules) (Ok given) → given ≡ rules_of settings
+          same e given q = cc
+
+          go : (j : Result Rules Bad) → judged_of settings ≡ j → JudgesGround rows cols side settings marks elevation g (settings_found 0 j)
+          go (Ok rules) e =
+              let w = judged-passed settings e in
+              record { verdict-is = sym (left ∙ verdict-next [] w.0 ∙ verdict-none); rules-are = same w.1 }
+          go (Err bad) e = ground-refuses Setting (0 + place_of bad) (left ∙ verdict-stops [] (judged-failed settings e) ∙ ap (failed 4) (omega arith))
+
 -- ---- the judgement of one farm
 
-module _ (rows cols side : ℕ) (settings : Settings) (elevation : List ℤ) (g : Grids) where
-  pub judges-refused : {r : Judgement} {number place : ℕ} → found r ≡ failed number place →
-      verdict (first_tests rows cols side (one settings) elevation g) ≡ failed number place →
-      Judges rows cols side settings elevation g r
-  judges-refused e f = record { verdict-is = e ∙ sym f; rules-are = (λ rules q. absurd (passed-failed (sym (ap found q) ∙ e))) }
-
-  module _ (left : verdict (first_tests rows cols side (one settings) elevation g) ≡ verdict (farm_tests (rows * cols) (one settings))) where
-    pub judges-settings : {j : Judgement} {place : ℕ} → found j ≡ failed 4 place → judged_of settings ≡ Refused place → Judges rows cols side settings elevation g j
-    judges-settings f e = judges-refused f (left ∙ verdict-stops [] (judged-failed settings e))
-
-    pub judges-sound : {rules : Rules} → judged_of settings ≡ Accepted rules → Judges rows cols side settings elevation g (Sound rules)
-    judges-sound {rules} e =
-        let w = judged-passed settings e in
-        record { verdict-is = sym (left ∙ verdict-next [] w.0 ∙ verdict-none); rules-are = same w.1 }
-      where
-        same : rules ≡ rules_of settings → (given : Rules) → Sound rules ≡ Sound given → given ≡ rules_of settings
-        same m given q = cc
+pub one-judged : (rows cols side : ℕ) (settings : Settings) (elevation : List ℤ) (g : Grids) {r : Result Rules Refusal} →
+    JudgesGround rows cols side settings None elevation g r → Judges rows cols side settings elevation g r
+unfolding first_tests early_tests
+one-judged rows cols side settings elevation g j = record { verdict-is = j.verdict-is; rules-are = j.rules-are }
 
 -- ---- the judgement of two farms
 
--- a place in refusal 4 is 1, 2 or 3
-pub place-few : (s : Settings) {place : ℕ} → judged_of s ≡ Refused place → place ≤ 3
-unfolding judged_of verdict_of
-place-few s e = go (leb (rules_of s).low 100) (leb (rules_of s).high 100) (threshold_accepted (rules_of s).threshold) e
+-- the first mark above 1, as the code finds it: there, and where there is none
+marked-at : (marks : List ℕ) {x : ℕ} → position (ltb 1) marks ≡ Some x → (x ≡ first_mark (length marks) marks) × (x < length marks)
+unfolding first_mark
+marked-at marks {x} e =
+    let h = position-Some (ltb 1) marks x 0 e in
+    (sym (first-is (λ y. ltb 1 (farm_at marks y)) (length marks) x h.2 h.0 h.1), h.0)
+
+marked-none : (marks : List ℕ) → position (ltb 1) marks ≡ None → first_mark (length marks) marks ≡ length marks
+unfolding first_mark
+marked-none marks e =
+    first-none (λ y. ltb 1 (farm_at marks y)) (length marks) (λ j h. fails_before_first (ltb 1) marks j 0 (omega (arith, long (either (ltb at (length marks))))))
   where
-    go : {place : ℕ} (a b c : Bool) → cond a (cond b (cond c (Accepted (rules_of s)) (Refused 3)) (Refused 2)) (Refused 1) ≡ Refused place → place ≤ 3
-    go true true true e = let z : ◌≡◌ {A = ℕ} 0 1 = cc in absurd (omega arith)
-    go {place} true true false e = let z : place ≡ 3 = cc in omega arith
-    go {place} true false c e = let z : place ≡ 2 = cc in omega arith
-    go {place} false b c e = let z : place ≡ 1 = cc in omega arith
+    at : ℕ
+    at = position_or_len (ltb 1) marks
+
+    long : (ltb at (length marks) ≡ true) ⊎ (ltb at (length marks) ≡ false) → length marks ≤ at
+    long (inl t) = absurd (let q : ◌≡◌ {A = Option ℕ} (Some at) None = sym (ap (λ (b : Bool). cond b (Some at) None) t) ∙ e in cc)
+    long (inr t) = ltb-false at (length marks) t
 
 module _ (first : Rules) (second : Settings) (marks : List ℕ) where
-  abbrev marked : Test
-  marked = mark_test (length marks) marks
-
   abbrev rest : Test
-  rest = verdict (second_places (settings_test second) ∷ marked ∷ [])
+  rest = verdict (second_places (settings_test second) ∷ mark_test (length marks) marks ∷ [])
 
-  rest-refused : {r : FarmJudgement} {number place : ℕ} → found_in r ≡ failed number place → rest ≡ failed number place → JudgesRest first second marks r
-  rest-refused e f = record { verdict-is = e ∙ sym f; rules-are = (λ a b q. absurd (passed-failed (sym (ap found_in q) ∙ e))) }
+  rest-refuses : (fault : Fault) (place : ℕ) → verdict (second_places (settings_test second) ∷ mark_test (length marks) marks ∷ []) ≡ failed (number_of fault) place →
+      JudgesRest first second marks (Err (record { fault = fault; place = place }))
+  rest-refuses fault place f =
+      record { verdict-is = sym f; rules-are = (λ rules q. absurd (let z : ◌≡◌ {A = Result FarmRules Refusal} (Err (record { fault = fault; place = place })) (Ok rules) = q in cc)) }
 
-  pub rest-settings : {r : FarmJudgement} {place at : ℕ} → found_in r ≡ failed 4 at → judged_of second ≡ Refused place → at ≡ 3 + place →
-      JudgesRest first second marks r
-  rest-settings f e p = rest-refused (f ∙ ap (failed 4) p) (verdict-stops (marked ∷ []) (ap second_places (judged-failed second e)))
+  pub rest-found : {f : Refusal} → Err f ≡ settings_found 3 (judged_of second) → JudgesRest first second marks (Err f)
+  rest-found {f} q = go (judged_of second) refl q
+    where
+      go : (j : Result Rules Bad) → judged_of second ≡ j → Err f ≡ settings_found 3 j → JudgesRest first second marks (Err f)
+      go (Ok rules) e q = absurd (let z : ◌≡◌ {A = Result Rules Refusal} (Err f) (Ok rules) = q in cc)
+      go (Err bad) e q =
+          let z : f ≡ record { fault = Setting; place = 3 + place_of bad } = cc in
+          rw z (rest-refuses Setting (3 + place_of bad) (verdict-stops _ (ap second_places (judged-failed second e))))
 
-  module _ {rules : Rules} (e : judged_of second ≡ Accepted rules) where
-    rest-left : rest ≡ verdict (marked ∷ [])
-    rest-left = verdict-next (marked ∷ []) (ap second_places (judged-passed second e).0)
-
-    pub rest-marks : {r : FarmJudgement} {x : ℕ} → x ≡ first_mark (length marks) marks → x < length marks → found_in r ≡ failed 19 x →
-        JudgesRest first second marks r
-    unfolding mark_test
-    rest-marks {r} {x} q h f =
-        rest-refused f
-        (rest-left
-        ∙ verdict-stops [] (rw (sym q) (test-no 19 x (ap not (lt-ltb x (length marks) h)))))
-
-    pub rest-sound : {x : ℕ} → x ≡ first_mark (length marks) marks → length marks ≤ x → JudgesRest first second marks (farm.Sound first rules)
-    unfolding mark_test
-    rest-sound {x} q h =
-        let passes = test-yes 19 (first_mark (length marks) marks) (ap not (le-ltb (first_mark (length marks) marks) (length marks) (omega arith))) in
-        record { verdict-is = sym (rest-left ∙ verdict-next [] passes ∙ verdict-none); rules-are = same (judged-passed second e).1 }
+  module _ {rules : Rules} (q : Ok rules ≡ settings_found 3 (judged_of second)) where
+    accepted : judged_of second ≡ Ok rules
+    accepted = go (judged_of second) q
       where
-        same : rules ≡ rules_of second → (a b : Rules) → farm.Sound first rules ≡ farm.Sound a b → (a ≡ first) × (b ≡ rules_of second)
-        same m a b q = (cc, cc)
+        go : (j : Result Rules Bad) → Ok rules ≡ settings_found 3 j → j ≡ Ok rules
+        go (Ok given) q = cc
+        go (Err bad) q = absurd (let z : ◌≡◌ {A = Result Rules Refusal} (Ok rules) (Err (record { fault = Setting; place = 3 + place_of bad })) = q in cc)
+
+    rest-left : rest ≡ verdict (mark_test (length marks) marks ∷ [])
+    rest-left = verdict-next _ (ap second_places (judged-passed second accepted).0)
+
+    pub rest-marked : {x : ℕ} → position (ltb 1) marks ≡ Some x → JudgesRest first second marks (Err (record { fault = Mark; place = x }))
+    unfolding mark_test
+    rest-marked {x} p =
+        let m = marked-at marks p in
+        rest-refuses Mark x (rest-left ∙ verdict-stops [] (rw (sym m.0) (test-no 19 x (ap not (lt-ltb x (length marks) m.1)))))
+
+    pub rest-passed : position (ltb 1) marks ≡ None → JudgesRest first second marks (Ok (record { first = first; second = rules }))
+    unfolding mark_test
+    rest-passed p =
+        let h = marked-none marks p in
+        let passes = test-yes 19 (first_mark (length marks) marks) (ap not (le-ltb (first_mark (length marks) marks) (length marks) (omega (arith, h)))) in
+        record { verdict-is = sym (rest-left ∙ verdict-next [] passes ∙ verdict-none); rules-are = same (judged-passed second accepted).1 }
+      where
+        same : rules ≡ rules_of second → (given : FarmRules) → ◌≡◌ {A = Result FarmRules Refusal} (Ok (record { first = first; second = rules })) (Ok given) →
+            (given.first ≡ first) × (given.second ≡ rules_of second)
+        same m given q = let z : record { first = first; second = rules } ≡ given = cc in (sym (ap (λ (f : FarmRules). f.first) z), sym (ap (λ (f : FarmRules). f.second) z) ∙ m)
 
 module _ (rows cols side : ℕ) (first second : Settings) (marks : List ℕ) (elevation : List ℤ) (g : Grids) where
-  abbrev farms : Farms
-  farms = two first second marks
+  pub farms-refused : {f : Refusal} → JudgesGround rows cols side first (Some (length marks)) elevation g (Err f) →
+      JudgesFarms rows cols side first second marks elevation g (Err f)
+  unfolding first_tests early_tests
+  farms-refused {f} j =
+      record {
+        verdict-is = sym (verdict-before (shared_tests rows cols side first (Some (length marks)) elevation g)
+            (second_places (settings_test second) ∷ mark_test (rows * cols) marks ∷ []) (sym j.verdict-is));
+        rules-are = (λ rules q. absurd (let z : ◌≡◌ {A = Result FarmRules Refusal} (Err f) (Ok rules) = q in cc));
+      }
 
-  pub farms-refused : {r : FarmJudgement} {number place : ℕ} → found_in r ≡ failed number place →
-      verdict (first_tests rows cols side (two first second marks) elevation g) ≡ failed number place →
-      JudgesFarms rows cols side first second marks elevation g r
-  farms-refused e f = record { verdict-is = e ∙ sym f; rules-are = (λ a b q. absurd (passed-failed (sym (ap found_in q) ∙ e))) }
-
-  module _ (left : verdict (first_tests rows cols side (two first second marks) elevation g) ≡ verdict (farm_tests (rows * cols) (two first second marks))) where
-    pub farms-settings : {j : FarmJudgement} {place : ℕ} → found_in j ≡ failed 4 place → judged_of first ≡ Refused place →
-        JudgesFarms rows cols side first second marks elevation g j
-    farms-settings f e = farms-refused f (left ∙ verdict-stops _ (judged-failed first e))
-
-    pub farms-rest : {rules : Rules} {j : FarmJudgement} → all_long (rows * cols) (length marks ∷ places_of elevation g) ≡ true →
-        judged_of first ≡ Accepted rules → JudgesRest rules second marks j →
-        JudgesFarms rows cols side first second marks elevation g j
-    farms-rest {rules} l e r =
-        let w = judged-passed first e in
-        let n = (lengths-passed (rows * cols) (length marks ∷ places_of elevation g) (lengths-pass (rows * cols) (length marks ∷ places_of elevation g) l)).0 in
-        record {
-          verdict-is = r.verdict-is ∙ ap (λ (m : ℕ). verdict (second_places (settings_test second) ∷ mark_test m marks ∷ [])) n
-              ∙ sym (left ∙ verdict-next _ w.0);
-          rules-are = (λ a b q. let s = r.rules-are a b q in (s.0 ∙ w.1, s.1));
-        }
+  pub farms-rest : {rules : Rules} {r : Result FarmRules Refusal} → JudgesGround rows cols side first (Some (length marks)) elevation g (Ok rules) →
+      JudgesRest rules second marks r → JudgesFarms rows cols side first second marks elevation g r
+  unfolding first_tests early_tests
+  farms-rest {rules} j r =
+      let e = sym j.verdict-is in
+      let long = (verdict-passed _ _ (verdict-passed _ _ e).1).0 in
+      let n = (lengths-passed (rows * cols) (length marks ∷ places_of elevation g) long).0 in
+      record {
+        verdict-is = r.verdict-is ∙ ap (λ (m : ℕ). verdict (second_places (settings_test second) ∷ mark_test m marks ∷ [])) n
+            ∙ sym (verdict-after (shared_tests rows cols side first (Some (length marks)) elevation g)
+            (second_places (settings_test second) ∷ mark_test (rows * cols) marks ∷ []) e);
+        rules-are = (λ given q. let s = r.rules-are given q in (s.0 ∙ j.rules-are rules refl, s.1));
+      }
 
 -- marks that pass 19 are all 0 or 1
 pub marks-few : (n : ℕ) (s t : Settings) (marks : List ℕ) → length marks ≡ n → verdict (farm_tests n (two s t marks)) ≡ passed → Marked n marks

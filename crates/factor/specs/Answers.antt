@@ -1,9 +1,11 @@
 -- RULES 3 and 7.2 to 7.4: what the map call answers, and what each lent grid holds afterwards; and the tests 1 to 4 by themselves. Assumes nothing.
-use Rattle.std.specs.Prelude.{List, [], ◌∷◌, ◌++◌, ◌≡◌, Bool, true, false, cond, ℕ, ◌*◌, length, replicate, ℤ}
+use Rattle.std.specs.Prelude.{List, [], ◌∷◌, ◌++◌, ◌≡◌, Bool, true, false, cond, ℕ, ◌*◌, length, replicate, ℤ, Result, Ok, Err}
 use Rattle.std.specs.Borrow.{Bor}
 use Rattle.laws.specs.Slices.{Slice}
 use Rattle.laws.specs.Tests.{Test, passed, failed, verdict}
 use Rattle.text.specs.Ranges.{size_test, length_test, side_test, height_test}
+use Rattle.text.specs.Faults.{number_of, fault_of}
+use Rattle.text.specs.declared.Refusal.{Refusal}
 use Rattle.settings.specs.declared.Settings.{Settings}
 use Rattle.settings.specs.declared.Rules.{Rules}
 use Rattle.settings.specs.Settings.{rules_of, settings_test}
@@ -14,12 +16,8 @@ use Rattle.terrain.specs.declared.Source.{Source}
 use Rattle.factor.specs.Farms.{Farms, one, two, rules_in, mark_places, second_places, settings_tests, mark_test, mark_tests}
 use Rattle.factor.specs.Length.{lengths_of}
 use Rattle.factor.specs.Grid.{factors_of}
-use Rattle.factor.specs.declared.Answer.{Answer}
-use Rattle.factor.specs.declared.Answer.TheVariants.{Accepted, Refused}
-use Rattle.factor.specs.declared.tests.Judgement.{Judgement}
-use Rattle.factor.specs.declared.tests.Judgement.TheVariants.{Sound, Unsound}
-use Rattle.factor.specs.declared.tests.FarmJudgement.{FarmJudgement}
-use Rattle.factor.specs.declared.tests.FarmJudgement.TheVariants as farm
+use Rattle.terrain.specs.declared.Summary.{Summary}
+use Rattle.factor.specs.declared.tests.FarmRules.{FarmRules}
 
 -- the grids that a call is lent to write
 pub record Grids : Type 0 where
@@ -84,11 +82,11 @@ map_of rows cols side rules elevation dir =
     let lengths = lengths_of rows cols side rules lv dir count in
     lent (filled_of rows cols elevation) dir count lengths (factors_of rows cols side rules lv dir lengths) (replicate (rows * cols) 0)
 
--- The answer also gives the number of valid cells and the longest trail; a refusal has number and place
-unfoldable pub answer_of : ℕ → ℕ → List ℤ → List ℕ → Test → Answer
-unfolding ground_valids longest_of
-answer_of rows cols elevation dir passed = Accepted (ground_valids rows cols elevation) (longest_of rows cols dir)
-answer_of rows cols elevation dir (failed number place) = Refused (record { number = number; place = place })
+-- The answer gives the number of valid cells and the longest trail; a refusal has fault and place
+unfoldable pub answer_of : ℕ → ℕ → List ℤ → List ℕ → Test → Result Summary Refusal
+unfolding ground_valids longest_of fault_of
+answer_of rows cols elevation dir passed = Ok (record { valid = ground_valids rows cols elevation; longest = longest_of rows cols dir })
+answer_of rows cols elevation dir (failed number place) = Err (record { fault = fault_of number; place = place })
 
 -- A refusal changes no lent grid; 17 and 18 leave zeros in the workspace.
 abbrev pub refused_grids : ℕ → Grids → Grids
@@ -101,7 +99,7 @@ grids_of rows cols side farms elevation dir g passed = map_of rows cols side (ru
 grids_of rows cols side farms elevation dir g (failed number place) = refused_grids number g
 
 -- the whole of the map call, for one farm or two, and for directions of our own or given ones
-unfoldable pub answer : ℕ → ℕ → ℕ → Farms → Source → List ℤ → Grids → Answer
+unfoldable pub answer : ℕ → ℕ → ℕ → Farms → Source → List ℤ → Grids → Result Summary Refusal
 unfolding judged answer_of ground_directions
 answer rows cols side farms source elevation g =
     answer_of rows cols elevation (directions_by source rows cols elevation g.direction) (judged rows cols side farms source elevation g)
@@ -113,29 +111,25 @@ after rows cols side farms source elevation g =
 
 -- ---- the first tests by themselves
 
--- the verdict that a case of the enum stands for
-abbrev pub found : Judgement → Test
-found (Sound rules) = passed
-found (Unsound f) = failed f.number f.place
+-- the verdict that a result stands for
+abbrev pub found : {A : Type 0} → Result A Refusal → Test
+found (Ok a) = passed
+found (Err f) = failed (number_of f.fault) f.place
 
 -- what is found by them; the rules are those of the settings
-pub record Judges (rows cols side : ℕ) (settings : Settings) (elevation : List ℤ) (g : Grids) (r : Judgement) : Type 0 where
+pub record Judges (rows cols side : ℕ) (settings : Settings) (elevation : List ℤ) (g : Grids) (r : Result Rules Refusal) : Type 0 where
   pub verdict-is : found r ≡ verdict (first_tests rows cols side (one settings) elevation g)
-  pub rules-are : (rules : Rules) → r ≡ Sound rules → rules ≡ rules_of settings
+  pub rules-are : (rules : Rules) → r ≡ Ok rules → rules ≡ rules_of settings
 
 -- likewise for two farms
-abbrev pub found_in : FarmJudgement → Test
-found_in (farm.Sound first second) = passed
-found_in (farm.Unsound f) = failed f.number f.place
-
-pub record JudgesFarms (rows cols side : ℕ) (first second : Settings) (marks : List ℕ) (elevation : List ℤ) (g : Grids) (r : FarmJudgement) : Type 0 where
-  pub verdict-is : found_in r ≡ verdict (first_tests rows cols side (two first second marks) elevation g)
-  pub rules-are : (f s : Rules) → r ≡ farm.Sound f s → (f ≡ rules_of first) × (s ≡ rules_of second)
+pub record JudgesFarms (rows cols side : ℕ) (first second : Settings) (marks : List ℕ) (elevation : List ℤ) (g : Grids) (r : Result FarmRules Refusal) : Type 0 where
+  pub verdict-is : found r ≡ verdict (first_tests rows cols side (two first second marks) elevation g)
+  pub rules-are : (rules : FarmRules) → r ≡ Ok rules → (rules.first ≡ rules_of first) × (rules.second ≡ rules_of second)
 
 -- what is found by the last of them, 4 for farm 1 and 19; farm 0's rules are those given
-pub record JudgesRest (first : Rules) (second : Settings) (marks : List ℕ) (r : FarmJudgement) : Type 0 where
-  pub verdict-is : found_in r ≡ verdict (second_places (settings_test second) ∷ mark_test (length marks) marks ∷ [])
-  pub rules-are : (f s : Rules) → r ≡ farm.Sound f s → (f ≡ first) × (s ≡ rules_of second)
+pub record JudgesRest (first : Rules) (second : Settings) (marks : List ℕ) (r : Result FarmRules Refusal) : Type 0 where
+  pub verdict-is : found r ≡ verdict (second_places (settings_test second) ∷ mark_test (length marks) marks ∷ [])
+  pub rules-are : (rules : FarmRules) → r ≡ Ok rules → (rules.first ≡ first) × (rules.second ≡ rules_of second)
 
 -- ---- an answer as the paper's numbers, for the promises of the crates above
 
@@ -147,11 +141,11 @@ pub record Numbers : Type 0 where
   pub longest : ℕ
 
 -- An accepted call has number and place 0; a refusal returns number and place with every other number 0
-abbrev pub told : Answer → Numbers
-told (Accepted valid longest) = record { number = 0; place = 0; valids = valid; longest = longest }
-told (Refused f) = record { number = f.number; place = f.place; valids = 0; longest = 0 }
+abbrev pub told : Result Summary Refusal → Numbers
+told (Ok s) = record { number = 0; place = 0; valids = s.valid; longest = s.longest }
+told (Err f) = record { number = number_of f.fault; place = f.place; valids = 0; longest = 0 }
 
 -- the call was accepted
-abbrev pub accepts : Answer → Bool
-accepts (Accepted valid longest) = true
-accepts (Refused f) = false
+abbrev pub accepts : Result Summary Refusal → Bool
+accepts (Ok s) = true
+accepts (Err f) = false

@@ -1,6 +1,12 @@
 -- Only inner functions cite this file: what they assume, and what they answer. Assumes nothing.
-use Rattle.std.specs.Prelude.{ℕ, ◌+◌, ◌-◌, ◌*◌, ◌/◌, ◌%◌, ◌^◌, ◌≤◌, ◌<◌, Bool, true, cond, List, ◌≡◌, ltb, leb, eqb, ℤ, get_or}
-use Rattle.laws.specs.Tests.{passed, verdict}
+use Rattle.std.specs.Prelude.{ℕ, ◌+◌, ◌-◌, ◌*◌, ◌/◌, ◌%◌, ◌^◌, ◌≤◌, ◌<◌, Bool, true, cond, List, [], ◌∷◌, ◌++◌, ◌≡◌, ltb, leb, eqb, ℤ, get_or, Option, Some, None, Result, Ok, Err}
+use Rattle.laws.specs.Tests.{Test, passed, verdict}
+use Rattle.text.specs.Ranges.{size_test, length_test, side_test}
+use Rattle.text.specs.declared.Refusal.{Refusal}
+use Rattle.settings.specs.declared.Settings.{Settings}
+use Rattle.settings.specs.declared.Setting.{Setting as Bad}
+use Rattle.settings.specs.Settings.{rules_of, place_of, settings_test}
+use Rattle.text.specs.declared.faults.Fault.TheVariants.{Setting}
 use Rattle.settings.specs.declared.Rules.{Rules}
 use Rattle.factor.specs.Inflow.{cutoff_for, step_over, amount_of}
 use Rattle.factor.specs.LengthFactor.{greatest_mm, reached}
@@ -8,8 +14,8 @@ use Rattle.terrain.specs.Filled.{top}
 use Rattle.terrain.specs.Drainage.{Trails, Totals, Surface}
 use Rattle.terrain.specs.declared.Source.{Source}
 use Rattle.factor.specs.Farms.{Farms, rules_in}
-use Rattle.factor.specs.Answers.{Grids, first_tests, answer, after, accepts, told}
-use Rattle.factor.specs.declared.Answer.{Answer}
+use Rattle.factor.specs.Answers.{Grids, places_of, first_tests, answer, after, accepts, told, found}
+use Rattle.terrain.specs.declared.Summary.{Summary}
 
 -- a cell side, and a steepness as small as those of a map: at most twice the square of a drop below 2^21 cm
 pub record Sloping (side q : ℕ) : Type 0 where
@@ -61,6 +67,28 @@ unfoldable pub brought_by : ℕ → Rules → ℕ → ℕ → ℕ → ℕ → �
 unfolding cutoff_for amount_of step_over
 brought_by side rules k p q start len = amount_of (cutoff_for rules.low rules.high side q) q p start (step_over k) len
 
+-- ---- the tests that both calls make first
+
+-- what is found of settings, if a bad one's place comes after so many of another farm's
+abbrev pub settings_found : ℕ → Result Rules Bad → Result Rules Refusal
+settings_found before (Ok rules) = Ok rules
+settings_found before (Err bad) = Err (record { fault = Setting; place = before + place_of bad })
+
+-- how many places marks have, where there are some
+abbrev pub places_with : Option ℕ → List ℕ
+places_with None = []
+places_with (Some n) = n ∷ []
+
+-- 1 to 4, the last for one farm's settings
+abbrev pub shared_tests : ℕ → ℕ → ℕ → Settings → Option ℕ → List ℤ → Grids → List Test
+shared_tests rows cols side settings marks elevation g =
+    size_test rows cols ∷ length_test (rows * cols) (places_with marks ++ places_of elevation g) ∷ side_test side ∷ settings_test settings ∷ []
+
+-- what is found by them
+pub record JudgesGround (rows cols side : ℕ) (settings : Settings) (marks : Option ℕ) (elevation : List ℤ) (g : Grids) (r : Result Rules Refusal) : Type 0 where
+  pub verdict-is : found r ≡ verdict (shared_tests rows cols side settings marks elevation g)
+  pub rules-are : (rules : Rules) → r ≡ Ok rules → rules ≡ rules_of settings
+
 -- ---- the map call after the first tests
 
 module _ (rows cols side : ℕ) (farms : Farms) where
@@ -71,7 +99,7 @@ module _ (rows cols side : ℕ) (farms : Farms) where
 
   -- the promise of the map call, for lent grids g, an answer, and the grids h that it leaves
   module _ (source : Source) (elevation : List ℤ) (g : Grids) where
-    abbrev pub Promised : Answer → Grids → Type 0
+    abbrev pub Promised : Result Summary Refusal → Grids → Type 0
     Promised a h =
         (a ≡ answer rows cols side farms source elevation g)
         × ((h ≡ after rows cols side farms source elevation g)

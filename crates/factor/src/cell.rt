@@ -29,7 +29,7 @@ pub(crate) fn factor_of(
     requires { Measured side q length lists.now }
     ensures { result ≡ factor_of formula side q length }
 {
-    let mm = length * (side as u64) / 1000;
+    let mm = length * u64::from(side) / 1000;
     if GREATEST_MM < mm {
         return TOO_LONG;
     }

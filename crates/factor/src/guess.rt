@@ -13,11 +13,6 @@ use crate::thresholds::{Lists, WIDTH};
 // The table: 1,415 slots for the lengths of each class of slopes, then 2,048 for falls.
 pub(crate) type Guesses = [u16; 7708];
 
-// A guess as an index.
-fn wide(guess: u16) -> usize {
-    guess as usize
-}
-
 // The slot of a length: slots are 32 mm wide below 8,192 mm, and 256 mm above, so that few have two thresholds.
 fn length_slot(class: usize, mm: u32) -> usize
     requires { (class < 4) × (mm ≤ greatest_mm) }
@@ -58,13 +53,15 @@ fn is_sine(side: u32, q: u64, u: usize) -> bool
     sine_reaches(side, q, u) & !sine_reaches(side, q, u + 1)
 }
 
+// The two look-ups are alike: one for both would need a trait with the laws of either test, and be longer than the two.
+//
 // L in hundredths, for a class of slopes and a length in mm: the slot's guess or the next t, if one of them is right.
 pub(crate) fn length_factor(class: usize, mm: u32, lists: &Lists, guesses: &mut Guesses) -> usize
     requires { Looked class mm lists.now }
     ensures { result ≡ length_factor (class + 2) mm }
 {
     let slot = length_slot(class, mm);
-    let guess = wide(guesses[slot]);
+    let guess = usize::from(guesses[slot]);
     if guess < WIDTH - 2 {
         let t = moved_if(length_reaches(class, mm, lists, guess + 1), guess, 1);
         if is_length_factor(class, mm, lists, t) {
@@ -82,7 +79,7 @@ pub(crate) fn sine_of(side: u32, q: u64, fall: u32, guesses: &mut Guesses) -> us
     ensures { result ≡ sine_of side q }
 {
     let slot = fall_slot(fall);
-    let guess = wide(guesses[slot]);
+    let guess = usize::from(guesses[slot]);
     if guess < 1024 {
         let u = moved_if(sine_reaches(side, q, guess + 1), guess, 1);
         if is_sine(side, q, u) {

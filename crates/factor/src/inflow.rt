@@ -28,10 +28,7 @@ pub(crate) fn step_over(k: usize) -> u64
 pub(crate) fn left_by(n: u32) -> u64
     ensures { result ≡ left_by n }
 {
-    if 100 < n {
-        return 0;
-    }
-    let rest = (100 - n) as u64;
+    let rest = u64::from(100u32.saturating_sub(n));
     rest * rest
 }
 

@@ -20,7 +20,7 @@ mod steepness;
 mod tests;
 mod thresholds;
 
-ghost use Rattle.std.specs.Prelude.{◌≡◌, true, ◌*◌, length, replicate};
+ghost use Rattle.std.specs.Prelude.{◌≡◌, true, ◌*◌};
 ghost use Rattle.terrain.specs.Drainage.{Trails, Totals, Surface};
 ghost use Rattle.factor.specs.Farms.{Farms, one, two, of_farm};
 ghost use Rattle.factor.specs.Answers.{lent, lent_before, lent_after, answer, after, told, accepts};
@@ -29,39 +29,18 @@ ghost use Rattle.factor.specs.InnerPass.{farm_by, Naming};
 
 pub use cell::TOO_LONG;
 pub use channel::{channel_bound, largest};
-use settings::Rules;
 pub use settings::{Channel, Settings};
-pub use terrain::Source;
-pub use tests::{FarmJudgement, Judgement, judge, judge_farms, judge_rest};
+pub use terrain::{Source, Summary};
+pub use tests::{FarmRules, judge, judge_farms, judge_rest};
 use text::Refusal;
 
-// The answer of the map call: the number of valid cells and the steps of the longest trail, or why there is no map.
-#[derive(Clone, Copy)]
-pub enum Answer {
-    Accepted { valid: u32, longest: u32 },
-    Refused(Refusal),
-}
-
-// Sets every place of the workspace to 0.
-fn clear(workspace: &mut [u32])
-    ensures { workspace.new ≡ replicate (length workspace.old) 0 }
-{
-    let mut x: usize = 0;
-    while x < workspace.len() {
-        workspace[x] = 0;
-        x += 1;
-    }
-}
-
-// Maps a ground that passed the first tests, each cell by the rules of the farm that it names: at the place x * `each` of the marks.
+// Maps a ground that passed the first tests, each cell by the rules of the farm that it names, or of farm 0 where there are no marks.
 fn map_sound(
     rows: usize,
     columns: usize,
     side: u32,
-    first: Rules,
-    second: Rules,
-    marks: &[u8],
-    each: usize,
+    rules: FarmRules,
+    marks: Option<&[u8]>,
     source: Source,
     elevation: &[i32],
     filled: &mut [i32],
@@ -70,44 +49,34 @@ fn map_sound(
     lengths: &mut [u64],
     factors: &mut [u32],
     workspace: &mut [u32],
-) -> Answer
+) -> Result<Summary, Refusal>
     requires { ((farms : Farms) ×
-        Passing rows columns side farms (λ x. of_farm first second (farm_by marks.now each x)) elevation.now
+        Passing rows columns side farms (λ x. of_farm rules.first rules.second (farm_by marks x)) elevation.now
         (lent filled.old direction.old count.old lengths.old factors.old workspace.old))
-        × Naming (rows * columns) marks.now each }
+        × Naming (rows * columns) marks }
     ensures { (farms : Farms) →
-        Passing rows columns side farms (λ x. of_farm first second (farm_by marks.now each x)) elevation.now
+        Passing rows columns side farms (λ x. of_farm rules.first rules.second (farm_by marks.entry x)) elevation.now
         (lent_before filled direction count lengths factors workspace) →
         Promised rows columns side farms source elevation.now (lent_before filled direction count lengths factors workspace)
         result (lent_after filled direction count lengths factors workspace) }
 {
-    let drained = terrain::map(
+    let summary = terrain::map(
         rows, columns, source, elevation, filled, direction, count, factors, workspace,
+    )?;
+    pass::measure(
+        columns,
+        side,
+        rules,
+        marks,
+        direction,
+        count,
+        workspace,
+        summary.valid as usize,
+        lengths,
+        factors,
     );
-    match drained {
-        terrain::Answer::Refused(refusal) => Answer::Refused(refusal),
-        terrain::Answer::Accepted { valid, longest } => {
-            pass::measure(
-                columns,
-                side,
-                first,
-                second,
-                marks,
-                each,
-                direction,
-                count,
-                workspace,
-                valid as usize,
-                lengths,
-                factors,
-            );
-            clear(workspace);
-            Answer::Accepted {
-                valid: valid,
-                longest: longest,
-            }
-        }
-    }
+    workspace.fill(0);
+    Ok(summary)
 }
 
 // Maps a ground of rows times columns heights with cells of the given side in cm, each lent grid and the workspace having
@@ -126,7 +95,7 @@ pub fn map(
     lengths: &mut [u64],
     factors: &mut [u32],
     workspace: &mut [u32],
-) -> Answer
+) -> Result<Summary, Refusal>
     ensures answers { result
         ≡ answer rows columns side (one settings) source elevation.now (lent_before filled direction count lengths factors workspace) }
     ensures leaves { lent_after filled direction count lengths factors workspace
@@ -136,18 +105,18 @@ pub fn map(
         Totals rows columns elevation.now direction.new count.new (told result).valids }
     ensures surface { accepts result ≡ true → Surface rows columns elevation.now filled.new }
 {
-    let judgement = judge(
+    let rules = judge(
         rows, columns, side, settings, elevation, filled, direction, count, lengths, factors,
         workspace,
-    );
-    let farm = [0u8];
-    match judgement {
-        Judgement::Unsound(refusal) => Answer::Refused(refusal),
-        Judgement::Sound(rules) => map_sound(
-            rows, columns, side, rules, rules, &farm, 0, source, elevation, filled, direction,
-            count, lengths, factors, workspace,
-        ),
-    }
+    )?;
+    let both = FarmRules {
+        first: rules,
+        second: rules,
+    };
+    map_sound(
+        rows, columns, side, both, None, source, elevation, filled, direction, count, lengths,
+        factors, workspace,
+    )
 }
 
 // Maps a ground for two farms: each cell names farm 0 or 1, and has that farm's settings. All else is as for one farm.
@@ -166,7 +135,7 @@ pub fn map_farms(
     lengths: &mut [u64],
     factors: &mut [u32],
     workspace: &mut [u32],
-) -> Answer
+) -> Result<Summary, Refusal>
     ensures answers { result ≡ answer rows columns side (two first second marks.now) source elevation.now
         (lent_before filled direction count lengths factors workspace) }
     ensures leaves { lent_after filled direction count lengths factors workspace
@@ -177,15 +146,23 @@ pub fn map_farms(
         Totals rows columns elevation.now direction.new count.new (told result).valids }
     ensures surface { accepts result ≡ true → Surface rows columns elevation.now filled.new }
 {
-    let judgement = judge_farms(
+    let rules = judge_farms(
         rows, columns, side, first, second, marks, elevation, filled, direction, count, lengths,
         factors, workspace,
-    );
-    match judgement {
-        FarmJudgement::Unsound(refusal) => Answer::Refused(refusal),
-        FarmJudgement::Sound { first, second } => map_sound(
-            rows, columns, side, first, second, marks, 1, source, elevation, filled, direction,
-            count, lengths, factors, workspace,
-        ),
-    }
+    )?;
+    map_sound(
+        rows,
+        columns,
+        side,
+        rules,
+        Some(marks),
+        source,
+        elevation,
+        filled,
+        direction,
+        count,
+        lengths,
+        factors,
+        workspace,
+    )
 }

@@ -3,7 +3,7 @@
 //
 // The grid of lengths holds what is gathered until a cell's turn comes: one more than the greatest amount brought, 0 for none. The
 // grid of factors holds the cells' falls until then, and NoData's LS, which is NoData's fall too.
-ghost use Rattle.std.specs.Prelude.{◌≡◌, List, [], ◌∷◌, length, get_or, replicate, ltb, ℕ, ◌*◌, ◌≤◌, ◌<◌, max};
+ghost use Rattle.std.specs.Prelude.{◌≡◌, List, length, get_or, ltb, ℕ, ◌*◌, ◌≤◌, ◌<◌};
 ghost use Rattle.terrain.specs.InnerCells.{Beside, beside_of};
 ghost use Rattle.terrain.specs.Cells.{Shifts};
 ghost use Rattle.settings.specs.declared.Rules.{Rules};
@@ -12,63 +12,77 @@ ghost use Rattle.factor.specs.Inflow.{cutoff_for};
 ghost use Rattle.factor.specs.Length.{lengths_of};
 ghost use Rattle.factor.specs.Grid.{factors_of};
 ghost use Rattle.factor.specs.Inner.{steepest, greatest_length, steepness_of, final_length, left_by, brought_by, Sloping, Listed};
-ghost use Rattle.factor.specs.InnerPass.{farm_by, Naming, formula_in, Ruled, Bounds, Settling, Settled, Receiving, lengths_with, Turning, Turned, Measuring};
+ghost use Rattle.factor.specs.InnerPass.{farm_by, farm_in, Marking, Naming, Sided, Ruled, Farmed, Settling, Settled, Receiving, lengths_with, Turning, Turned, Measuring};
 
 use crate::cell::factor_of;
 use crate::channel::{channel_bound, largest};
 use crate::guess::Guesses;
 use crate::inflow::{amount_of, left_by, start_length, step_over};
 use crate::slope::{Slope, steepness_of};
+use crate::tests::FarmRules;
 use crate::thresholds;
 use crate::thresholds::Lists;
 use settings::{Formula, Rules};
 
-// What lengths and LS are measured by: the columns of the map, its cell side in cm, and the steepness formula of farm 0 and of farm 1.
-//
-// Beside it stand two tables, made once for a map, which each cell reads at its farm: the `lefts`, what the high cutoffs of farm 0 and of
-// farm 1 leave, squared, then their low ones; and the `bounds`, the greatest count of each farm that is no channel's. The cell x names its
-// farm at the place x * each of the `marks`: with `each` 1 every cell has a mark of its own, with 0 one mark stands for all of them.
+// What the cells of a farm are measured by: what its high and its low cutoff leave, squared, the greatest count that is no channel's, and its
+// steepness formula.
 #[derive(Clone, Copy)]
+pub(crate) struct Farm {
+    high: u64,
+    low: u64,
+    most: u64,
+    formula: Formula,
+}
+
+impl Farm {
+    // By the farm's rules and the largest flow count of the map.
+    fn new(rules: Rules, largest: u32) -> Farm
+        ensures { Farmed rules largest result }
+    {
+        Farm {
+            high: left_by(rules.high),
+            low: left_by(rules.low),
+            most: channel_bound(rules.threshold, largest),
+            formula: rules.formula,
+        }
+    }
+}
+
+// What lengths and LS are measured by: the columns of the map, its cell side in cm, and farm 0 and farm 1.
+#[derive(Drop)]
 pub(crate) struct Terms {
     columns: usize,
     side: u32,
-    first: Formula,
-    second: Formula,
+    first: Farm,
+    second: Farm,
 }
 
-// A mark as an index.
-fn wide(mark: u8) -> usize
-    ensures { result ≡ mark }
+// The farm that the cell x names; farm 0 without marks.
+fn farm_of(terms: &Terms, marks: Option<&[u8]>, x: usize) -> Farm
+    requires { Marking marks x }
+    ensures { result ≡ farm_in terms.now (farm_by marks.entry x) }
 {
-    mark as usize
+    match marks {
+        None => terms.first,
+        Some(marks) => {
+            if marks[x] == 0 {
+                terms.first
+            } else {
+                terms.second
+            }
+        }
+    }
 }
 
-// The farm that the cell x names.
-fn farm_of(marks: &[u8], each: usize, x: usize) -> usize
-    requires { (length marks.now ≤ 1048576) × (x * each < length marks.now) }
-    ensures { result ≡ farm_by marks.now each x }
-{
-    let place = x * each;
-    wide(marks[place])
-}
-
-fn longer(a: u64, b: u64) -> u64
-    ensures { result ≡ max a b }
-{
-    if a < b { b } else { a }
-}
-
-// The length of a cell of this count, from where it would start and what is gathered there. Counts above `most` are those of channels.
+// The length of a cell of this count, from where it would start and what is gathered there. Counts above `most` are those of channels. An
+// Option of what is gathered has no place in the lent grid, so 0 stands for none there.
 fn final_length(most: u64, count: u32, start: u64, gathered: u64) -> u64
     ensures { result ≡ final_length (ltb most count) start gathered }
 {
-    if most < count as u64 {
+    if most < u64::from(count) {
         return 0;
     }
-    if gathered < 1 {
-        return start;
-    }
-    gathered - 1
+    gathered.checked_sub(1).unwrap_or(start)
 }
 
 // The neighbour k of a cell x that has it, by the shifts.
@@ -80,55 +94,29 @@ fn beside(columns: usize, shifts: &[usize; 8], x: usize, k: usize) -> usize
 }
 
 // What is left, squared, by the cutoff that a cell of this farm and of steepness q uses for its inflows.
-fn left_for(terms: Terms, lefts: &[u64; 4], farm: usize, q: u64) -> u64
-    requires { Sloping terms.side q × (farm < 2) }
-    ensures { (rules : Rules) → Ruled rules terms lefts.now farm → result ≡ left_by (cutoff_for rules.low rules.high terms.side q) }
+fn left_for(side: u32, farm: Farm, q: u64) -> u64
+    requires { Sloping side q }
+    ensures { (rules : Rules) → Ruled rules farm → result ≡ left_by (cutoff_for rules.low rules.high side q) }
 {
-    let slope = Slope {
-        side: terms.side,
-        q,
-    };
-    if slope.is_at_least(5) {
-        return lefts[farm];
+    if (Slope { side, q }).is_at_least(5) {
+        return farm.high;
     }
-    lefts[2 + farm]
+    farm.low
 }
 
 // What an inflow of steepness p and this length brings to its neighbour k, a cell of this farm and of steepness q whose length would start with `start`.
-fn brought(
-    terms: Terms,
-    lefts: &[u64; 4],
-    farm: usize,
-    k: usize,
-    p: u64,
-    q: u64,
-    start: u64,
-    length: u64,
-) -> u64
-    requires { (p ≤ steepest) × (q ≤ steepest) × (length ≤ greatest_length) × ((rules : Rules) × Ruled rules terms lefts.now farm) }
-    ensures { (rules : Rules) → Ruled rules terms lefts.now farm → result ≡ brought_by terms.side rules k p q start length }
+fn brought(side: u32, farm: Farm, k: usize, p: u64, q: u64, start: u64, length: u64) -> u64
+    requires { Sided side × (p ≤ steepest) × (q ≤ steepest) × (length ≤ greatest_length) × ((rules : Rules) × Ruled rules farm) }
+    ensures { (rules : Rules) → Ruled rules farm → result ≡ brought_by side rules k p q start length }
 {
-    let left = left_for(terms, lefts, farm, q);
+    let left = left_for(side, farm, q);
     amount_of(left, q, p, start, step_over(k), length)
-}
-
-// The steepness formula of a farm.
-fn formula_in(terms: Terms, farm: usize) -> Formula
-    ensures { result ≡ formula_in terms farm }
-{
-    if farm == 0 {
-        let first = terms.first;
-        return first;
-    }
-    let second = terms.second;
-    second
 }
 
 // Stores the length and the LS of the cell x of this farm and fall, of steepness q, whose inflows have handed on; gives the length.
 fn settle(
-    terms: Terms,
-    bounds: &[u64; 2],
-    farm: usize,
+    side: u32,
+    farm: Farm,
     direction: &[u8],
     count: &[u32],
     lengths: &mut [u64],
@@ -139,28 +127,21 @@ fn settle(
     lists: &Lists,
     guesses: &mut Guesses,
 ) -> u64
-    requires { Settling terms farm direction.now count.now lengths.old factors.old x
+    requires { Settling side direction.now count.now lengths.old factors.old x
         × (fall ≡ get_or factors.old x 0) × (q ≡ steepness_of (get_or factors.old x 0)) × Listed lists.now }
-    ensures { Settled terms bounds.now farm direction.now count.now lengths.old factors.old x result
+    ensures { Settled side farm direction.now count.now lengths.old factors.old x result
         lengths.new factors.new }
 {
-    let length = final_length(
-        bounds[farm],
-        count[x],
-        start_length(direction[x]),
-        lengths[x],
-    );
+    let length = final_length(farm.most, count[x], start_length(direction[x]), lengths[x]);
     lengths[x] = length;
-    let formula = formula_in(terms, farm);
-    factors[x] = factor_of(formula, terms.side, q, length, fall, lists, guesses);
+    factors[x] = factor_of(farm.formula, side, q, length, fall, lists, guesses);
     length
 }
 
 // Hands on to the cell y of this farm, the neighbour k of an inflow of steepness p and this length.
 fn hand_on(
-    terms: Terms,
-    lefts: &[u64; 4],
-    farm: usize,
+    side: u32,
+    farm: Farm,
     direction: &[u8],
     lengths: &mut [u64],
     factors: &[u32],
@@ -169,13 +150,12 @@ fn hand_on(
     p: u64,
     length: u64,
 )
-    requires { Receiving terms lefts.now farm direction.now lengths.old factors.now y p length }
-    ensures { (rules : Rules) → Ruled rules terms lefts.now farm →
-        lengths.new ≡ lengths_with terms rules direction.now lengths.old factors.now y k p length }
+    requires { Receiving side farm direction.now lengths.old factors.now y p length }
+    ensures { (rules : Rules) → Ruled rules farm →
+        lengths.new ≡ lengths_with side rules direction.now lengths.old factors.now y k p length }
 {
     let amount = brought(
-        terms,
-        lefts,
+        side,
         farm,
         k,
         p,
@@ -183,16 +163,13 @@ fn hand_on(
         start_length(direction[y]),
         length,
     );
-    lengths[y] = longer(lengths[y], amount + 1);
+    lengths[y] = lengths[y].max(amount + 1);
 }
 
 // The turn of the cell x.
 fn turn(
-    terms: Terms,
-    lefts: &[u64; 4],
-    bounds: &[u64; 2],
-    marks: &[u8],
-    each: usize,
+    terms: &Terms,
+    marks: Option<&[u8]>,
     direction: &[u8],
     count: &[u32],
     lengths: &mut [u64],
@@ -202,18 +179,16 @@ fn turn(
     lists: &Lists,
     guesses: &mut Guesses,
 )
-    requires { Turning terms lefts.now (farm_by marks.now each) direction.now count.now lengths.old factors.old x
-        × Listed lists.now × Shifts terms.columns shifts.now × Naming (length direction.now) marks.now each }
-    ensures { Turned terms lefts.now bounds.now (farm_by marks.now each)
-        direction.now count.now lengths.old factors.old x
+    requires { Turning terms.now (λ y. farm_in terms.now (farm_by marks y)) direction.now count.now lengths.old factors.old x
+        × Listed lists.now × Shifts terms.now.columns shifts.now × Naming (length direction.now) marks }
+    ensures { Turned terms.now (λ y. farm_in terms.now (farm_by marks.entry y)) direction.now count.now lengths.old factors.old x
         lengths.new factors.new }
 {
     let fall = factors[x];
     let p = steepness_of(fall);
     let length = settle(
-        terms,
-        bounds,
-        farm_of(marks, each, x),
+        terms.side,
+        farm_of(terms, marks, x),
         direction,
         count,
         lengths,
@@ -230,9 +205,8 @@ fn turn(
     }
     let y = beside(terms.columns, shifts, x, k);
     hand_on(
-        terms,
-        lefts,
-        farm_of(marks, each, y),
+        terms.side,
+        farm_of(terms, marks, y),
         direction,
         lengths,
         factors,
@@ -243,48 +217,13 @@ fn turn(
     );
 }
 
-// Sets every length to 0.
-fn clear(lengths: &mut [u64])
-    ensures { lengths.new ≡ replicate (length lengths.old) 0 }
-{
-    let mut x: usize = 0;
-    while x < lengths.len() {
-        lengths[x] = 0;
-        x += 1;
-    }
-}
-
-// What the cutoffs of two farms leave, squared: the high ones, then the low ones.
-fn lefts_of(first: Rules, second: Rules) -> [u64; 4]
-    ensures { result ≡ left_by first.high ∷ left_by second.high ∷ left_by first.low ∷ left_by second.low ∷ [] }
-{
-    let high = left_by(first.high);
-    let high_second = left_by(second.high);
-    let low = left_by(first.low);
-    let low_second = left_by(second.low);
-    [high, high_second, low, low_second]
-}
-
-// The greatest count of each of two farms that is no channel's, by the largest flow count of the map.
-fn bounds_of(first: Rules, second: Rules, largest: u32) -> [u64; 2]
-    ensures { Bounds first second largest result }
-{
-    let threshold = first.threshold;
-    let threshold_second = second.threshold;
-    let bound = channel_bound(threshold, largest);
-    let bound_second = channel_bound(threshold_second, largest);
-    [bound, bound_second]
-}
-
 // The length and the LS of every cell by the rules of the farm that it names, from the falls in `factors`, along the order of the valid
 // cells at the first places.
 pub(crate) fn measure(
     columns: usize,
     side: u32,
-    first: Rules,
-    second: Rules,
-    marks: &[u8],
-    each: usize,
+    rules: FarmRules,
+    marks: Option<&[u8]>,
     direction: &[u8],
     count: &[u32],
     order: &[u32],
@@ -293,38 +232,31 @@ pub(crate) fn measure(
     factors: &mut [u32],
 )
     requires { (rows : ℕ) × (lv : List ℕ) × Measuring rows columns side lv direction.now count.now order.now places lengths.old factors.old
-        × Naming (rows * columns) marks.now each }
+        × Naming (rows * columns) marks }
     ensures { (rows : ℕ) (lv : List ℕ) →
         Measuring rows columns side lv direction.now count.now order.now places
         lengths.old factors.old →
-        Naming (rows * columns) marks.now each →
+        Naming (rows * columns) marks.entry →
         (lengths.new
-        ≡ lengths_of rows columns side (λ x. of_farm first second (farm_by marks.now each x)) lv direction.now count.now)
+        ≡ lengths_of rows columns side (λ x. of_farm rules.first rules.second (farm_by marks.entry x)) lv direction.now count.now)
         × (factors.new
-        ≡ factors_of rows columns side (λ x. of_farm first second (farm_by marks.now each x)) lv direction.now lengths.new) }
+        ≡ factors_of rows columns side (λ x. of_farm rules.first rules.second (farm_by marks.entry x)) lv direction.now lengths.new) }
 {
-    let formula = first.formula;
-    let formula_second = second.formula;
+    let most = largest(count);
     let terms = Terms {
-        columns: columns,
-        side: side,
-        first: formula,
-        second: formula_second,
+        columns,
+        side,
+        first: Farm::new(rules.first, most),
+        second: Farm::new(rules.second, most),
     };
-    let lefts = lefts_of(first, second);
-    let bounds = bounds_of(first, second, largest(count));
     let shifts = terrain::shifts_of(columns);
     let lists = thresholds::all();
     let mut guesses: Guesses = [0; 7708];
-    clear(lengths);
-    let mut place: usize = 0;
-    while place < places {
+    lengths.fill(0);
+    for place in 0..places {
         turn(
-            terms,
-            &lefts,
-            &bounds,
+            &terms,
             marks,
-            each,
             direction,
             count,
             lengths,
@@ -334,6 +266,5 @@ pub(crate) fn measure(
             &lists,
             &mut guesses,
         );
-        place += 1;
     }
 }

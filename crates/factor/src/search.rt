@@ -6,5 +6,5 @@ pub(crate) fn moved_if(test: bool, at: usize, n: usize) -> usize
     requires { at + n < 2 ^ 64 }
     ensures { result ≡ cond test (at + n) at }
 {
-    at + n * (test as usize)
+    at + n * usize::from(test)
 }

@@ -11,7 +11,7 @@ pub(crate) fn sine_reaches(side: u32, q: u64, u: usize) -> bool
     ensures { result ≡ sine_reaches side q u }
 {
     let n = u as u64;
-    let c = side as u64;
+    let c = u64::from(side);
     n * n * (q + 2 * (c * c)) <= 1000000 * q
 }
 

@@ -16,7 +16,8 @@ impl Slope {
         requires { Sloping self.side self.q × (percent ≤ 100) }
         ensures { result ≡ at_least percent self.side self.q }
     {
-        let square = (self.side as u64) * (self.side as u64);
+        let side = u64::from(self.side);
+        let square = side * side;
         percent * percent * square <= 5000 * self.q
     }
 
@@ -25,7 +26,8 @@ impl Slope {
         requires { Sloping self.side self.q × (percent ≤ 100) }
         ensures { result ≡ above percent self.side self.q }
     {
-        let square = (self.side as u64) * (self.side as u64);
+        let side = u64::from(self.side);
+        let square = side * side;
         percent * percent * square < 5000 * self.q
     }
 }
@@ -35,7 +37,7 @@ pub(crate) fn steepness_of(fall: u32) -> u64
     requires { fall ≤ greatest_fall }
     ensures { result ≡ steepness_of fall }
 {
-    let drop = (fall / 2) as u64;
+    let drop = u64::from(fall / 2);
     let square = drop * drop;
     if fall % 2 == 0 {
         return 2 * square;

@@ -6,7 +6,7 @@
 //
 // Sines and S are in thousandths. RULES 6.3.
 ghost use Rattle.std.specs.Prelude.{◌≡◌, true, ◌≤◌};
-ghost use Rattle.factor.specs.Steepness.{older_factor, newer_factor, counted, steepness_factor};
+ghost use Rattle.factor.specs.Steepness.{older_factor, newer_factor, steepness_factor};
 ghost use Rattle.factor.specs.Inner.{Sloping};
 
 use crate::guess::{Guesses, sine_of};
@@ -19,13 +19,6 @@ fn older_factor(u: u64) -> u64
     ensures { result ≡ older_factor u }
 {
     (65410 * (u * u) + 4560000 * u + 65000000) / 1000000
-}
-
-// A sine of 0 counts as 1 in the newer formula.
-fn counted_sine(u: u64) -> u64
-    ensures { result ≡ counted u }
-{
-    if u < 1 { 1 } else { u }
 }
 
 // S by the newer formula, for a slope of nine percent or more, or below.
@@ -55,7 +48,8 @@ pub(crate) fn steepness_factor(
         Formula::Older => older_factor(u),
         Formula::Newer => {
             let steep = Slope { side, q }.is_at_least(9);
-            newer_factor(steep, counted_sine(u))
+            // A sine of 0 counts as 1.
+            newer_factor(steep, u.max(1))
         }
     }
 }

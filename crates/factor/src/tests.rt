@@ -1,33 +1,24 @@
 // The tests of refusals 1 to 4, and of 19 for two farms, which are judged before the terrain layer is called; it judges 5. RULES 3.2.
-ghost use Rattle.std.specs.Prelude.{◌≡◌, ◌∷◌, length};
-ghost use Rattle.laws.specs.Tests.{failed};
+ghost use Rattle.std.specs.Prelude.{◌≡◌, ◌≤◌, ◌++◌, ltb, position};
 ghost use Rattle.text.specs.Ranges.{all_long};
-ghost use Rattle.settings.specs.declared.Settings.{Settings};
-ghost use Rattle.factor.specs.Farms.{first_mark};
-ghost use Rattle.factor.specs.Answers.{lent_at, places_of, found, Judges, found_in, JudgesFarms, JudgesRest};
+ghost use Rattle.settings.specs.Settings.{judged_of};
+ghost use Rattle.factor.specs.Answers.{lent_at, places_of, Judges, JudgesFarms, JudgesRest};
+ghost use Rattle.factor.specs.Inner.{places_with, settings_found, JudgesGround};
 
-use settings::{Judged, Rules, Settings};
-use text::Refusal;
+use settings::{Rules, Settings};
+use text::{Fault, Refusal};
 
-// What is found of a call: the rules of its settings, or why it is refused.
+// The rules of farm 0 and of farm 1.
 #[derive(Clone, Copy)]
-pub enum Judgement {
-    Sound(Rules),
-    Unsound(Refusal),
+pub struct FarmRules {
+    pub first: Rules,
+    pub second: Rules,
 }
 
-fn unsound(number: u32, place: usize) -> Judgement
-    ensures { found result ≡ failed number place }
-{
-    Judgement::Unsound(Refusal {
-        number: number,
-        place: place,
-    })
-}
-
-// Whether every lent slice has one place per cell.
+// Whether every lent slice, and the marks where there are some, have one place per cell. C lends each slice by itself.
 fn are_long(
     cells: usize,
+    marks: Option<usize>,
     elevation: &[i32],
     filled: &[i32],
     direction: &[u8],
@@ -36,15 +27,77 @@ fn are_long(
     factors: &[u32],
     workspace: &[u32],
 ) -> bool
-    ensures { result ≡ all_long cells (places_of elevation.now (lent_at filled.entry direction.entry count.entry lengths.entry factors.entry workspace.entry)) }
+    ensures { result ≡ all_long cells (places_with marks ++ places_of elevation.now
+        (lent_at filled.entry direction.entry count.entry lengths.entry factors.entry workspace.entry)) }
 {
-    (elevation.len() == cells)
+    (marks.unwrap_or(cells) == cells)
+        & (elevation.len() == cells)
         & (filled.len() == cells)
         & (direction.len() == cells)
         & (count.len() == cells)
         & (lengths.len() == cells)
         & (factors.len() == cells)
         & (workspace.len() == cells)
+}
+
+// Judges settings; the place of a bad one comes after so many of another farm's.
+fn judge_settings(settings: Settings, before: usize) -> Result<Rules, Refusal>
+    requires { before ≤ 3 }
+    ensures { result ≡ settings_found before (judged_of settings) }
+{
+    settings::judge(settings).map_err(|setting| Refusal {
+        fault: Fault::Setting,
+        place: before + setting.place(),
+    })
+}
+
+// Makes the tests of refusals 1 to 4 that both calls make first, where there are so many marks.
+fn judge_ground(
+    rows: usize,
+    columns: usize,
+    side: u32,
+    settings: Settings,
+    marks: Option<usize>,
+    elevation: &[i32],
+    filled: &[i32],
+    direction: &[u8],
+    count: &[u32],
+    lengths: &[u64],
+    factors: &[u32],
+    workspace: &[u32],
+) -> Result<Rules, Refusal>
+    ensures { JudgesGround rows columns side settings marks elevation.now
+        (lent_at filled.entry direction.entry count.entry lengths.entry factors.entry workspace.entry) result }
+{
+    if !text::is_size(rows) || !text::is_size(columns) {
+        return Err(Refusal {
+            fault: Fault::Size,
+            place: 0,
+        });
+    }
+    if !are_long(
+        rows * columns,
+        marks,
+        elevation,
+        filled,
+        direction,
+        count,
+        lengths,
+        factors,
+        workspace,
+    ) {
+        return Err(Refusal {
+            fault: Fault::Length,
+            place: 0,
+        });
+    }
+    if !text::is_side(side) {
+        return Err(Refusal {
+            fault: Fault::Side,
+            place: 0,
+        });
+    }
+    judge_settings(settings, 0)
 }
 
 // Makes the tests of refusals 1 to 4 of the map call, in that order, and maps nothing.
@@ -60,105 +113,33 @@ pub fn judge(
     lengths: &[u64],
     factors: &[u32],
     workspace: &[u32],
-) -> Judgement
+) -> Result<Rules, Refusal>
     ensures { Judges rows columns side settings elevation.now (lent_at filled.entry direction.entry count.entry lengths.entry factors.entry workspace.entry) result }
 {
-    if !text::is_size(rows) {
-        return unsound(1, 0);
-    }
-    if !text::is_size(columns) {
-        return unsound(1, 0);
-    }
-    if !are_long(
-        rows * columns,
-        elevation,
-        filled,
-        direction,
-        count,
-        lengths,
-        factors,
+    judge_ground(
+        rows, columns, side, settings, None, elevation, filled, direction, count, lengths, factors,
         workspace,
-    ) {
-        return unsound(2, 0);
-    }
-    if !text::is_side(side) {
-        return unsound(3, 0);
-    }
-    let judged = settings::judge(settings);
-    match judged {
-        Judged::Accepted(rules) => Judgement::Sound(rules),
-        Judged::Refused(place) => unsound(4, place),
-    }
+    )
 }
 
-// What is found of a call for two farms: the rules of each one's settings, or why it is refused.
-#[derive(Clone, Copy)]
-pub enum FarmJudgement {
-    Sound { first: Rules, second: Rules },
-    Unsound(Refusal),
-}
-
-fn unsound_farms(number: u32, place: usize) -> FarmJudgement
-    ensures { found_in result ≡ failed number place }
+// The first cell with a mark above 1.
+fn first_mark(marks: &[u8]) -> Option<usize>
+    ensures { result ≡ position (ltb 1) marks.now }
 {
-    FarmJudgement::Unsound(Refusal {
-        number: number,
-        place: place,
-    })
-}
-
-// Whether the marks and every lent slice have one place per cell.
-fn are_long_in(
-    cells: usize,
-    marks: &[u8],
-    elevation: &[i32],
-    filled: &[i32],
-    direction: &[u8],
-    count: &[u32],
-    lengths: &[u64],
-    factors: &[u32],
-    workspace: &[u32],
-) -> bool
-    ensures { result ≡ all_long cells
-        (length marks.now ∷ places_of elevation.now (lent_at filled.entry direction.entry count.entry lengths.entry factors.entry workspace.entry)) }
-{
-    (marks.len() == cells)
-        & are_long(
-            cells, elevation, filled, direction, count, lengths, factors, workspace,
-        )
-}
-
-// The first cell with a mark above 1; the number of marks where there is none.
-fn first_mark(marks: &[u8]) -> usize
-    ensures { result ≡ first_mark (length marks.now) marks.now }
-{
-    let mut x: usize = 0;
-    while x < marks.len() {
-        if 1 < marks[x] {
-            return x;
-        }
-        x += 1;
-    }
-    x
+    marks.iter().position(|mark| 1 < *mark)
 }
 
 // Makes the tests of refusal 4 for farm 1 and of 19, once those before them are passed.
-pub fn judge_rest(first: Rules, second: Settings, marks: &[u8]) -> FarmJudgement
+pub fn judge_rest(first: Rules, second: Settings, marks: &[u8]) -> Result<FarmRules, Refusal>
     ensures { JudgesRest first second marks.now result }
 {
-    let judged = settings::judge(second);
-    match judged {
-        Judged::Refused(place) => unsound_farms(4, 3 + place),
-        Judged::Accepted(rules) => {
-            let x = first_mark(marks);
-            if x < marks.len() {
-                return unsound_farms(19, x);
-            }
-            FarmJudgement::Sound {
-                first: first,
-                second: rules,
-            }
-        }
+    let second = judge_settings(second, 3)?;
+    match first_mark(marks) {
+        Some(x) => Err(Refusal {
+            fault: Fault::Mark,
+            place: x,
+        }),
+        None => Ok(FarmRules { first, second }),
     }
 }
 
@@ -177,19 +158,16 @@ pub fn judge_farms(
     lengths: &[u64],
     factors: &[u32],
     workspace: &[u32],
-) -> FarmJudgement
+) -> Result<FarmRules, Refusal>
     ensures { JudgesFarms rows columns side first second marks.now elevation.now
         (lent_at filled.entry direction.entry count.entry lengths.entry factors.entry workspace.entry) result }
 {
-    if !text::is_size(rows) {
-        return unsound_farms(1, 0);
-    }
-    if !text::is_size(columns) {
-        return unsound_farms(1, 0);
-    }
-    if !are_long_in(
-        rows * columns,
-        marks,
+    let first = judge_ground(
+        rows,
+        columns,
+        side,
+        first,
+        Some(marks.len()),
         elevation,
         filled,
         direction,
@@ -197,15 +175,6 @@ pub fn judge_farms(
         lengths,
         factors,
         workspace,
-    ) {
-        return unsound_farms(2, 0);
-    }
-    if !text::is_side(side) {
-        return unsound_farms(3, 0);
-    }
-    let judged = settings::judge(first);
-    match judged {
-        Judged::Accepted(rules) => judge_rest(rules, second, marks),
-        Judged::Refused(place) => unsound_farms(4, place),
-    }
+    )?;
+    judge_rest(first, second, marks)
 }

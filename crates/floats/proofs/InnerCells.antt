@@ -1,10 +1,12 @@
 -- The cells that are judged and stored one after the other. Assumes nothing.
 use mathlib.Core.Path.{◌≡◌, refl, sym, ap, ◌∙◌}
-use mathlib.Core.Bool.{Bool, true, false, not}
+use mathlib.Core.Bool.{Bool, true, false, not, cond}
 use mathlib.Core.List.{List}
 use Prim.Native.Nat.{ℕ, ◌+◌, ◌*◌, ◌≤◌, ◌<◌}
+use native.Mathlib.Nat.{le_refl, le_of_eq, le_antisymm}
+use native.Mathlib.Decide.{dec_lt}
 use native.Mathlib.Omega.{arith}
-use borrow.Author.Tests.{eq-eqb, ne_eqb, eqb-true, not-false, lt-ltb, le-ltb}
+use borrow.Author.Tests.{eq-eqb, ne_eqb, eqb-true, not-false, lt-ltb, le-ltb, ltb-true}
 use borrow.Author.Count.{below_more}
 use lib.Dec.{eqb, ltb}
 use lib.IntN.{ℤ}
@@ -13,17 +15,16 @@ use Rattle.laws.specs.Lists.{tab}
 use Rattle.laws.proofs.First as F
 use Rattle.laws.proofs.First.{first-is, first-none, first-before}
 use Rattle.text.specs.Headers.{Header}
-use Rattle.text.specs.Reader.{Step, after}
-use Rattle.text.specs.Answers.{accepted, refusal, header_of, outcome_of, lone_header_answer, grid_outcome}
+use Rattle.text.specs.Reader.{Step, got, refused, after}
+use Rattle.text.specs.Answers.{accepted, refusal, header_of, lone_header_answer, grid_outcome}
 use Rattle.text.specs.declared.Refusal.{Refusal}
 use Rattle.text.specs.declared.Header as D
-use Rattle.text.specs.declared.Answer.{Answer}
-use Rattle.text.specs.declared.Answer.TheVariants.{Accepted, Refused}
+use Rattle.text.specs.Faults.{number_of}
 use Rattle.text.proofs.Sizes.{lone-refused, lone-accepted}
 use Rattle.floats.specs.Floats.{bits_at}
 use Rattle.floats.specs.Rounding.{nearest_float}
 use Rattle.floats.specs.Answers.{height_of, fault_of, first_fault, cells, body, grid_with, grid, floats_answer}
-use Rattle.floats.specs.InnerCells.{body_answer}
+use Rattle.floats.specs.InnerCells.{judged, body_answer}
 
 -- ---- the first fault
 
@@ -59,6 +60,20 @@ module _ (v : ℕ) (floats : List ℕ) where
   unfolding first_fault
   first-top k = F.first-top (λ y. not (eqb (fault_of v (bits_at floats y)) 0)) k
 
+  pub judged-fault : (k x : ℕ) → x < k → ClearTo v floats x → (fault_of v (bits_at floats x) ≡ 0 → ⊥)
+      → refused (fault_of v (bits_at floats x)) x ≡ judged v floats k
+  judged-fault k x h c e = rw (← first-fault k x h c e, lt-ltb x k h)
+
+  pub judged-all : (k : ℕ) → ClearTo v floats k → got tt 0 ≡ judged v floats k
+  judged-all k c = rw (← all-clear k k refl c, le-ltb k k (le_refl k))
+
+  pub judged-good : (k : ℕ) → got tt 0 ≡ judged v floats k → first_fault v floats k ≡ k
+  judged-good k e =
+      elim (dec_lt (first_fault v floats k) k) [
+        | yes l ↦ let z = rw (lt-ltb (first_fault v floats k) k l) at e in absurd cc
+        | no f ↦ le_antisymm (first-top k) (omega (arith, f))
+      ]
+
 -- ---- what follows the header
 
 module _ (h : Header) (lent : List ℤ) (floats : List ℕ) where
@@ -83,6 +98,29 @@ module _ (h : Header) (lent : List ℤ) (floats : List ℕ) where
       body-on t =
           rw (eq-eqb (length lent) (h.rows * h.columns) l, eq-eqb (length floats) (4 * length lent) b, sym n, sym f, le-ltb x (length lent) t) refl
 
+-- the same by what the judge of the cells answers
+module _ (h : Header) (lent : List ℤ) (floats : List ℕ) (l : length lent ≡ h.rows * h.columns) (b : length floats ≡ 4 * length lent) where
+  abbrev v : ℕ
+  v = nearest_float h.no_data
+
+  abbrev x : ℕ
+  x = first_fault v floats (length lent)
+
+  pub body-judged : (m p : ℕ) → refused m p ≡ judged v floats (length lent) → record { answer = refusal m p; heights = lent } ≡ body_answer h lent floats
+  body-judged m p e = go (ltb x (length lent)) refl e
+    where
+      go : (t : Bool) → ltb x (length lent) ≡ t → refused m p ≡ cond t (refused (fault_of v (bits_at floats x)) x) (got (tt {0}) 0)
+          → record { answer = refusal m p; heights = lent } ≡ body_answer h lent floats
+      go true q r =
+          let n : m ≡ fault_of v (bits_at floats x) = cc in
+          let f : p ≡ x = cc in
+          rw (n, f) (body-fault h lent floats l b v refl x refl (ltb-true x (length lent) q))
+      go false q r = absurd cc
+
+  pub body-good : got tt 0 ≡ judged v floats (length lent)
+      → record { answer = accepted h; heights = tab (length lent) (λ y. height_of v (bits_at floats y)) } ≡ body_answer h lent floats
+  body-good e = body-on h lent floats l b v refl x refl (le_of_eq (sym (judged-good v floats (length lent) e)))
+
 -- ---- the whole of a call
 
 -- where the header's text ends does not matter any more
@@ -101,15 +139,15 @@ anywhere h lent floats s i =
     one true p true q false r = rw (p, q, r) refl
     one true p true q true r = rw (p, q, r) refl
 
-module _ (lent : List ℤ) (s floats : List ℕ) (r : Answer) (m : outcome_of r ≡ lone_header_answer s) where
-  pub floats-off : (f : Refusal) → r ≡ Refused f → record { answer = refusal f.number f.place; heights = lent } ≡ floats_answer lent s floats
+module _ (lent : List ℤ) (s floats : List ℕ) where
+  pub floats-off : (f : Refusal) → refusal (number_of f.fault) f.place ≡ lone_header_answer s
+      → record { answer = refusal (number_of f.fault) f.place; heights = lent } ≡ floats_answer lent s floats
   unfolding grid
-  floats-off f e =
-      sym (ap (λ (t : Step Header). grid_outcome lent (after t (λ h. grid_with h floats (length lent)) s))
-      (lone-refused s f.number f.place (sym (ap outcome_of e) ∙ m)))
+  floats-off f m =
+      sym (ap (λ (t : Step Header). grid_outcome lent (after t (λ h. grid_with h floats (length lent)) s)) (lone-refused s (number_of f.fault) f.place m))
 
-  pub floats-on : (h : D.Header) → r ≡ Accepted h → body_answer (header_of h) lent floats ≡ floats_answer lent s floats
+  pub floats-on : (h : D.Header) → accepted (header_of h) ≡ lone_header_answer s → body_answer (header_of h) lent floats ≡ floats_answer lent s floats
   unfolding grid
-  floats-on h e =
-      let g = lone-accepted s (header_of h) (sym (ap outcome_of e) ∙ m) in
+  floats-on h m =
+      let g = lone-accepted s (header_of h) m in
       anywhere (header_of h) lent floats s g.0 ∙ sym (ap (λ (t : Step Header). grid_outcome lent (after t (λ h. grid_with h floats (length lent)) s)) g.1)

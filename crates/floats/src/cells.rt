@@ -4,10 +4,10 @@ ghost use Rattle.laws.specs.Lists.{tab};
 ghost use Rattle.text.specs.Answers.{header_of, grid_outcome_of};
 ghost use Rattle.floats.specs.Floats.{equal, bits_at};
 ghost use Rattle.floats.specs.Answers.{height_of, fault_of, first_fault};
-ghost use Rattle.floats.specs.InnerCells.{Fits, body_answer};
+ghost use Rattle.floats.specs.InnerCells.{number_or_none, judged_of, judged, Fits, body_answer};
 
 use crate::rounding;
-use text::{Answer, Header, NO_DATA, Refusal};
+use text::{Fault, Header, NO_DATA, Refusal};
 
 // Bits from here on have the sign minus.
 const MINUS: u32 = 2147483648;
@@ -21,51 +21,36 @@ const HIGHEST: u32 = 1175232517;
 const LOWEST: u32 = 1140457635;
 
 // The bits of the float of the cell `x`.
+#[tactic(auto, unfolding(crate::specs::Floats::bits_at))]
 fn bits_at(floats: &[u8], x: usize) -> u32
     requires { 4 * x + 3 < length floats.now }
     ensures { result ≡ bits_at floats.now x }
 {
     let i = 4 * x;
-    (floats[i] as u32)
-        + 256 * (floats[i + 1] as u32)
-        + 65536 * (floats[i + 2] as u32)
-        + 16777216 * (floats[i + 3] as u32)
+    u32::from_le_bytes([floats[i], floats[i + 1], floats[i + 2], floats[i + 3]])
 }
 
 // Whether two floats are equal.
+#[tactic(auto, unfolding(crate::specs::Floats::equal))]
 fn is_equal(a: u32, b: u32) -> bool
     ensures { result ≡ equal a b }
 {
-    if a == b {
-        return true;
-    }
-    if a % MINUS != 0 {
-        return false;
-    }
-    b % MINUS == 0
+    a == b || a % MINUS == 0 && b % MINUS == 0
 }
 
-// The number of the refusal of a float, 0 where there is none; `v` is the NoData float.
-fn fault_of(v: u32, bits: u32) -> u32
-    ensures { result ≡ fault_of v bits }
+// Why a float is refused, if it is; `v` is the NoData float.
+fn fault_of(v: u32, bits: u32) -> Option<Fault>
+    ensures { number_or_none result ≡ fault_of v bits }
 {
     let m = bits % MINUS;
     if INFINITE <= m {
-        return 15;
+        return Some(Fault::NotFinite);
     }
-    if is_equal(bits, v) {
-        return 0;
+    let most = if bits < MINUS { HIGHEST } else { LOWEST };
+    if is_equal(bits, v) || m <= most {
+        return None;
     }
-    if bits < MINUS {
-        if HIGHEST < m {
-            return 5;
-        }
-        return 0;
-    }
-    if LOWEST < m {
-        return 5;
-    }
-    0
+    Some(Fault::Height)
 }
 
 // The height of a float without a fault.
@@ -77,25 +62,20 @@ fn height_of(v: u32, bits: u32) -> i32
         return NO_DATA;
     }
     let cm = rounding::centimetres(bits % MINUS) as i32;
-    if bits < MINUS {
-        return cm;
-    }
-    0 - cm
+    if bits < MINUS { cm } else { -cm }
 }
 
-// The first of `count` cells with a fault; `count` where there is none.
-fn first_fault(v: u32, floats: &[u8], count: usize) -> usize
-    requires { (length floats.now ≡ 4 * count) × (count ≤ 1048576) }
-    ensures { result ≡ first_fault v floats.now count }
+// Judges that none of `count` cells has a fault.
+fn judge(v: u32, floats: &[u8], count: usize) -> Result<(), Refusal>
+    requires { (4 * count ≤ length floats.now) × (count ≤ 1048576) }
+    ensures { judged_of result ≡ judged v floats.now count }
 {
-    let mut x: usize = 0;
-    while x < count {
-        if fault_of(v, bits_at(floats, x)) != 0 {
-            return x;
+    for place in 0..count {
+        if let Some(fault) = fault_of(v, bits_at(floats, place)) {
+            return Err(Refusal { fault, place });
         }
-        x += 1;
     }
-    x
+    Ok(())
 }
 
 // Stores the heights of floats without a fault.
@@ -104,38 +84,31 @@ fn store(v: u32, floats: &[u8], out: &mut [i32])
         × (first_fault v floats.now (length out.old) ≡ length out.old) }
     ensures { out.new ≡ tab (length out.old) (λ x. height_of v (bits_at floats.now x)) }
 {
-    let mut x: usize = 0;
-    while x < out.len() {
-        out[x] = height_of(v, bits_at(floats, x));
-        x += 1;
+    for (x, h) in out.iter_mut().enumerate() {
+        *h = height_of(v, bits_at(floats, x));
     }
 }
 
 // What follows a good header: all heights are stored, or none.
-pub(crate) fn read(floats: &[u8], header: Header, out: &mut [i32]) -> Answer
+#[tactic(auto, unfolding(crate::specs::Answers::body, crate::specs::Answers::cells))]
+pub(crate) fn read(floats: &[u8], header: Header, out: &mut [i32]) -> Result<Header, Refusal>
     requires { Fits header.rows header.columns }
     ensures { grid_outcome_of result out.new ≡ body_answer (header_of header) out.old floats.now }
 {
     if out.len() != header.rows * header.columns {
-        return Answer::Refused(Refusal {
-            number: 2,
+        return Err(Refusal {
+            fault: Fault::Length,
             place: 0,
         });
     }
     if floats.len() != 4 * out.len() {
-        return Answer::Refused(Refusal {
-            number: 14,
+        return Err(Refusal {
+            fault: Fault::FloatBytes,
             place: 0,
         });
     }
     let v = rounding::nearest_float(header.no_data);
-    let x = first_fault(v, floats, out.len());
-    if x < out.len() {
-        return Answer::Refused(Refusal {
-            number: fault_of(v, bits_at(floats, x)),
-            place: x,
-        });
-    }
+    judge(v, floats, out.len())?;
     store(v, floats, out);
-    Answer::Accepted(header)
+    Ok(header)
 }

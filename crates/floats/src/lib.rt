@@ -11,16 +11,13 @@ ghost use Rattle.std.specs.Prelude.{◌≡◌};
 ghost use Rattle.text.specs.Answers.{grid_outcome_of};
 ghost use Rattle.floats.specs.Answers.{floats_answer};
 
-use text::Answer;
+use text::{Header, Refusal};
 
 // Reads the floats into the lent heights, by the header; a refusal leaves them as they were.
-pub fn read_floats(header: &[u8], floats: &[u8], heights: &mut [i32]) -> Answer
+pub fn read_floats(header: &[u8], floats: &[u8], heights: &mut [i32]) -> Result<Header, Refusal>
     ensures { grid_outcome_of result heights.new
         ≡ floats_answer heights.old header.now floats.now }
 {
-    let a = text::read_lone_header(header);
-    match a {
-        Answer::Refused(refusal) => Answer::Refused(refusal),
-        Answer::Accepted(h) => cells::read(floats, h, heights),
-    }
+    let h = text::read_lone_header(header)?;
+    cells::read(floats, h, heights)
 }

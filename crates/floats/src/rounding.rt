@@ -68,9 +68,6 @@ fn nearest_magnitude(n: u64) -> u32
 pub(crate) fn nearest_float(n: i64) -> u32
     ensures { result ≡ nearest_float n }
 {
-    if n < 0 {
-        let k = (-1 - n) as u64;
-        return 2147483648 + nearest_magnitude(k + 1);
-    }
-    nearest_magnitude(n as u64)
+    let m = nearest_magnitude(n.unsigned_abs());
+    if n < 0 { 2147483648 + m } else { m }
 }

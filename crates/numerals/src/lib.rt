@@ -32,12 +32,10 @@ fn put_past(out: &mut [u8], at: usize, i: usize, b: u8)
 pub fn put_all(out: &mut [u8], at: usize, bytes: &[u8]) -> usize
     ensures { Lays out at bytes.now result }
 {
-    let mut i = 0;
-    while i < bytes.len() {
-        put_past(out, at, i, bytes[i]);
-        i += 1;
+    for (i, b) in bytes.iter().enumerate() {
+        put_past(out, at, i, *b);
     }
-    i
+    bytes.len()
 }
 
 // How many decimal digits `n` has.
@@ -62,10 +60,10 @@ pub fn put_natural(out: &mut [u8], at: usize, n: u64) -> usize
     let mut left = n;
     while 10 <= left {
         i -= 1;
-        put_past(out, at, i, 48 + (left % 10) as u8);
+        put_past(out, at, i, b'0' + (left % 10) as u8);
         left /= 10;
     }
-    put(out, at, 48 + left as u8);
+    put(out, at, b'0' + left as u8);
     count
 }
 
@@ -73,11 +71,9 @@ pub fn put_natural(out: &mut [u8], at: usize, n: u64) -> usize
 pub fn put_padded(out: &mut [u8], at: usize, n: u64, count: usize) -> usize
     ensures { Lays out at (padded count n) result }
 {
-    let mut i = count;
     let mut left = n;
-    while 0 < i {
-        i -= 1;
-        put_past(out, at, i, 48 + (left % 10) as u8);
+    for i in (0..count).rev() {
+        put_past(out, at, i, b'0' + (left % 10) as u8);
         left /= 10;
     }
     count
@@ -87,9 +83,5 @@ pub fn put_padded(out: &mut [u8], at: usize, n: u64, count: usize) -> usize
 pub fn size(z: i32) -> u64
     ensures { (result ≡ nat_abs z) × (result ≤ 2147483648) }
 {
-    if z < 0 {
-        let wide = z as i64;
-        return (0 - wide) as u64;
-    }
-    z as u64
+    u64::from(z.unsigned_abs())
 }

@@ -2,16 +2,16 @@
 use mathlib.Core.Path.{◌≡◌, refl, sym, ap, subst, ◌∙◌}
 use mathlib.Core.List.{List, [], ◌∷◌}
 use mathlib.Core.Logic.{⊎_elim}
-use mathlib.Core.Bool.{Bool, true, false, beq, ◌&&◌, ◌||◌}
+use mathlib.Core.Bool.{Bool, true, false, cond, beq, ◌&&◌, ◌||◌}
 use Prim.Native.Nat.{ℕ, zero, suc, ◌+◌, ◌-◌, ◌*◌, ◌/◌, ◌^◌, ◌≤◌, ◌<◌}
 use native.Mathlib.Nat.{lt_irrefl, eq-or-lt_of_le, mul_assoc, mul_comm, mul-lt-mul_of_pos_right, lt_trans}
 use native.Mathlib.Omega.{arith}
 use native.Mathlib.Decide.{dec_lt}
-use lib.Dec.{T, ltb, eqb, eqb→eq, ltb→lt}
+use lib.Dec.{T, leb, ltb, eqb, eqb→eq, ltb→lt}
 use lib.Ieee.{Float, nan, inf, fin, up, down, eq, of_bits, binary64}
 use lib.Ieee.Fits.{and_l, and_r}
 use lib.Ieee.Positive.{num, den, den_pos}
-use borrow.Author.Tests.{le-leb, lt-leb}
+use borrow.Author.Tests.{le-leb, lt-leb, leb-true, leb-false}
 use Rattle.laws.proofs.Tests.{two}
 use Rattle.laws.proofs.First.{first-is, first_holds}
 use Rattle.settings.specs.declared.Channel.{Channel}
@@ -21,9 +21,12 @@ use Rattle.settings.specs.declared.Formula.TheVariants.{Older, Newer}
 use Rattle.settings.specs.declared.Settings.{Settings}
 use Rattle.settings.specs.declared.Threshold.{Threshold}
 use Rattle.settings.specs.declared.Threshold.TheVariants.{Share, Over, Never}
-use Rattle.settings.specs.declared.Judged.{Judged}
-use Rattle.settings.specs.declared.Judged.TheVariants.{Accepted, Refused}
-use Rattle.settings.specs.Settings.{quotient, whole_of, threshold_of, threshold_accepted, verdict_of, judged_of, default_settings}
+use Rattle.settings.specs.declared.Rules.{Rules}
+use Rattle.settings.specs.declared.Setting.{Setting}
+use Rattle.settings.specs.declared.Setting.TheVariants as setting
+use Rattle.std.specs.Option.{ok_or}
+use Rattle.std.proofs.Common.{Option, Some, None, Result, Ok, Err}
+use Rattle.settings.specs.Settings.{quotient, whole_of, whole_up_to, threshold_of, threshold_accepted, verdict_of, judged_of, default_settings}
 
 -- ---- the quotients rise
 
@@ -144,6 +147,25 @@ module _ (d top : ℕ) (rising : Rising d top) where
       first-is (λ m. eq x (quotient d m)) (suc top) n
       (λ j l. ⊎_elim (λ t. absurd (let q = whole_unique x j n (omega arith) h t e in omega arith)) (λ t. t) (two (eq x (quotient d j)))) (omega arith) e
 
+-- the number of an option that stands for it, and the option of a number
+pub whole-none : {top n : ℕ} {o : Option ℕ} → o ≡ whole_up_to top n → o ≡ None → top < n
+whole-none {top} {n} e z = ⊎_elim (λ t. absurd (let q : Some n ≡ None = ap (λ (b : Bool). cond b (Some n) None) (sym t) ∙ sym e ∙ z in cc)) (λ t. leb-false n top t) (two (leb n top))
+
+pub whole-some : {top n k : ℕ} {o : Option ℕ} → o ≡ whole_up_to top n → o ≡ Some k → (k ≡ n) × (n ≤ top)
+whole-some {top} {n} {k} e z = ⊎_elim
+    (λ t. let q : Some n ≡ Some k = ap (λ (b : Bool). cond b (Some n) None) (sym t) ∙ sym e ∙ z in (cc, leb-true n top t))
+    (λ t. absurd (let q : None ≡ Some k = ap (λ (b : Bool). cond b (Some n) None) (sym t) ∙ sym e ∙ z in cc)) (two (leb n top))
+
+pub none-whole : (top n : ℕ) → top < n → None ≡ whole_up_to top n
+none-whole top n h = sym (ap (λ (b : Bool). cond b (Some n) None) (lt-leb n top h))
+
+pub some-whole : (top n : ℕ) → n ≤ top → Some n ≡ whole_up_to top n
+some-whole top n h = sym (ap (λ (b : Bool). cond b (Some n) None) (le-leb n top h))
+
+-- the setting that is refused where there is no number
+pub refused-is : {o : Option ℕ} {bad s : Setting} → o ≡ None → Err bad ≡ ok_or o s → bad ≡ s
+refused-is {o} {bad} {s} z e = let q : ◌≡◌ {A = Result ℕ Setting} (Err bad) (Err s) = e ∙ ap (λ (o : Option ℕ). ok_or o s) z in cc
+
 -- ---- the verdict on settings, test by test as the code makes it
 
 judged-is : (s : Settings) → judged_of s ≡ verdict_of (record { low = whole_of 100 100 s.low; high = whole_of 100 100 s.high; threshold = threshold_of s.channel; formula = s.formula })
@@ -180,21 +202,21 @@ unfolding threshold_accepted
 share-refused n h = lt-leb n 1000 h
 
 module _ (s : Settings) where
-  pub judged-low : {low : ℕ} → low ≡ whole_of 100 100 s.low → 100 < low → Refused 1 ≡ judged_of s
+  pub judged-low : {low : ℕ} → low ≡ whole_of 100 100 s.low → 100 < low → Err setting.Low ≡ judged_of s
   unfolding verdict_of
   judged-low e h = rw (judged-is s, ← e, lt-leb _ 100 h)
 
   module _ {low high : ℕ} (el : low ≡ whole_of 100 100 s.low) (l : low ≤ 100) (eh : high ≡ whole_of 100 100 s.high) where
-    pub judged-high : 100 < high → Refused 2 ≡ judged_of s
+    pub judged-high : 100 < high → Err setting.High ≡ judged_of s
     unfolding verdict_of
     judged-high h = rw (judged-is s, ← el, ← eh, le-leb low 100 l, lt-leb high 100 h)
 
     module _ (h : high ≤ 100) (t : Threshold) (et : t ≡ threshold_of s.channel) where
-      pub judged-channel : threshold_accepted t ≡ false → Refused 3 ≡ judged_of s
+      pub judged-channel : threshold_accepted t ≡ false → Err setting.Channel ≡ judged_of s
       unfolding verdict_of
       judged-channel a = rw (judged-is s, ← el, ← eh, ← et, le-leb low 100 l, le-leb high 100 h, a)
 
-      pub judged-rules : threshold_accepted t ≡ true → Accepted (record { low = low; high = high; threshold = t; formula = s.formula }) ≡ judged_of s
+      pub judged-rules : threshold_accepted t ≡ true → Ok (record { low = low; high = high; threshold = t; formula = s.formula }) ≡ judged_of s
       unfolding verdict_of
       judged-rules a = rw (judged-is s, ← el, ← eh, ← et, le-leb low 100 l, le-leb high 100 h, a)
 
@@ -202,14 +224,14 @@ module _ (s : Settings) where
 
 -- settings by the bits of their floats
 pub data Claim : Type 0 where
-  cutoffs : ℕ → ℕ → Judged → Claim
-  channel : Channel → Judged → Claim
-  choice : Formula → Judged → Claim
+  cutoffs : ℕ → ℕ → Result Rules Setting → Claim
+  channel : Channel → Result Rules Setting → Claim
+  choice : Formula → Result Rules Setting → Claim
 
-abbrev accepted_with : Formula → ℕ → ℕ → Threshold → Judged
-accepted_with formula low high threshold = Accepted (record { low = low; high = high; threshold = threshold; formula = formula })
+abbrev accepted_with : Formula → ℕ → ℕ → Threshold → Result Rules Setting
+accepted_with formula low high threshold = Ok (record { low = low; high = high; threshold = threshold; formula = formula })
 
-abbrev accepted : ℕ → ℕ → Threshold → Judged
+abbrev accepted : ℕ → ℕ → Threshold → Result Rules Setting
 accepted = accepted_with Older
 
 abbrev pub Holds : Claim → Type 0
@@ -228,29 +250,29 @@ claims =
     cutoffs 0x3FE28F5C28F5C28F 0x0000000000000000 (accepted 58 0 Never) ∷
     cutoffs 0x8000000000000000 0x3FF0000000000000 (accepted 0 100 Never) ∷
     -- as the low cutoff 0.285, -0.01, 1.01, the infinities, NaN and the floats beside 0.29
-    cutoffs 0x3FD23D70A3D70A3D 0x3FE0000000000000 (Refused 1) ∷
-    cutoffs 0xBF847AE147AE147B 0x3FE0000000000000 (Refused 1) ∷
-    cutoffs 0x3FF028F5C28F5C29 0x3FE0000000000000 (Refused 1) ∷
-    cutoffs 0x7FF0000000000000 0x3FE0000000000000 (Refused 1) ∷
-    cutoffs 0xFFF0000000000000 0x3FE0000000000000 (Refused 1) ∷
-    cutoffs 0x7FF8000000000000 0x3FE0000000000000 (Refused 1) ∷
-    cutoffs 0x3FD28F5C28F5C290 0x3FE0000000000000 (Refused 1) ∷
-    cutoffs 0x3FD28F5C28F5C28E 0x3FE0000000000000 (Refused 1) ∷
+    cutoffs 0x3FD23D70A3D70A3D 0x3FE0000000000000 (Err setting.Low) ∷
+    cutoffs 0xBF847AE147AE147B 0x3FE0000000000000 (Err setting.Low) ∷
+    cutoffs 0x3FF028F5C28F5C29 0x3FE0000000000000 (Err setting.Low) ∷
+    cutoffs 0x7FF0000000000000 0x3FE0000000000000 (Err setting.Low) ∷
+    cutoffs 0xFFF0000000000000 0x3FE0000000000000 (Err setting.Low) ∷
+    cutoffs 0x7FF8000000000000 0x3FE0000000000000 (Err setting.Low) ∷
+    cutoffs 0x3FD28F5C28F5C290 0x3FE0000000000000 (Err setting.Low) ∷
+    cutoffs 0x3FD28F5C28F5C28E 0x3FE0000000000000 (Err setting.Low) ∷
     -- as the high one 0.285, -0.01, 1.01, the infinities and NaN; 2.0 in both places
-    cutoffs 0x0000000000000000 0x3FD23D70A3D70A3D (Refused 2) ∷
-    cutoffs 0x0000000000000000 0xBF847AE147AE147B (Refused 2) ∷
-    cutoffs 0x0000000000000000 0x3FF028F5C28F5C29 (Refused 2) ∷
-    cutoffs 0x0000000000000000 0x7FF0000000000000 (Refused 2) ∷
-    cutoffs 0x0000000000000000 0xFFF0000000000000 (Refused 2) ∷
-    cutoffs 0x0000000000000000 0x7FF8000000000000 (Refused 2) ∷
-    cutoffs 0x4000000000000000 0x4000000000000000 (Refused 1) ∷
+    cutoffs 0x0000000000000000 0x3FD23D70A3D70A3D (Err setting.High) ∷
+    cutoffs 0x0000000000000000 0xBF847AE147AE147B (Err setting.High) ∷
+    cutoffs 0x0000000000000000 0x3FF028F5C28F5C29 (Err setting.High) ∷
+    cutoffs 0x0000000000000000 0x7FF0000000000000 (Err setting.High) ∷
+    cutoffs 0x0000000000000000 0xFFF0000000000000 (Err setting.High) ∷
+    cutoffs 0x0000000000000000 0x7FF8000000000000 (Err setting.High) ∷
+    cutoffs 0x4000000000000000 0x4000000000000000 (Err setting.Low) ∷
     -- the percentages minus zero, 0.1, 1.0 and 28.9; 0.05 and NaN
     channel (Percentage (of_bits binary64 0x8000000000000000)) (accepted 50 50 (Share 0)) ∷
     channel (Percentage (of_bits binary64 0x3FB999999999999A)) (accepted 50 50 (Share 1)) ∷
     channel (Percentage (of_bits binary64 0x3FF0000000000000)) (accepted 50 50 (Share 10)) ∷
     channel (Percentage (of_bits binary64 0x403CE66666666666)) (accepted 50 50 (Share 289)) ∷
-    channel (Percentage (of_bits binary64 0x3FA999999999999A)) (Refused 3) ∷
-    channel (Percentage (of_bits binary64 0x7FF8000000000000)) (Refused 3) ∷
+    channel (Percentage (of_bits binary64 0x3FA999999999999A)) (Err setting.Channel) ∷
+    channel (Percentage (of_bits binary64 0x7FF8000000000000)) (Err setting.Channel) ∷
     -- any number of cells, and no channel
     channel (Cells 0) (accepted 50 50 (Over 0)) ∷
     channel (Cells 4294967295) (accepted 50 50 (Over 4294967295)) ∷

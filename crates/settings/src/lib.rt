@@ -3,7 +3,7 @@
 #![tactic(auto)]
 
 ghost use Rattle.std.specs.Prelude.{◌≡◌, ◌≤◌};
-ghost use Rattle.settings.specs.Settings.{whole_of, judged_of, default_settings};
+ghost use Rattle.settings.specs.Settings.{whole_of, whole_up_to, judged_of, place_of, default_settings};
 
 // Above which flow count a cell is a channel: a percentage of the largest flow count, a number of cells, or none.
 #[derive(Clone, Copy)]
@@ -29,11 +29,11 @@ pub struct Settings {
     pub formula: Formula,
 }
 
-impl Settings {
-    // The library's defaults: for gentle ground, under 5 percent, a cutoff of 0.7.
-    pub fn default() -> Settings
-        ensures { result ≡ default_settings }
-    {
+// The library's defaults: for gentle ground, under 5 percent, a cutoff of 0.7.
+impl Default for Settings {
+    ghost is_default = { λ s. s ≡ default_settings };
+
+    fn default() -> Self {
         Settings {
             low: 0.7,
             high: 0.5,
@@ -60,57 +60,51 @@ pub struct Rules {
     pub formula: Formula,
 }
 
-// What is found of settings: the rules, or the place of the first one that is not accepted.
-#[derive(Clone, Copy)]
-pub enum Judged {
-    Accepted(Rules),
-    Refused(usize),
+// A setting that is not accepted: the first one, in this order. Its number is the place of the refusal.
+#[derive(Clone, Copy, PartialEq, Eq)]
+pub enum Setting {
+    Low = 1,
+    High = 2,
+    Channel = 3,
 }
 
-// The whole n up to top whose float quotient n / parts equals x; top + 1 where there is none.
-fn whole_of(x: f64, parts: u32, top: u32) -> u32
-    requires { top ≤ 1000 }
-    ensures { result ≡ whole_of parts top x }
-{
-    let mut n: u32 = 0;
-    while n <= top {
-        if x == (n as f64) / (parts as f64) {
-            return n;
-        }
-        n += 1;
+impl Setting {
+    // The place of the refusal.
+    pub fn place(self) -> usize
+        ensures { result ≡ place_of self }
+    {
+        self as usize
     }
-    n
+}
+
+// The whole n up to top whose float quotient n / parts equals x.
+fn whole_of(x: f64, parts: u32, top: u32) -> Option<u32>
+    requires { top ≤ 1000 }
+    ensures { result ≡ whole_up_to top (whole_of parts top x) }
+{
+    for n in 0..top + 1 {
+        if x == f64::from(n) / f64::from(parts) {
+            return Some(n);
+        }
+    }
+    None
 }
 
 // Judges the low cutoff, the high one and the channel rule, in that order. Either formula is accepted.
-pub fn judge(s: Settings) -> Judged
+pub fn judge(s: Settings) -> Result<Rules, Setting>
     ensures { result ≡ judged_of s }
 {
-    let low = whole_of(s.low, 100, 100);
-    if 100 < low {
-        return Judged::Refused(1);
-    }
-    let high = whole_of(s.high, 100, 100);
-    if 100 < high {
-        return Judged::Refused(2);
-    }
-    let channel = s.channel;
-    let threshold = match channel {
-        Channel::Percentage(x) => {
-            let share = whole_of(x, 10, 1000);
-            if 1000 < share {
-                return Judged::Refused(3);
-            }
-            Threshold::Share(share)
-        }
+    let low = whole_of(s.low, 100, 100).ok_or(Setting::Low)?;
+    let high = whole_of(s.high, 100, 100).ok_or(Setting::High)?;
+    let threshold = match s.channel {
+        Channel::Percentage(x) => Threshold::Share(whole_of(x, 10, 1000).ok_or(Setting::Channel)?),
         Channel::Cells(n) => Threshold::Over(n),
         Channel::NoChannel => Threshold::Never,
     };
-    let formula = s.formula;
-    Judged::Accepted(Rules {
-        low: low,
-        high: high,
-        threshold: threshold,
-        formula: formula,
+    Ok(Rules {
+        low,
+        high,
+        threshold,
+        formula: s.formula,
     })
 }

@@ -5,26 +5,29 @@ use mathlib.Core.List.{List, [], ◌∷◌}
 use Prim.Native.Nat.{ℕ, zero, suc, ◌*◌, ◌≤◌, ◌<◌}
 use native.Mathlib.Omega.{arith}
 use borrow.Author.Tests.{eq-eqb, ne_eqb, lt-ltb, le-ltb}
-use lib.IntN.{ℤ, pos}
+use lib.IntN.{ℤ, pos, nat_abs}
 use lib.ListN.{length, take, replicate, length-replicate}
 use Rattle.laws.specs.Tests.{Test, passed, failed}
 use Rattle.laws.proofs.Verdicts.{verdict-passed}
 use Rattle.settings.specs.declared.Settings.{Settings}
 use Rattle.settings.specs.Settings.{settings_test}
-use Rattle.text.specs.Answers.{header_answer, grid_answer}
+use Rattle.std.specs.Prelude.{Result, Ok, Err}
+use Rattle.text.specs.Answers.{Outcome, GridOutcome, header_answer, grid_answer, head_outcome_of, grid_outcome_of}
+use Rattle.text.specs.Faults.{number_of}
+use Rattle.text.specs.declared.Header.{Header}
+use Rattle.text.specs.declared.Head.{Head}
+use Rattle.text.specs.declared.Refusal.{Refusal}
+use Rattle.text.proofs.FaultNumbers.{number-some}
+use Rattle.text.proofs.Sizes.{header-few}
 use Rattle.text.specs.Ranges.{size_test, length_test, side_test, height_test}
 use Rattle.text.proofs.Accepted.{size_is, size-passed}
 use Rattle.terrain.specs.Answers.{ground_directions}
 use Rattle.terrain.specs.declared.Source.TheVariants.{Own}
 use Rattle.factor.specs.Farms.{one}
 use Rattle.factor.specs.Answers.{Grids, places_of, early_tests, first_tests, tests, judged, answer_of, answer, after, told, accepts}
-use Rattle.factor.specs.declared.Answer.{Answer}
-use Rattle.factor.proofs.Judging.{number-some}
+use Rattle.terrain.specs.declared.Summary.{Summary}
 use Rattle.sheet.specs.Lines.{refusal_line, grids_of, map_lines}
-use Rattle.sheet.specs.InnerAnswers.{head_numbers, survey_numbers}
 use Rattle.sheet.specs.Sheet.{lines_or, map_sheet, grid_sheet, zeros, head_sheet, sheet_of}
-use Rattle.sheet.specs.declared.answers.Head.{Head}
-use Rattle.sheet.specs.declared.answers.Survey.{Survey}
 
 -- ---- an accepted call, and a refused one
 
@@ -35,10 +38,6 @@ lines-yes number place lines h = ap (λ (b : Bool). elim b [ true ↦ lines | fa
 lines-no : (number place : ℕ) (lines : List ℕ) → (number ≡ 0 → ⊥) → lines_or number place lines ≡ refusal_line number place
 unfolding lines_or
 lines-no number place lines h = ap (λ (b : Bool). elim b [ true ↦ lines | false ↦ refusal_line number place ]) (ne_eqb number 0 h)
-
--- the line of a refusal, whose numbers were found by a call
-refused_as : {n p : ℕ} (number place : ℕ) (lines : List ℕ) → n ≡ number → p ≡ place → (n ≡ 0 → ⊥) → refusal_line n p ≡ lines_or number place lines
-refused_as number place lines en ep h = ap₂ refusal_line en ep ∙ sym (lines-no number place lines (λ z. h (en ∙ z)))
 
 -- ---- the map call
 
@@ -58,41 +57,58 @@ module _ (rows columns side : ℕ) (settings : Settings) (elevation : List ℤ) 
       go passed j y = omega (arith, (size_is columns (size-passed rows columns (passed-size j)).1).0)
       go (failed number place) j y = absurd (true≢false (sym y))
 
-module _ (rows columns side : ℕ) (settings : Settings) (elevation : List ℤ) (g : Grids) {s : Survey} {a : Answer} (es : s ≡ survey_numbers (told a))
-    (ea : a ≡ answer rows columns side (one settings) Own elevation g) where
-  e : s ≡ survey_numbers (told (answer rows columns side (one settings) Own elevation g))
-  e = es ∙ ap (λ (x : Answer). survey_numbers (told x)) ea
+module _ (rows columns side : ℕ) (settings : Settings) (elevation : List ℤ) (g : Grids) {r : Result Summary Refusal}
+    (e : r ≡ answer rows columns side (one settings) Own elevation g) where
+  -- what an answer comes to with the grids m
+  abbrev answered : Grids → Result Summary Refusal → List ℕ
+  answered m a =
+      lines_or (told a).number (told a).place
+      (map_lines (record { rows = rows; columns = columns; side = side; valid = (told a).valids; longest = (told a).longest })
+      (grids_of elevation m.filled m.direction m.count m.lengths m.factors))
 
-  pub map-refused : (s.number ≡ 0 → ⊥) → refusal_line s.number s.place ≡ map_sheet rows columns side settings elevation g
+  sheet-is : answered (after rows columns side (one settings) Own elevation g) (answer rows columns side (one settings) Own elevation g)
+      ≡ map_sheet rows columns side settings elevation g
   unfolding map_sheet
-  map-refused h = refused_as _ _ _ (ap (λ (x : Survey). x.number) e) (ap (λ (x : Survey). x.place) e) h
+  sheet-is = refl
 
-  pub map-printed : (m : Grids) → m ≡ after rows columns side (one settings) Own elevation g → s.number ≡ 0 →
+  pub map-refused : (f : Refusal) → r ≡ Err f → refusal_line (number_of f.fault) f.place ≡ map_sheet rows columns side settings elevation g
+  map-refused f h =
+      let m = after rows columns side (one settings) Own elevation g in
+      let line : refusal_line (number_of f.fault) f.place ≡ answered m (Err f) = sym (lines-no (number_of f.fault) f.place _ (number-some f.fault)) in
+      line ∙ ap (answered m) (sym h ∙ e) ∙ sheet-is
+
+  pub map-printed : (s : Summary) → r ≡ Ok s → (m : Grids) → m ≡ after rows columns side (one settings) Own elevation g →
       map_lines (record { rows = rows; columns = columns; side = side; valid = s.valid; longest = s.longest })
       (grids_of elevation m.filled m.direction m.count m.lengths m.factors) ≡ map_sheet rows columns side settings elevation g
-  unfolding map_sheet
-  map-printed m f h =
-      ap₂ (λ (x : Survey) (m : Grids). map_lines (record { rows = rows; columns = columns; side = side; valid = x.valid; longest = x.longest })
-      (grids_of elevation m.filled m.direction m.count m.lengths m.factors)) e f
-      ∙ sym (lines-yes _ (told (answer rows columns side (one settings) Own elevation g)).place _ (sym (ap (λ (x : Survey). x.number) e) ∙ h))
+  map-printed s h m f =
+      let lines : map_lines (record { rows = rows; columns = columns; side = side; valid = s.valid; longest = s.longest })
+      (grids_of elevation m.filled m.direction m.count m.lengths m.factors) ≡ answered m (Ok s) = sym (lines-yes 0 0 _ refl) in
+      lines ∙ ap₂ answered f (sym h ∙ e) ∙ sheet-is
 
-  pub map-columns : s.number ≡ 0 → 0 < columns
-  map-columns h = accepted-columns rows columns side settings elevation g
-      (number-some rows columns side (one settings) elevation g Own (sym (ap (λ (x : Survey). x.number) e) ∙ h))
+  pub map-columns : (s : Summary) → r ≡ Ok s → 0 < columns
+  map-columns s h = accepted-columns rows columns side settings elevation g (ap accepts (sym e ∙ h))
 
 -- ---- the reader call
 
-module _ (rows columns side : ℕ) (settings : Settings) (text : List ℕ) (heights : List ℤ) (g : Grids) (s : Head)
-    (e : s ≡ head_numbers (grid_answer heights text).answer) where
-  pub grid-refused : (s.number ≡ 0 → ⊥) → refusal_line s.number s.place ≡ grid_sheet rows columns side settings text heights g
-  unfolding grid_sheet
-  grid-refused h = refused_as _ _ _ (ap (λ (x : Head). x.number) e) (ap (λ (x : Head). x.place) e) h
+module _ (rows columns side : ℕ) (settings : Settings) (text : List ℕ) (heights : List ℤ) (g : Grids) where
+  -- what the reader's answer comes to
+  abbrev mapped : GridOutcome → List ℕ
+  mapped a = lines_or a.answer.number a.answer.place (map_sheet rows columns side settings a.heights g)
 
-  pub grid-printed : (elevation : List ℤ) → elevation ≡ (grid_answer heights text).heights → s.number ≡ 0 →
-      map_sheet rows columns side settings elevation g ≡ grid_sheet rows columns side settings text heights g
+  grid-is : mapped (grid_answer heights text) ≡ grid_sheet rows columns side settings text heights g
   unfolding grid_sheet
-  grid-printed elevation f h = ap (λ (l : List ℤ). map_sheet rows columns side settings l g) f
-      ∙ sym (lines-yes _ (grid_answer heights text).answer.place _ (sym (ap (λ (x : Head). x.number) e) ∙ h))
+  grid-is = refl
+
+  module _ {r : Result Header Refusal} {elevation : List ℤ} (e : grid_outcome_of r elevation ≡ grid_answer heights text) where
+    pub grid-refused : (f : Refusal) → r ≡ Err f → refusal_line (number_of f.fault) f.place ≡ grid_sheet rows columns side settings text heights g
+    grid-refused f h =
+        let line : refusal_line (number_of f.fault) f.place ≡ mapped (grid_outcome_of (Err f) elevation) = sym (lines-no (number_of f.fault) f.place _ (number-some f.fault)) in
+        line ∙ ap mapped (sym (ap (λ (x : Result Header Refusal). grid_outcome_of x elevation) h) ∙ e) ∙ grid-is
+
+    pub grid-printed : (h : Header) → r ≡ Ok h → map_sheet rows columns side settings elevation g ≡ grid_sheet rows columns side settings text heights g
+    grid-printed x h =
+        let lines : map_sheet rows columns side settings elevation g ≡ mapped (grid_outcome_of (Ok x) elevation) = sym (lines-yes 0 0 _ refl) in
+        lines ∙ ap mapped (sym (ap (λ (x : Result Header Refusal). grid_outcome_of x elevation) h) ∙ e) ∙ grid-is
 
 -- ---- the number of cells, the header and the text's length
 
@@ -114,35 +130,50 @@ module _ (rows columns side : ℕ) (settings : Settings) (text : List ℕ) where
   cells-few h = ap by_size (le-ltb 2048 (rows * columns) h)
 
 module _ (settings : Settings) (text : List ℕ) where
-  -- what a header's numbers come to
-  abbrev headed : Head → List ℕ
-  headed h = lines_or h.number h.place (head_sheet h.rows h.columns h.side settings text)
+  -- what a header's answer comes to
+  abbrev headed : Outcome → List ℕ
+  headed h = lines_or h.number h.place (head_sheet h.rows h.columns (nat_abs h.side) settings text)
 
   abbrev by_length : Bool → List ℕ
-  by_length b = elim b [ true ↦ refusal_line 11 32768 | false ↦ headed (head_numbers (header_answer text)) ]
+  by_length b = elim b [ true ↦ refusal_line 11 32768 | false ↦ headed (header_answer text) ]
 
   pub text-long : 32768 < length text → refusal_line 11 32768 ≡ sheet_of text settings
   unfolding sheet_of
   text-long h = sym (ap by_length (lt-ltb 32768 (length text) h))
 
-  text-short : length text ≤ 32768 → sheet_of text settings ≡ headed (head_numbers (header_answer text))
+  text-short : length text ≤ 32768 → sheet_of text settings ≡ headed (header_answer text)
   unfolding sheet_of
   text-short h = ap by_length (le-ltb 32768 (length text) h)
 
-  module _ (short : length text ≤ 32768) (s : Head) (e : s ≡ head_numbers (header_answer text)) where
-    head-is : sheet_of text settings ≡ headed s
-    head-is = text-short short ∙ ap headed (sym e)
+  module _ (short : length text ≤ 32768) {r : Result Head Refusal} (e : head_outcome_of r ≡ header_answer text) where
+    head-is : (x : Result Head Refusal) → r ≡ x → headed (head_outcome_of x) ≡ sheet_of text settings
+    head-is x h = ap headed (sym (ap head_outcome_of h) ∙ e) ∙ sym (text-short short)
 
-    pub head-refused : (s.number ≡ 0 → ⊥) → refusal_line s.number s.place ≡ sheet_of text settings
-    head-refused h = sym (head-is ∙ lines-no _ _ _ h)
+    pub head-refused : (f : Refusal) → r ≡ Err f → refusal_line (number_of f.fault) f.place ≡ sheet_of text settings
+    head-refused f h = sym (lines-no (number_of f.fault) f.place _ (number-some f.fault)) ∙ head-is (Err f) h
 
-    module _ (good : s.number ≡ 0) where
-      pub head-large : 2048 < s.rows * s.columns → refusal_line 11 0 ≡ sheet_of text settings
-      head-large h = sym (head-is ∙ lines-yes _ _ _ good ∙ cells-many s.rows s.columns s.side settings text h)
+    module _ (x : Head) (h : r ≡ Ok x) where
+      abbrev rows : ℕ
+      rows = x.header.rows
 
-      pub head-printed : s.rows * s.columns ≤ 2048 → grid_sheet s.rows s.columns s.side settings text
-          (replicate (s.rows * s.columns) (pos 0)) (zeros (s.rows * s.columns)) ≡ sheet_of text settings
-      head-printed h = sym (head-is ∙ lines-yes _ _ _ good ∙ cells-few s.rows s.columns s.side settings text h)
+      abbrev columns : ℕ
+      columns = x.header.columns
+
+      good : head_sheet rows columns x.header.side settings text ≡ sheet_of text settings
+      good = sym (lines-yes 0 0 _ refl) ∙ head-is (Ok x) h
+
+      pub head-large : 2048 < rows * columns → refusal_line 11 0 ≡ sheet_of text settings
+      head-large l = sym (cells-many rows columns x.header.side settings text l) ∙ good
+
+      pub head-printed : rows * columns ≤ 2048 → grid_sheet rows columns x.header.side settings text
+          (replicate (rows * columns) (pos 0)) (zeros (rows * columns)) ≡ sheet_of text settings
+      head-printed l = sym (cells-few rows columns x.header.side settings text l) ∙ good
+
+      pub head-few : (rows ≤ 1024) × (columns ≤ 1024)
+      head-few =
+          let few = header-few text in
+          let o = sym (ap head_outcome_of h) ∙ e in
+          (omega (arith, few.0, ap (λ (a : Outcome). a.rows) o), omega (arith, few.1, ap (λ (a : Outcome). a.columns) o))
 
 -- ---- parts of arrays of one value
 

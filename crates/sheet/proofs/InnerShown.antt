@@ -1,11 +1,10 @@
 -- Laws of a sheet's lines: what a cell shows, by its ground, and the lines of one cell more. Assumes nothing.
-use mathlib.Core.Path.{◌≡◌, refl, ap, ap₂}
+use mathlib.Core.Path.{◌≡◌, refl, ap}
 use mathlib.Core.Bool.{Bool, true, false, cond}
-use mathlib.Core.List.{List, ◌∷◌, ◌++◌}
+use mathlib.Core.List.{List, [], ◌∷◌, ◌++◌}
 use Prim.Native.Nat.{ℕ, ◌+◌, ◌/◌, ◌%◌}
 use native.Mathlib.Numerals.{add-one}
 use lib.ListN.{replicate}
-use lib.IntN.{ℤ}
 use Rattle.text.specs.Bytes.{bytes}
 use Rattle.text.specs.Heights.{same}
 use Rattle.text.specs.Quantities.{no_data_height}
@@ -34,18 +33,20 @@ pub shown-values : (c : Cell) → same c.elevation no_data_height ≡ false → 
 unfolding shown_words
 shown-values c h = ap (λ (b : Bool). cond b (replicate 6 (bytes "-")) (value_words c)) h
 
--- ---- the lines of a map's cells
+-- a number as it was converted, and the byte after it
+pub number-as : {room after : List ℕ} {at next m n : ℕ} (b : ℕ) → m ≡ n → Wrote room at (decimal m ++ (b ∷ [])) next after
+    → Wrote room at (decimal n ++ (b ∷ [])) next after
+number-as b e p = wrote_as (ap (λ (k : ℕ). decimal k ++ (b ∷ [])) e) p
 
--- the cell x, with its two heights as they were read
-abbrev cell_with : Grids → ℕ → ℤ → ℤ → Cell
-cell_with g x elevation filled =
-    record { elevation = elevation; filled = filled; direction = (cell_of g x).direction; count = (cell_of g x).count; length = (cell_of g x).length; factor = (cell_of g x).factor }
+-- ---- the lines of a map's cells
 
 module _ (columns : ℕ) (g : Grids) where
   pub cells-none : (room : List ℕ) (at : ℕ) → Wrote room at (cell_lines columns g 0) at room
   unfolding cell_lines
   cells-none room at = wrote_none room at
 
-  pub cells-more : {room mid after : List ℕ} {at next end : ℕ} {elevation filled : ℤ} (x : ℕ) → elevation ≡ (cell_of g x).elevation → filled ≡ (cell_of g x).filled → Wrote room at (cell_lines columns g x) next mid → Wrote mid next (cell_line (x / columns) (x % columns) (cell_with g x elevation filled)) end after → Wrote room at (cell_lines columns g (x + 1)) end after
+  -- the cell x as it was read
+  pub cells-more : {room mid after : List ℕ} {at next end : ℕ} (x : ℕ) (c : Cell) → c ≡ cell_of g x → Wrote room at (cell_lines columns g x) next mid
+      → Wrote mid next (cell_line (x / columns) (x % columns) c) end after → Wrote room at (cell_lines columns g (x + 1)) end after
   unfolding cell_lines
-  cells-more x eg ef p q = rw add-one (wrote_then p (wrote_as (ap₂ (λ (elevation filled : ℤ). cell_line (x / columns) (x % columns) (cell_with g x elevation filled)) eg ef) q))
+  cells-more x c e p q = rw add-one (wrote_then p (wrote_as (ap (cell_line (x / columns) (x % columns)) e) q))

@@ -2,7 +2,6 @@
 pub mod Lines
 pub mod Sheet
 -- What only inner functions cite
-pub mod InnerAnswers
 pub mod InnerGrids
 pub mod InnerLines
 pub mod InnerWriting

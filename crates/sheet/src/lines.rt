@@ -2,13 +2,14 @@
 ghost use Rattle.std.specs.Prelude.{[], ◌∷◌, ◌++◌, ◌+◌, ◌*◌, ◌≤◌, ◌<◌, ◌^◌, length};
 ghost use Rattle.numerals.specs.Words.{decimal, integer, line};
 ghost use Rattle.sheet.specs.InnerWriting.{Puts};
-ghost use Rattle.sheet.specs.InnerGrids.{grids_before, Long};
+ghost use Rattle.text.specs.Faults.{number_of};
+ghost use Rattle.sheet.specs.InnerGrids.{shown, Long};
 ghost use Rattle.sheet.specs.InnerLines.{length_words, flow_words, summary_words, place_words};
-ghost use Rattle.sheet.specs.Lines.{refusal_line, factor_word, value_words, shown_words, cell_line, shape_line, cell_lines, map_lines, grids_of};
+ghost use Rattle.sheet.specs.Lines.{refusal_line, factor_word, value_words, shown_words, cell_line, shape_line, cell_lines, map_lines};
 
 use crate::writer;
 use factor::TOO_LONG;
-use text::NO_DATA;
+use text::{NO_DATA, Refusal};
 
 // What a map has at one cell.
 #[derive(Clone, Copy)]
@@ -29,6 +30,17 @@ pub(crate) struct Shape {
     pub(crate) side: u32,
     pub(crate) valid: u32,
     pub(crate) longest: u32,
+}
+
+// The grids that are shown, in row order.
+#[derive(Clone, Copy)]
+pub(crate) struct Grids<'a> {
+    pub(crate) elevation: &'a [i32],
+    pub(crate) filled: &'a [i32],
+    pub(crate) direction: &'a [u8],
+    pub(crate) count: &'a [u32],
+    pub(crate) lengths: &'a [u64],
+    pub(crate) factors: &'a [u32],
 }
 
 // A number and the byte after it.
@@ -57,7 +69,7 @@ fn put_factor(out: &mut [u8], at: usize, factor: u32) -> usize
     if factor == TOO_LONG {
         return writer::put_all(out, at, b"long\n");
     }
-    put_number(out, at, factor as u64, b'\n')
+    put_number(out, at, u64::from(factor), b'\n')
 }
 
 // The rest of a valid cell's line behind its count: length and LS.
@@ -74,8 +86,8 @@ fn put_flow(out: &mut [u8], at: usize, cell: Cell) -> usize
     requires { at < 2 ^ 59 }
     ensures { Puts out at (line (flow_words cell)) result (at + 84) }
 {
-    let a = put_number(out, at, cell.direction as u64, b' ');
-    let b = put_number(out, a, cell.count as u64, b' ');
+    let a = put_number(out, at, u64::from(cell.direction), b' ');
+    let b = put_number(out, a, u64::from(cell.count), b' ');
     put_length(out, b, cell)
 }
 
@@ -115,9 +127,9 @@ fn put_summary(out: &mut [u8], at: usize, shape: Shape) -> usize
     requires { at < 2 ^ 59 }
     ensures { Puts out at (line (summary_words shape)) result (at + 63) }
 {
-    let a = put_number(out, at, shape.side as u64, b' ');
-    let b = put_number(out, a, shape.valid as u64, b' ');
-    put_number(out, b, shape.longest as u64, b'\n')
+    let a = put_number(out, at, u64::from(shape.side), b' ');
+    let b = put_number(out, a, u64::from(shape.valid), b' ');
+    put_number(out, b, u64::from(shape.longest), b'\n')
 }
 
 // A map's first line.
@@ -140,67 +152,40 @@ fn put_place(out: &mut [u8], at: usize, place: usize) -> usize
 }
 
 // The one line of a refusal.
-pub(crate) fn put_refusal(out: &mut [u8], number: u32, place: usize) -> usize
-    ensures { Puts out 0 (refusal_line number place) result 53 }
+pub(crate) fn put_refusal(out: &mut [u8], refusal: Refusal) -> usize
+    ensures { Puts out 0 (refusal_line (number_of refusal.fault) refusal.place) result 53 }
 {
     let a = writer::put_all(out, 0, b"refused ");
-    let b = put_number(out, a, number as u64, b' ');
-    put_place(out, b, place)
+    let b = put_number(out, a, u64::from(refusal.fault.number()), b' ');
+    put_place(out, b, refusal.place)
 }
 
 // The lines of a map's cells.
-fn put_cells(
-    out: &mut [u8],
-    at: usize,
-    columns: usize,
-    elevation: &[i32],
-    filled: &[i32],
-    direction: &[u8],
-    count: &[u32],
-    lengths: &[u64],
-    factors: &[u32],
-) -> usize
-    requires { (at ≤ 105) × (0 < columns)
-        × Long (length elevation.now) (grids_of elevation.now filled.now direction.now count.now lengths.now factors.now) }
-    ensures { Puts out at (cell_lines columns (grids_before elevation filled direction count lengths factors) (length elevation.now))
-        result (at + 150 * length elevation.now) }
+fn put_cells(out: &mut [u8], at: usize, columns: usize, grids: Grids) -> usize
+    requires { (at ≤ 105) × (0 < columns) × Long (length grids.elevation.now) (shown grids) }
+    ensures { Puts out at (cell_lines columns (shown grids.entry) (length grids.entry.elevation.now))
+        result (at + 150 * length grids.entry.elevation.now) }
 {
     let mut next = at;
-    let mut x = 0;
-    while x < elevation.len() {
+    for x in 0..grids.elevation.len() {
         let cell = Cell {
-            elevation: elevation[x],
-            filled: filled[x],
-            direction: direction[x],
-            count: count[x],
-            length: lengths[x],
-            factor: factors[x],
+            elevation: grids.elevation[x],
+            filled: grids.filled[x],
+            direction: grids.direction[x],
+            count: grids.count[x],
+            length: grids.lengths[x],
+            factor: grids.factors[x],
         };
         next = put_cell(out, next, x / columns, x % columns, cell);
-        x += 1;
     }
     next
 }
 
-// All lines of a map, whose grids stand in row order.
-pub(crate) fn put_map(
-    out: &mut [u8],
-    shape: Shape,
-    elevation: &[i32],
-    filled: &[i32],
-    direction: &[u8],
-    count: &[u32],
-    lengths: &[u64],
-    factors: &[u32],
-) -> usize
-    requires { (0 < shape.columns)
-        × Long (shape.rows * shape.columns) (grids_of elevation.now filled.now direction.now count.now lengths.now factors.now) }
-    ensures { Puts out 0 (map_lines shape (grids_before elevation filled direction count lengths factors))
-        result (105 + 150 * (shape.rows * shape.columns)) }
+// All lines of a map.
+pub(crate) fn put_map(out: &mut [u8], shape: Shape, grids: Grids) -> usize
+    requires { (0 < shape.columns) × Long (shape.rows * shape.columns) (shown grids) }
+    ensures { Puts out 0 (map_lines shape (shown grids.entry)) result (105 + 150 * (shape.rows * shape.columns)) }
 {
-    let columns = shape.columns;
     let next = put_shape(out, 0, shape);
-    put_cells(
-        out, next, columns, elevation, filled, direction, count, lengths, factors,
-    )
+    put_cells(out, next, shape.columns, grids)
 }

@@ -1,5 +1,5 @@
 -- The tests of terrain's call: what each decides, what an accepted ground and accepted directions are, and the promise from the answer and the grids. Assumes nothing.
-use Rattle.std.proofs.Common.{◌≡◌, ℕ, ◌*◌, ◌<◌, ◌≤◌, Bool, true, false, cond, not, ◌&&◌, ltb, List, [], ◌∷◌, length, get_or, replicate, ℤ, pos, sym, refl, ap, ◌∙◌, subst, true≢false, arith}
+use Rattle.std.proofs.Common.{◌≡◌, ℕ, ◌*◌, ◌<◌, ◌≤◌, Bool, true, false, cond, not, ◌&&◌, ltb, List, [], ◌∷◌, length, get_or, replicate, ℤ, pos, Result, Err, sym, refl, ap, ◌∙◌, subst, true≢false, arith}
 use Rattle.laws.specs.Tests.{Test, passed, failed, verdict}
 use Rattle.laws.proofs.Lists.{get_or_any}
 use Rattle.laws.proofs.Verdicts.{verdict-none, verdict-next, verdict-stops, verdict-passed, verdict-parts, verdict-before, verdict-after, OfNumber, test-number, verdict-number}
@@ -14,8 +14,10 @@ use Rattle.terrain.specs.InnerGiven.{Keeping}
 use Rattle.terrain.specs.Drainage.{Drainage}
 use Rattle.terrain.specs.Answers.{Grids, lent, places_of, ground_tests, ground_judged, source_tests, tests, judged, ground_valids, directions_by, Mapped, leaves_zeros, refused_grids, After, answer_of, answer, accepts, valid_in}
 use Rattle.text.specs.declared.Refusal.{Refusal}
-use Rattle.terrain.specs.declared.Answer.{Answer}
-use Rattle.terrain.specs.declared.Answer.TheVariants.{Refused}
+use Rattle.text.specs.Faults.{number_of}
+use Rattle.text.specs.declared.faults.Fault.{Fault}
+use Rattle.text.proofs.FaultNumbers.{back-fault}
+use Rattle.terrain.specs.declared.Summary.{Summary}
 use Rattle.terrain.specs.declared.Source.{Source}
 use Rattle.terrain.specs.declared.Source.TheVariants.{Own, Given}
 use Rattle.terrain.proofs.Neighbours.{accepted-fine}
@@ -164,7 +166,7 @@ module _ (rows cols : ℕ) (source : Source) (elevation : List ℤ) (g : Grids) 
   abbrev pub cleared : Grids
   cleared = lent g.filled g.direction g.count g.falls (replicate (length g.workspace) 0)
 
-  abbrev pub Promised : Answer → Grids → Type 0
+  abbrev pub Promised : Result Summary Refusal → Grids → Type 0
   Promised a h =
       (a ≡ answer rows cols source elevation g)
       × (After rows cols elevation (directions_by source rows cols elevation g.direction) g h (judged rows cols source elevation g)
@@ -194,21 +196,34 @@ module _ (rows cols : ℕ) (source : Source) (elevation : List ℤ) (g : Grids) 
     pub accepted-directed : Directed rows cols (directions_by source rows cols elevation g.direction)
     accepted-directed = accepted-chosen.directed
 
-  -- a refusal as the code makes it
-  pub refused-is : (f : Refusal) → Refused f ≡ answer_of rows cols elevation (directions_by source rows cols elevation g.direction) (failed f.number f.place)
-  unfolding answer_of
-  refused-is f = refl
+  -- what the code has after its tests: an accepted ground, grids of its size, the levels of its filled heights, and accepted directions
+  pub record Sound (level : List ℕ) : Type 0 where
+    pub ready : Ready rows cols elevation
+    pub room : Room (rows * cols) g
+    pub levels : level ≡ filled_levels rows cols elevation
+    pub chosen : Chosen rows cols elevation (directions_by source rows cols elevation g.direction)
 
-  refuses-with : {a : Answer} {n p : ℕ} {h : Grids} → judged rows cols source elevation g ≡ failed n p → a ≡ answer_of rows cols elevation dir (failed n p) → h ≡ refused_grids n g → Promised a h
+  pub sound : {level : List ℕ} → passed ≡ ground_judged rows cols elevation g → passed ≡ verdict (source_tests source rows cols (filled_levels rows cols elevation) g.direction) → level ≡ filled_levels rows cols elevation → Sound level
+  sound e j l =
+      let ready = passed-ready rows cols elevation g (sym e) in
+      let room = passed-room rows cols elevation g (sym e) in
+      record { ready = ready; room = room; levels = l; chosen = source-chosen rows cols elevation g.direction source ready room.direction-long (sym j) }
+
+  -- a refusal as the code makes it
+  pub refused-is : (f : Refusal) → Err f ≡ answer_of rows cols elevation (directions_by source rows cols elevation g.direction) (failed (number_of f.fault) f.place)
+  unfolding answer_of
+  refused-is f = ap (λ (a : Fault). Err (record { fault = a; place = f.place })) (sym (back-fault f.fault))
+
+  refuses-with : {a : Result Summary Refusal} {n p : ℕ} {h : Grids} → judged rows cols source elevation g ≡ failed n p → a ≡ answer_of rows cols elevation dir (failed n p) → h ≡ refused_grids n g → Promised a h
   unfolding answer answer_of
   refuses-with {a} {n} {p} {h} j e q = (e ∙ ap (answer_of rows cols elevation dir) (sym j), (subst (After rows cols elevation dir g h) (sym j) q, λ t. absurd (true≢false (sym t ∙ ap accepts e))))
 
-  pub refuses : {a : Answer} {n p : ℕ} → failed n p ≡ ground_judged rows cols elevation g → a ≡ answer_of rows cols elevation (directions_by source rows cols elevation g.direction) (failed n p) → Promised a g
+  pub refuses : {a : Result Summary Refusal} {n p : ℕ} → failed n p ≡ ground_judged rows cols elevation g → a ≡ answer_of rows cols elevation (directions_by source rows cols elevation g.direction) (failed n p) → Promised a g
   refuses {a} {n} {p} j e =
       refuses-with (judged-before (sym j)) e (ap (λ (b : Bool). cond b cleared g) (sym (subst (OfNumber Early) (sym j) (ground-number rows cols elevation g))))
 
   module _ (e : ground_judged rows cols elevation g ≡ passed) where
-    pub refuses-later : {a : Answer} {t : Test} {n p : ℕ} {lv work : List ℕ} → t ≡ verdict (source_tests source rows cols (filled_levels rows cols elevation) g.direction) → t ≡ failed n p → lv ≡ filled_levels rows cols elevation → work ≡ replicate (length lv) 0 → a ≡ answer_of rows cols elevation (directions_by source rows cols elevation g.direction) (failed n p) → Promised a (lent g.filled g.direction g.count g.falls work)
+    pub refuses-later : {a : Result Summary Refusal} {t : Test} {n p : ℕ} {lv work : List ℕ} → t ≡ verdict (source_tests source rows cols (filled_levels rows cols elevation) g.direction) → t ≡ failed n p → lv ≡ filled_levels rows cols elevation → work ≡ replicate (length lv) 0 → a ≡ answer_of rows cols elevation (directions_by source rows cols elevation g.direction) (failed n p) → Promised a (lent g.filled g.direction g.count g.falls work)
     refuses-later {a} {t} {n} {p} {lv} {work} j f l w q =
         refuses-with (judged-after e ∙ sym j ∙ f) q
         (ap (λ (l : List ℕ). lent g.filled g.direction g.count g.falls l) zeros
@@ -218,7 +233,7 @@ module _ (rows cols : ℕ) (source : Source) (elevation : List ℤ) (g : Grids) 
         zeros =
             w ∙ ap (λ (m : ℕ). replicate m 0) (ap length l ∙ filled-long rows cols elevation (passed-ready rows cols elevation g e) ∙ sym (passed-room rows cols elevation g e).workspace-long)
 
-    pub accepts-all : {a : Answer} {h : Grids} → passed ≡ verdict (source_tests source rows cols (filled_levels rows cols elevation) g.direction) → a ≡ answer_of rows cols elevation (directions_by source rows cols elevation g.direction) passed → Mapped rows cols elevation (directions_by source rows cols elevation g.direction) h → Promised a h
+    pub accepts-all : {a : Result Summary Refusal} {h : Grids} → passed ≡ verdict (source_tests source rows cols (filled_levels rows cols elevation) g.direction) → a ≡ answer_of rows cols elevation (directions_by source rows cols elevation g.direction) passed → Mapped rows cols elevation (directions_by source rows cols elevation g.direction) h → Promised a h
     unfolding answer answer_of
     accepts-all {a} {h} j q m =
         let t = judged-after e ∙ sym j in

@@ -1,8 +1,6 @@
 -- Laws of the steps over flats one by one: where they start, and what a sweep lowers. Assumes nothing.
-use Rattle.std.proofs.Common.{◌≡◌, ℕ, zero, suc, ◌+◌, ◌-◌, ◌^◌, ◌<◌, ◌≤◌, Bool, true, false, cond, not, ◌&&◌, ◌||◌, T, eqb, ltb, List, get_or, set, ℤ, pos, negsuc, nat_abs, sym, refl, ap, ◌∙◌, ⊎_elim, true≢false, add-one, arith, w32, w64, Fits, to_z, of_z, ltb-false, ltb-true, le-ltb, lt-ltb, ne_eqb}
+use Rattle.std.proofs.Common.{◌≡◌, ℕ, zero, suc, ◌+◌, ◌^◌, ◌<◌, ◌≤◌, Bool, true, false, cond, not, ◌&&◌, ◌||◌, eqb, ltb, List, get_or, set, ℤ, pos, sym, refl, ap, ◌∙◌, ⊎_elim, true≢false, add-one, arith, w32, to_z, of_z, ltb-false, ltb-true, le-ltb, lt-ltb, ne_eqb}
 use native.Mathlib.Decide.{dec_lt, ℕ_discrete}
-use lib.Signed.{lt_z, non_neg}
-use mir.Val.{sel}
 use Rattle.laws.proofs.Tests.{two}
 use Rattle.laws.proofs.Settle.{relax-lower, relax-pass}
 use Rattle.terrain.specs.Cells.{neighbour, code_of, valid_at, rim_at}
@@ -13,15 +11,7 @@ use Rattle.terrain.proofs.Neighbours.{code-some, rim-open, open-rim}
 use Rattle.terrain.proofs.Flats.{flat-valid, flat-high}
 use Rattle.terrain.proofs.Directions.{steep-bearing}
 
--- an entry that is not below 0 casts to an index
-pub entry-casts : (n : ℕ) → lt_z (to_z w32 n) (pos 0) ≡ false → T (non_neg (to_z w32 n)) × Fits w64 (nat_abs (to_z w32 n))
-entry-casts n = go (ltb n (2 ^ 31)) refl
-  where
-    go : (b : Bool) → ltb n (2 ^ 31) ≡ b → lt_z (sel b (pos n) (negsuc (2 ^ 32 - suc n))) (pos 0) ≡ false → T (non_neg (sel b (pos n) (negsuc (2 ^ 32 - suc n)))) × Fits w64 (nat_abs (sel b (pos n) (negsuc (2 ^ 32 - suc n))))
-    go true q e = (tt, record { fits = omega (arith, ltb-true n (2 ^ 31) q) })
-    go false q e = absurd (true≢false e)
-
--- and that of a cell is the cell's index
+-- an entry of the queue is the cell's index
 pub entry-is : (x : ℕ) → x < 1048576 → to_z w32 x ≡ pos x
 entry-is x h = rw (lt-ltb x (2 ^ 31) (omega arith)) refl
 

@@ -1,5 +1,5 @@
 -- The parts of a map: what each assumes of the grids that those before it leave, and that together they give what is promised. Assumes nothing.
-use Rattle.std.proofs.Common.{◌≡◌, ℕ, ◌*◌, ◌<◌, Bool, List, map, get_or, ℤ, sym, refl, ap, ◌∙◌, subst, ap₂, arith}
+use Rattle.std.proofs.Common.{◌≡◌, ℕ, ◌*◌, ◌<◌, Bool, List, map, get_or, ℤ, Ok, sym, refl, ap, ◌∙◌, subst, ap₂, arith}
 use Rattle.laws.specs.Tests.{passed}
 use Rattle.laws.specs.Sums.{when}
 use Rattle.laws.proofs.Sums.{sum-ext}
@@ -17,8 +17,7 @@ use Rattle.terrain.specs.InnerGiven.{Keeping}
 use Rattle.terrain.specs.InnerAnswers.{directions_for}
 use Rattle.terrain.specs.declared.Source.{Source}
 use Rattle.terrain.specs.declared.Source.TheVariants.{Own, Given}
-use Rattle.terrain.specs.declared.Answer.{Answer}
-use Rattle.terrain.specs.declared.Answer.TheVariants.{Accepted}
+use Rattle.terrain.specs.declared.Summary.{Summary}
 use Rattle.terrain.proofs.InnerInterior.{ready-sized}
 use Rattle.terrain.proofs.Filling.{filled-long, filled-small, filled-valid}
 use Rattle.terrain.proofs.InnerFlooding.{filled-heights}
@@ -64,13 +63,13 @@ module _ {rows cols : ℕ} {elevation : List ℤ} (ready : Ready rows cols eleva
   pub relief-filled : {level : List ℕ} {filled : List ℤ} → level ≡ filled_levels rows cols elevation → filled ≡ map height_of level → filled ≡ filled_of rows cols elevation
   relief-filled l f = f ∙ ap (map height_of) l ∙ filled-heights ready
 
-  module _ {dir : List ℕ} (k : Keeping rows cols (filled_levels rows cols elevation) dir) {filled : List ℤ} {direction count falls order : List ℕ} {r : Answer} (f : filled ≡ filled_of rows cols elevation) (d : direction ≡ dir) (w : falls ≡ falls_of rows cols (filled_levels rows cols elevation) dir) (t : (count ≡ counts_of rows cols direction) × ((places : ℕ) × Downhill rows cols direction order places × (r ≡ Accepted places (longest_of rows cols direction)))) where
+  module _ {dir : List ℕ} (k : Keeping rows cols (filled_levels rows cols elevation) dir) {filled : List ℤ} {direction count falls order : List ℕ} {r : Summary} (f : filled ≡ filled_of rows cols elevation) (d : direction ≡ dir) (w : falls ≡ falls_of rows cols (filled_levels rows cols elevation) dir) (t : (count ≡ counts_of rows cols direction) × ((places : ℕ) × Downhill rows cols direction order places × (r.valid ≡ places) × (r.longest ≡ longest_of rows cols direction))) where
     places : Downhill rows cols dir order t.1.0
     places = subst (λ (v : List ℕ). Downhill rows cols v order t.1.0) d t.1.1
 
-    pub routed-answer : r ≡ answer_of rows cols elevation dir passed
+    pub routed-answer : Ok r ≡ answer_of rows cols elevation dir passed
     unfolding answer_of
-    routed-answer = t.1.2 ∙ ap₂ (λ (m : ℕ) (v : List ℕ). Accepted m (longest_of rows cols v)) (downhill-valids k places) d
+    routed-answer = ap₂ (λ (m n : ℕ). Ok (record { valid = m; longest = n })) (t.1.2 ∙ downhill-valids k places) (t.1.3 ∙ ap (longest_of rows cols) d)
 
     pub routed-mapped : Mapped rows cols elevation dir (lent filled direction count falls order)
     routed-mapped =

@@ -1,9 +1,11 @@
 -- RULES 3 and 7.2: what terrain's call answers, and what each lent grid holds afterwards. Assumes nothing.
-use Rattle.std.specs.Prelude.{◌≡◌, ℕ, ◌*◌, Bool, true, false, cond, ◌||◌, List, [], ◌∷◌, ◌++◌, length, replicate, ℤ, ◌==◌}
+use Rattle.std.specs.Prelude.{◌≡◌, ℕ, ◌*◌, Bool, true, false, cond, ◌||◌, List, [], ◌∷◌, ◌++◌, length, replicate, ℤ, ◌==◌, Result, Ok, Err}
 use Rattle.std.specs.Borrow.{Bor}
 use Rattle.laws.specs.Slices.{Slice}
 use Rattle.laws.specs.Tests.{Test, passed, failed, verdict}
 use Rattle.text.specs.Ranges.{size_test, length_test, height_test}
+use Rattle.text.specs.Faults.{fault_of}
+use Rattle.text.specs.declared.Refusal.{Refusal}
 use Rattle.terrain.specs.Cells.{levels_of}
 use Rattle.terrain.specs.Filled.{filled_levels, filled_of}
 use Rattle.terrain.specs.Direction.{directions_of}
@@ -13,8 +15,7 @@ use Rattle.terrain.specs.Downhill.{Downhill}
 use Rattle.terrain.specs.Given.{given_tests}
 use Rattle.terrain.specs.declared.Source.{Source}
 use Rattle.terrain.specs.declared.Source.TheVariants.{Own, Given}
-use Rattle.terrain.specs.declared.Answer.{Answer}
-use Rattle.terrain.specs.declared.Answer.TheVariants.{Accepted, Refused}
+use Rattle.terrain.specs.declared.Summary.{Summary}
 
 -- the grids that a call is lent to write
 pub record Grids : Type 0 where
@@ -89,11 +90,11 @@ pub record Mapped (rows cols : ℕ) (elevation : List ℤ) (dir : List ℕ) (g :
   pub falls-are : g.falls ≡ falls_of rows cols (filled_levels rows cols elevation) dir
   pub order : Downhill rows cols dir g.workspace (ground_valids rows cols elevation)
 
--- A refusal returns number and place with every other number 0; an accepted call has number and place 0: the cases of the enum
-unfoldable pub answer_of : ℕ → ℕ → List ℤ → List ℕ → Test → Answer
-unfolding ground_valids longest_of
-answer_of rows cols elevation dir passed = Accepted (ground_valids rows cols elevation) (longest_of rows cols dir)
-answer_of rows cols elevation dir (failed number place) = Refused (record { number = number; place = place })
+-- the numbers of an accepted call, or the fault and the place of a refusal
+unfoldable pub answer_of : ℕ → ℕ → List ℤ → List ℕ → Test → Result Summary Refusal
+unfolding ground_valids longest_of fault_of
+answer_of rows cols elevation dir passed = Ok (record { valid = ground_valids rows cols elevation; longest = longest_of rows cols dir })
+answer_of rows cols elevation dir (failed number place) = Err (record { fault = fault_of number; place = place })
 
 -- 17 and 18 leave zeros in the workspace
 abbrev pub leaves_zeros : ℕ → Bool
@@ -109,16 +110,16 @@ After rows cols elevation dir g h passed = Mapped rows cols elevation dir h
 After rows cols elevation dir g h (failed number place) = h ≡ refused_grids number g
 
 -- the whole of the call
-unfoldable pub answer : ℕ → ℕ → Source → List ℤ → Grids → Answer
+unfoldable pub answer : ℕ → ℕ → Source → List ℤ → Grids → Result Summary Refusal
 unfolding judged answer_of ground_directions
 answer rows cols source elevation g = answer_of rows cols elevation (directions_by source rows cols elevation g.direction) (judged rows cols source elevation g)
 
 -- the call was accepted
-abbrev pub accepts : Answer → Bool
-accepts (Accepted valid longest) = true
-accepts (Refused f) = false
+abbrev pub accepts : Result Summary Refusal → Bool
+accepts (Ok s) = true
+accepts (Err f) = false
 
 -- the number of valid cells that an answer gives
-abbrev pub valid_in : Answer → ℕ
-valid_in (Accepted valid longest) = valid
-valid_in (Refused f) = 0
+abbrev pub valid_in : Result Summary Refusal → ℕ
+valid_in (Ok s) = s.valid
+valid_in (Err f) = 0

@@ -74,11 +74,6 @@ pub record Rimming (cols : ℕ) (l₀ l : List ℕ) : Type 0 where
   pub same : done_of l ≡ done_of l₀
   pub waiting : (rows : ℕ) → Sized rows cols → length l₀ ≡ rows * cols → Waiting rows cols l₀ 0 → Waiting rows cols l 0
 
--- the cell r that came off a list: none, or one that waits
-pub record Popped (words : List ℕ) (r : ℕ) : Type 0 where
-  pub within : r ≤ length words
-  pub waits : r < length words → queued_from ≤ slice_index words r
-
 -- the level of a list, while a band is being emptied
 abbrev pub level_in : ℕ → ℕ → ℕ
 level_in band list = (band + 926) * 1024 + list

@@ -1,5 +1,5 @@
 -- A given grid of directions on the way to being accepted, and the search for rings in the words of the workspace: only inner functions cite this file. Assumes nothing.
-use Rattle.std.specs.Prelude.{◌≡◌, ℕ, ◌+◌, ◌*◌, ◌%◌, ◌<◌, ◌≤◌, Bool, true, false, ◌&&◌, List, map, length, nat_le, nat_lt, slice_index, slice_index_or}
+use Rattle.std.specs.Prelude.{◌≡◌, ℕ, ◌+◌, ◌*◌, ◌%◌, ◌<◌, ◌≤◌, Bool, true, false, ◌&&◌, if◌then◌else◌, Option, Some, None, List, map, length, nat_le, nat_lt, slice_index, slice_index_or}
 use Rattle.laws.specs.Orders.{stands_in}
 use Rattle.terrain.specs.Cells.{valid_at, rim_at}
 use Rattle.terrain.specs.Trail.{mapped_at, flows_at, next_at}
@@ -14,6 +14,10 @@ pub record Keeping (rows cols : ℕ) (lv dir : List ℕ) : Type 0 where
   pub mapped : (x : ℕ) → mapped_at rows cols dir x ≡ valid_at lv x
   pub falls : (x : ℕ) → flows_at rows cols dir x ≡ true → slice_index lv (next_at rows cols dir x) ≤ slice_index lv x
   pub leaves : (x : ℕ) → slice_index_or dir x 255 ≡ 0 → rim_at rows cols lv x ≡ true
+
+-- the cell x, if it is one of n cells
+abbrev pub cell_below : ℕ → ℕ → Option ℕ
+cell_below n x = if nat_lt x n then Some x else None
 
 -- ---- the words of the search: the level of a cell in the last 21 bits and, above, the number of inflows that it waits for, 0 to 8, or 9 if it is taken
 
@@ -36,9 +40,13 @@ pub record Noted (rows cols : ℕ) (lv dir waiting words : List ℕ) : Type 0 wh
 abbrev pub levels_in : List ℕ → List ℕ
 levels_in words = map (λ w. w % 2097152) words
 
--- the cell z is left over: it waits, and is not taken
+-- a word of a cell that is left over: it waits, and is not taken
+abbrev pub left_word : ℕ → Bool
+left_word w = nat_le 2097152 w && nat_lt w 18874368
+
+-- the cell z is left over
 abbrev pub left_at : List ℕ → ℕ → Bool
-left_at words z = nat_le 2097152 (slice_index words z) && nat_lt (slice_index words z) 18874368
+left_at words z = left_word (slice_index words z)
 
 -- the levels are as they were
 pub record SameLevels (words₀ words : List ℕ) : Type 0 where

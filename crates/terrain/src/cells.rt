@@ -3,7 +3,7 @@
 //     5 NW   6 N   7 NE
 //     4 W      x   0 E
 //     3 SW   2 S   1 SE
-ghost use Rattle.std.specs.Prelude.{◌≡◌, ◌+◌, ◌*◌, ◌<◌, ◌≤◌, min, max, true, length, replicate, slice_index};
+ghost use Rattle.std.specs.Prelude.{◌≡◌, ◌+◌, ◌*◌, ◌<◌, ◌≤◌, true, slice_index};
 ghost use Rattle.terrain.specs.Cells.{row_steps, col_steps, cell_at, neighbour, Shifts};
 ghost use Rattle.terrain.specs.InnerCells.{Sized, Inside, RunsTo, beside_of, Beside, Around};
 
@@ -24,23 +24,14 @@ fn place_of(k: usize) -> usize
     }
 }
 
-// The cell of row a - 1 and column b - 1, or rows * columns where there is none.
+// The cell of row a - 1 and column b - 1, or rows * columns where there is none: no Option, since a place past all cells reads as 0,
+// as NoData does, and no caller has a case more.
 fn cell_at(rows: usize, columns: usize, a: usize, b: usize) -> usize
     requires { Sized rows columns }
     ensures { result ≡ cell_at rows columns a b }
 {
-    let none = rows * columns;
-    if a < 1 {
-        return none;
-    }
-    if rows < a {
-        return none;
-    }
-    if b < 1 {
-        return none;
-    }
-    if columns < b {
-        return none;
+    if a < 1 || rows < a || b < 1 || columns < b {
+        return rows * columns;
     }
     (a - 1) * columns + (b - 1)
 }
@@ -88,7 +79,7 @@ pub(crate) fn run_end(rows: usize, columns: usize, x: usize) -> usize
     x
 }
 
-// The neighbour at bearing k of a cell x that has one there.
+// The neighbour at bearing k of a cell x that has one there: `near` without its divisions and tests, for loops over the bearings.
 pub(crate) fn beside(columns: usize, x: usize, k: usize) -> usize
     requires { Beside columns x k }
     ensures { result ≡ beside_of columns x k }
@@ -109,7 +100,7 @@ pub fn shifts_of(columns: usize) -> [usize; 8]
     [columns + 2, below + 2, below + 1, below, columns, 0, 1, 2]
 }
 
-// The neighbour at bearing k of a cell x that has one there, by the shifts.
+// The same by the shifts: `beside` where the bearing is read from memory, so that no loop over bearings can be unrolled.
 pub(crate) fn shifted(columns: usize, shifts: &[usize; 8], x: usize, k: usize) -> usize
     requires { Beside columns x k × Shifts columns shifts.now }
     ensures { result ≡ beside_of columns x k }
@@ -130,30 +121,5 @@ pub(crate) fn around(columns: usize, x: usize, k: usize) -> usize
 pub(crate) fn value_at(s: &[u32], i: usize) -> u32
     ensures { result ≡ slice_index s.now i }
 {
-    if i < s.len() {
-        return s[i];
-    }
-    0
-}
-
-pub(crate) fn smaller(a: u32, b: u32) -> u32
-    ensures { result ≡ min a b }
-{
-    if a < b { a } else { b }
-}
-
-pub(crate) fn larger(a: u32, b: u32) -> u32
-    ensures { result ≡ max a b }
-{
-    if a < b { b } else { a }
-}
-
-pub(crate) fn clear(s: &mut [u32])
-    ensures { s.new ≡ replicate (length s.old) 0 }
-{
-    let mut x: usize = 0;
-    while x < s.len() {
-        s[x] = 0;
-        x += 1;
-    }
+    s.get(i).copied().unwrap_or(0)
 }

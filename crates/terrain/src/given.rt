@@ -1,109 +1,119 @@
 // Directions that somebody else drew: the tests of refusals 17 and 18, which touch nothing but the levels, and the falls along them.
 // RULES 4.7.
 ghost use Rattle.std.specs.Prelude.{◌≡◌, ◌*◌, ◌<◌, length};
-ghost use Rattle.terrain.specs.Cells.{Shifts};
 ghost use Rattle.terrain.specs.Falls.{fall_at, falls_of};
 ghost use Rattle.terrain.specs.Given.{kept_at, first_broken, given_tests};
-ghost use Rattle.terrain.specs.InnerLevels.{Levels, open_at};
-ghost use Rattle.terrain.specs.InnerGiven.{Keeping};
+ghost use Rattle.terrain.specs.InnerLevels.{Levels};
+ghost use Rattle.terrain.specs.InnerGiven.{Keeping, cell_below};
 ghost use Rattle.terrain.specs.InnerAnswers.{found};
 ghost use Rattle.laws.specs.Tests.{verdict};
 
 use crate::cells::{near, shifts_of, value_at};
 use crate::direction::{NO_CODE, NO_FALL, code_of};
+use crate::drawing::Drawing;
 use crate::ring::first_on_ring;
-use crate::trail::receiver;
-use crate::{Judgement, unsound};
+use crate::surface::Surface;
+use text::{Fault, Refusal};
 
-// Whether a neighbour of the cell x has no data or is past the edge of the grid. It is not `direction::is_open`, which is to have
-// no caller but the loops of our own directions, so that the compiler joins it into them.
-fn is_beside_none(rows: usize, columns: usize, level: &[u32], x: usize) -> bool
-    requires { Levels rows columns level.now × (x < rows * columns) }
-    ensures { result ≡ open_at rows columns level.now x 8 }
-{
-    let mut found = false;
-    let mut k: usize = 0;
-    while k < 8 {
-        found = found | (value_at(level, near(rows, columns, x, k)) < 1);
-        k += 1;
-    }
-    found
-}
-
-// Whether the code of the cell x keeps the rules of refusal 17.
-fn is_kept(rows: usize, columns: usize, level: &[u32], direction: &[u8], x: usize) -> bool
-    requires { Levels rows columns level.now × (length direction.now ≡ rows * columns) × (x < rows * columns) }
-    ensures { result ≡ kept_at rows columns level.now direction.now x }
-{
-    let code = direction[x];
-    let v = level[x];
-    if v < 1 {
-        return code == NO_CODE;
-    }
-    if code == 0 {
-        return is_beside_none(rows, columns, level, x);
-    }
-    let k = u8::trailing_zeros(code) as usize;
-    if 8 <= k {
-        return false;
-    }
-    if code != code_of(k) {
-        return false;
-    }
-    let w = value_at(level, near(rows, columns, x, k));
-    (0 < w) & (w <= v)
-}
-
-// The first cell whose code breaks one of them; the number of cells where there is none.
-pub(crate) fn first_broken(rows: usize, columns: usize, level: &[u32], direction: &[u8]) -> usize
-    requires { Levels rows columns level.now × (length direction.now ≡ rows * columns) }
-    ensures { result ≡ first_broken rows columns level.now direction.now }
-{
-    let mut x: usize = 0;
-    while x < direction.len() {
-        if !is_kept(rows, columns, level, direction, x) {
-            return x;
+impl Surface<'_> {
+    // Whether the code of the cell x keeps the rules of refusal 17.
+    fn is_kept(self, direction: &[u8], x: usize) -> bool
+        requires { (length direction.now ≡ self.rows * self.columns) × (x < self.rows * self.columns) }
+        ensures { result ≡ kept_at self.entry.rows self.entry.columns self.entry.level.now direction.now x }
+    {
+        let level = self.level;
+        let code = direction[x];
+        let v = level[x];
+        if v < 1 {
+            return code == NO_CODE;
         }
-        x += 1;
+        if code == 0 {
+            return self.is_open::<false>(x);
+        }
+        let k = code.trailing_zeros() as usize;
+        if 8 <= k {
+            return false;
+        }
+        if code != code_of(k) {
+            return false;
+        }
+        let w = value_at(level, near(self.rows, self.columns, x, k));
+        (0 < w) & (w <= v)
     }
-    x
+
+    // The first cell whose code breaks one of them.
+    pub(crate) fn first_broken(self, direction: &[u8]) -> Option<usize>
+        requires { length direction.now ≡ self.rows * self.columns }
+        ensures { result ≡ cell_below (self.entry.rows * self.entry.columns)
+            (first_broken self.entry.rows self.entry.columns self.entry.level.now direction.now) }
+    {
+        for x in 0..direction.len() {
+            if !self.is_kept(direction, x) {
+                return Some(x);
+            }
+        }
+        None
+    }
+
+    // Writes the fall of every cell.
+    pub(crate) fn write_falls(self, direction: &[u8], falls: &mut [u32])
+        requires { Keeping self.rows self.columns self.level.now direction.now × (length falls.old ≡ self.rows * self.columns) }
+        ensures { falls.new ≡ falls_of self.entry.rows self.entry.columns self.entry.level.now direction.now }
+    {
+        let shifts = shifts_of(self.columns);
+        let drawing = Drawing {
+            rows: self.rows,
+            columns: self.columns,
+            shifts: &shifts,
+            direction,
+        };
+        for x in 0..falls.len() {
+            falls[x] = fall_along(drawing, self.level, x);
+        }
+    }
 }
 
 // Makes the tests of refusals 17 and 18, in that order. The levels are scratch, and as they were.
-pub(crate) fn judge(rows: usize, columns: usize, direction: &[u8], level: &mut [u32]) -> Judgement
+pub(crate) fn judge(
+    rows: usize,
+    columns: usize,
+    direction: &[u8],
+    level: &mut [u32],
+) -> Result<(), Refusal>
     requires { Levels rows columns level.old × (length direction.now ≡ rows * columns) }
     ensures { (found result ≡ verdict (given_tests rows columns level.old direction.now))
         × (level.new ≡ level.old) }
 {
-    let cells = level.len();
-    let broken = first_broken(rows, columns, level, direction);
-    if broken < cells {
-        return unsound(17, broken);
+    let surface = Surface {
+        rows,
+        columns,
+        level,
+    };
+    if let Some(x) = surface.first_broken(direction) {
+        return Err(Refusal {
+            fault: Fault::Direction,
+            place: x,
+        });
     }
-    let ring = first_on_ring(rows, columns, direction, level);
-    if ring < cells {
-        return unsound(18, ring);
+    if let Some(x) = first_on_ring(rows, columns, direction, level) {
+        return Err(Refusal {
+            fault: Fault::Ring,
+            place: x,
+        });
     }
-    Judgement::Sound
+    Ok(())
 }
 
 // The fall of the cell x along its direction.
-fn fall_along(
-    rows: usize,
-    columns: usize,
-    shifts: &[usize; 8],
-    level: &[u32],
-    direction: &[u8],
-    x: usize,
-) -> u32
-    requires { Keeping rows columns level.now direction.now × (x < rows * columns) × Shifts columns shifts.now }
-    ensures { result ≡ fall_at rows columns level.now direction.now x }
+fn fall_along(drawing: Drawing, level: &[u32], x: usize) -> u32
+    requires { Keeping drawing.rows drawing.columns level.now drawing.direction.now × (x < drawing.rows * drawing.columns) }
+    ensures { result ≡ fall_at drawing.entry.rows drawing.entry.columns level.now drawing.entry.direction.now x }
 {
-    let code = direction[x];
+    let code = drawing.direction[x];
     if code == NO_CODE {
         return NO_FALL;
     }
-    let y = receiver(rows, columns, shifts, direction, x);
+    let y = drawing.receiver(x);
     if level.len() <= y {
         return 0;
     }
@@ -111,24 +121,5 @@ fn fall_along(
     if drop < 1 {
         return 0;
     }
-    2 * drop + u8::trailing_zeros(code) % 2
-}
-
-// Writes the fall of every cell.
-pub(crate) fn write_falls(
-    rows: usize,
-    columns: usize,
-    level: &[u32],
-    direction: &[u8],
-    falls: &mut [u32],
-)
-    requires { Keeping rows columns level.now direction.now × (length falls.old ≡ rows * columns) }
-    ensures { falls.new ≡ falls_of rows columns level.now direction.now }
-{
-    let shifts = shifts_of(columns);
-    let mut x: usize = 0;
-    while x < falls.len() {
-        falls[x] = fall_along(rows, columns, &shifts, level, direction, x);
-        x += 1;
-    }
+    2 * drop + code.trailing_zeros() % 2
 }

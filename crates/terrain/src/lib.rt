@@ -8,15 +8,18 @@
 mod cells;
 mod direction;
 mod downhill;
+mod drawing;
 mod filled;
 mod flat;
 mod given;
+mod ground;
 mod queue;
 mod ring;
+mod surface;
 mod trail;
 
 ghost use Rattle.std.specs.Prelude.{◌≡◌, ℕ, ◌*◌, ◌<◌, true, map, length, slice_index};
-ghost use Rattle.laws.specs.Tests.{failed, verdict};
+ghost use Rattle.laws.specs.Tests.{verdict};
 ghost use Rattle.text.specs.Ranges.{all_long};
 ghost use Rattle.terrain.specs.Filled.{top, filled_levels};
 ghost use Rattle.terrain.specs.Cells.{height_of};
@@ -27,20 +30,21 @@ ghost use Rattle.terrain.specs.Downhill.{Downhill};
 ghost use Rattle.terrain.specs.Drainage.{Drainage};
 ghost use Rattle.terrain.specs.Answers.{lent_at, lent_before, lent_after, places_of, ground_judged, source_tests, judged, directions_by, After, answer, accepts, valid_in};
 ghost use Rattle.terrain.specs.InnerCells.{Ready};
-ghost use Rattle.terrain.specs.InnerLevels.{Levels};
 ghost use Rattle.terrain.specs.InnerGiven.{Keeping};
 ghost use Rattle.terrain.specs.InnerAnswers.{found, directions_for};
 ghost use Rattle.terrain.specs.declared.Source.TheVariants.{Given};
-ghost use Rattle.terrain.specs.declared.Answer.TheVariants.{Accepted};
 
 pub use cells::shifts_of;
-use text::Refusal;
+use drawing::Drawing;
+use ground::Ground;
+use surface::Surface;
+use text::{Fault, Refusal};
 
-// The answer of the call: the number of valid cells and the steps of the longest trail, or why there is no map.
-#[derive(Clone, Copy)]
-pub enum Answer {
-    Accepted { valid: u32, longest: u32 },
-    Refused(Refusal),
+// What the call says of a map: the number of valid cells and the steps of the longest trail.
+#[derive(Clone, Copy, PartialEq, Eq)]
+pub struct Summary {
+    pub valid: u32,
+    pub longest: u32,
 }
 
 // Whose directions a map takes: our own, or those that the lent grid holds at the call.
@@ -48,22 +52,6 @@ pub enum Answer {
 pub enum Source {
     Own,
     Given,
-}
-
-// What is found of a call: that its tests pass, or why it is refused.
-#[derive(Clone, Copy)]
-pub(crate) enum Judgement {
-    Sound,
-    Unsound(Refusal),
-}
-
-pub(crate) fn unsound(number: u32, place: usize) -> Judgement
-    ensures { found result ≡ failed number place }
-{
-    Judgement::Unsound(Refusal {
-        number: number,
-        place: place,
-    })
 }
 
 // Whether every lent slice has one place per cell.
@@ -97,25 +85,31 @@ fn judge(
     count: &[u32],
     falls: &[u32],
     workspace: &[u32],
-) -> Judgement
+) -> Result<(), Refusal>
     ensures { found result ≡ ground_judged rows columns elevation.now
         (lent_at filled.entry direction.entry count.entry falls.entry workspace.entry) }
 {
-    if !text::is_size(rows) {
-        return unsound(1, 0);
-    }
-    if !text::is_size(columns) {
-        return unsound(1, 0);
+    if !text::is_size(rows) || !text::is_size(columns) {
+        return Err(Refusal {
+            fault: Fault::Size,
+            place: 0,
+        });
     }
     let cells = rows * columns;
     if !are_long(cells, elevation, filled, direction, count, falls, workspace) {
-        return unsound(2, 0);
+        return Err(Refusal {
+            fault: Fault::Length,
+            place: 0,
+        });
     }
     let bad = text::first_bad(elevation);
     if bad < cells {
-        return unsound(5, bad);
+        return Err(Refusal {
+            fault: Fault::Height,
+            place: bad,
+        });
     }
-    Judgement::Sound
+    Ok(())
 }
 
 // Fills the levels, and tests directions that are given over them: refusals 17 and 18.
@@ -126,63 +120,65 @@ fn survey(
     elevation: &[i32],
     direction: &[u8],
     level: &mut [u32],
-) -> Judgement
+) -> Result<(), Refusal>
     requires { Ready rows columns elevation.now × (length direction.now ≡ rows * columns) × (length level.old ≡ rows * columns) }
     ensures { (found result ≡ verdict (source_tests source rows columns (filled_levels rows columns elevation.now) direction.now))
         × (level.new ≡ filled_levels rows columns elevation.now) }
 {
-    filled::fill(rows, columns, elevation, level);
-    if let Source::Given = source {
-        return given::judge(rows, columns, direction, level);
+    let ground = Ground {
+        rows,
+        columns,
+        elevation,
+    };
+    filled::fill(ground, level);
+    match source {
+        Source::Own => Ok(()),
+        Source::Given => given::judge(rows, columns, direction, level),
     }
-    Judgement::Sound
 }
 
 // Works out directions, if they are not given, and falls; `count` and `filled` are scratch.
 fn direct(
-    rows: usize,
-    columns: usize,
+    surface: Surface,
     source: Source,
-    level: &[u32],
     direction: &mut [u8],
     falls: &mut [u32],
     count: &mut [u32],
     filled: &mut [i32],
 )
-    requires { Levels rows columns level.now × (length direction.old ≡ rows * columns) × (length falls.old ≡ rows * columns)
-        × (length count.old ≡ rows * columns) × (source ≡ Given → Keeping rows columns level.now direction.old) }
-    ensures { (direction.new ≡ directions_for source rows columns level.now direction.old)
-        × (falls.new ≡ falls_of rows columns level.now (directions_for source rows columns level.now direction.old)) }
+    requires { (length direction.old ≡ surface.rows * surface.columns) × (length falls.old ≡ surface.rows * surface.columns)
+        × (length count.old ≡ surface.rows * surface.columns)
+        × (source ≡ Given → Keeping surface.rows surface.columns surface.level.now direction.old) }
+    ensures { (direction.new ≡ directions_for source surface.entry.rows surface.entry.columns surface.entry.level.now direction.old)
+        × (falls.new ≡ falls_of surface.entry.rows surface.entry.columns surface.entry.level.now
+        (directions_for source surface.entry.rows surface.entry.columns surface.entry.level.now direction.old)) }
 {
-    if let Source::Given = source {
-        given::write_falls(rows, columns, level, direction, falls);
-        return;
+    match source {
+        Source::Own => surface.point(direction, falls, count, filled),
+        Source::Given => surface.write_falls(direction, falls),
     }
-    direction::point(rows, columns, level, direction, falls, count, filled);
 }
 
 // The same, and the filled heights.
 fn shape(
-    rows: usize,
-    columns: usize,
+    surface: Surface,
     source: Source,
-    level: &[u32],
     filled: &mut [i32],
     direction: &mut [u8],
     count: &mut [u32],
     falls: &mut [u32],
 )
-    requires { Levels rows columns level.now × ((x : ℕ) → slice_index level.now x < top) × (length filled.old ≡ rows * columns)
-        × (length direction.old ≡ rows * columns) × (length count.old ≡ rows * columns) × (length falls.old ≡ rows * columns)
-        × (source ≡ Given → Keeping rows columns level.now direction.old) }
-    ensures { (filled.new ≡ map height_of level.now)
-        × (direction.new ≡ directions_for source rows columns level.now direction.old)
-        × (falls.new ≡ falls_of rows columns level.now (directions_for source rows columns level.now direction.old)) }
+    requires { ((x : ℕ) → slice_index surface.level.now x < top) × (length filled.old ≡ surface.rows * surface.columns)
+        × (length direction.old ≡ surface.rows * surface.columns) × (length count.old ≡ surface.rows * surface.columns)
+        × (length falls.old ≡ surface.rows * surface.columns)
+        × (source ≡ Given → Keeping surface.rows surface.columns surface.level.now direction.old) }
+    ensures { (filled.new ≡ map height_of surface.entry.level.now)
+        × (direction.new ≡ directions_for source surface.entry.rows surface.entry.columns surface.entry.level.now direction.old)
+        × (falls.new ≡ falls_of surface.entry.rows surface.entry.columns surface.entry.level.now
+        (directions_for source surface.entry.rows surface.entry.columns surface.entry.level.now direction.old)) }
 {
-    direct(
-        rows, columns, source, level, direction, falls, count, filled,
-    );
-    filled::write_heights(level, filled);
+    direct(surface, source, direction, falls, count, filled);
+    filled::write_heights(surface.level, filled);
 }
 
 // Works out the order of the cells, the longest trail and the flow counts.
@@ -192,17 +188,23 @@ fn route(
     direction: &[u8],
     count: &mut [u32],
     workspace: &mut [u32],
-) -> Answer
+) -> Summary
     requires { Directed rows columns direction.now × (length count.old ≡ rows * columns) × (length workspace.old ≡ rows * columns) }
     ensures { (count.new ≡ counts_of rows columns direction.now)
         × ((places : ℕ) × Downhill rows columns direction.now workspace.new places
-        × (result ≡ Accepted places (longest_of rows columns direction.now))) }
+        × (result.valid ≡ places) × (result.longest ≡ longest_of rows columns direction.now)) }
 {
     let shifts = shifts_of(columns);
-    let places = downhill::descend(rows, columns, &shifts, direction, count, workspace);
-    let longest = trail::longest_trail(rows, columns, &shifts, direction, workspace, places, count);
-    trail::count_flow(rows, columns, &shifts, direction, workspace, places, count);
-    Answer::Accepted {
+    let drawing = Drawing {
+        rows,
+        columns,
+        shifts: &shifts,
+        direction,
+    };
+    let places = downhill::descend(drawing, count, workspace);
+    let longest = trail::longest_trail(drawing, workspace, places, count);
+    trail::count_flow(drawing, workspace, places, count);
+    Summary {
         valid: places as u32,
         longest: longest,
     }
@@ -221,7 +223,7 @@ pub fn map(
     count: &mut [u32],
     falls: &mut [u32],
     workspace: &mut [u32],
-) -> Answer
+) -> Result<Summary, Refusal>
     ensures answers { result ≡ answer rows columns source elevation.now (lent_before filled direction count falls workspace) }
     ensures leaves { After rows columns elevation.now (directions_by source rows columns elevation.now direction.old)
         (lent_before filled direction count falls workspace) (lent_after filled direction count falls workspace)
@@ -229,19 +231,18 @@ pub fn map(
     ensures drains { accepts result ≡ true
         → Drainage rows columns elevation.now filled.new direction.new count.new (valid_in result) }
 {
-    let judgement = judge(
+    judge(
         rows, columns, elevation, filled, direction, count, falls, workspace,
-    );
-    if let Judgement::Unsound(refusal) = judgement {
-        return Answer::Refused(refusal);
+    )?;
+    if let Err(refusal) = survey(rows, columns, source, elevation, direction, workspace) {
+        workspace.fill(0);
+        return Err(refusal);
     }
-    let surveyed = survey(rows, columns, source, elevation, direction, workspace);
-    if let Judgement::Unsound(refusal) = surveyed {
-        cells::clear(workspace);
-        return Answer::Refused(refusal);
-    }
-    shape(
-        rows, columns, source, workspace, filled, direction, count, falls,
-    );
-    route(rows, columns, direction, count, workspace)
+    let surface = Surface {
+        rows,
+        columns,
+        level: workspace,
+    };
+    shape(surface, source, filled, direction, count, falls);
+    Ok(route(rows, columns, direction, count, workspace))
 }

@@ -7,12 +7,12 @@
 //
 // A list's head is its first cell plus one, or 0. Lists 0 to 1,023 are of bands of 1,024 levels; lists 1,024 to 2,047 are of
 // the single levels of the band that is being emptied.
-ghost use Rattle.std.specs.Prelude.{◌≡◌, ◌<◌, ◌≤◌, min, length, if◌then◌else◌, nat_lt, slice_index};
+ghost use Rattle.std.specs.Prelude.{◌≡◌, ◌<◌, ◌≤◌, min, length, if◌then◌else◌, nat_lt, slice_index, IfSome};
 ghost use Rattle.terrain.specs.InnerCells.{Around};
 ghost use Rattle.terrain.specs.Filled.{top};
-ghost use Rattle.terrain.specs.InnerFlood.{Queueing, OnLine, Rimming, Popped, level_in};
+ghost use Rattle.terrain.specs.InnerFlood.{Queueing, OnLine, Rimming, queued_from, level_in};
 
-use crate::cells::{around, larger, value_at};
+use crate::cells::{around, value_at};
 
 const FRESH: u32 = 1073741824;
 
@@ -61,13 +61,6 @@ pub(crate) fn level_of(band: usize, list: usize) -> u32
     ((band + 926) * 1024 + list) as u32
 }
 
-// A head in the width of an index.
-fn wide(head: u32) -> usize
-    ensures { result ≡ head }
-{
-    head as usize
-}
-
 // Puts the cell x, which is not done, at the front of a list.
 fn push(heads: &mut [u32; 2048], words: &mut [u32], list: usize, level: u32, x: usize)
     requires { (length words.old ≤ 1048576) × (list < 2048) × (top ≤ slice_index words.old x) }
@@ -77,24 +70,18 @@ fn push(heads: &mut [u32; 2048], words: &mut [u32], list: usize, level: u32, x: 
     heads[list] = (x + 1) as u32;
 }
 
-// Takes the first cell off a list; the number of cells where there is none.
-pub(crate) fn pop(heads: &mut [u32; 2048], words: &[u32], list: usize) -> usize
+// Takes the first cell off a list, if there is one.
+pub(crate) fn pop(heads: &mut [u32; 2048], words: &[u32], list: usize) -> Option<usize>
     requires { list < 2048 }
-    ensures { Popped words.now result }
+    ensures { IfSome result (λ x. queued_from ≤ slice_index words.now x) }
 {
-    let head = wide(heads[list]);
-    if head < 1 {
-        return words.len();
-    }
-    if words.len() < head {
-        return words.len();
-    }
-    let word = words[head - 1];
+    let x = (heads[list] as usize).checked_sub(1)?;
+    let word = *words.get(x)?;
     if word < QUEUED {
-        return words.len();
+        return None;
     }
     heads[list] = word % LINKS;
-    head - 1
+    Some(x)
 }
 
 // Moves the cells of a band's list to the lists of their levels.
@@ -102,15 +89,12 @@ pub(crate) fn open_band(heads: &mut [u32; 2048], words: &mut [u32], band: usize)
     requires { (length words.old ≤ 1048576) × (band < 1024) }
     ensures { Queueing (λ z. ⊥) words.old words.new }
 {
-    let mut turns: usize = 0;
-    while turns < words.len() {
-        let x = pop(heads, words, band);
-        if words.len() <= x {
+    'turns: for _ in 0..words.len() {
+        let Some(x) = pop(heads, words, band) else {
             return;
-        }
+        };
         let low = words[x] / LINKS % 1024;
-        push(heads, words, 1024 + wide(low), low, x);
-        turns += 1;
+        push(heads, words, 1024 + low as usize, low, x);
     }
 }
 
@@ -126,7 +110,7 @@ fn reach(heads: &mut [u32; 2048], words: &mut [u32], band: usize, h: u32, y: usi
     if QUEUED <= word {
         return;
     }
-    let level = larger(word - FRESH, h);
+    let level = h.max(word - FRESH);
     push(heads, words, list_of(level, band), level, y);
 }
 
@@ -143,10 +127,8 @@ pub(crate) fn spread(
     requires { (length words.old ≤ 1048576) × (columns ≤ 1024) × (x < 1048576) }
     ensures { Queueing (Around columns x) words.old words.new }
 {
-    let mut k: usize = 0;
-    while k < 8 {
+    for k in 0..8 {
         reach(heads, words, band, h, around(columns, x, k));
-        k += 1;
     }
 }
 
@@ -155,10 +137,8 @@ fn reach_line(heads: &mut [u32; 2048], words: &mut [u32], from: usize, step: usi
     requires { (length words.old ≤ 1048576) × (0 < step) × (step ≤ 1024) × (to ≤ 1048576) }
     ensures { Queueing (OnLine from step to) words.old words.new }
 {
-    let mut y = from;
-    while y < to {
+    for y in (from..to).step_by(step) {
         reach(heads, words, 1024, 0, y);
-        y += step;
     }
 }
 
@@ -194,9 +174,7 @@ pub(crate) fn reach_rims(columns: usize, heads: &mut [u32; 2048], words: &mut [u
     ensures { Rimming columns words.old words.new }
 {
     reach_edge(columns, heads, words);
-    let mut x: usize = 0;
-    while x < words.len() {
+    for x in 0..words.len() {
         reach_from(columns, heads, words, x);
-        x += 1;
     }
 }

@@ -1,132 +1,87 @@
--- The readers of the header, by the answers of the functions that read it. Assumes nothing.
-use mathlib.Core.Path.{◌≡◌, refl, sym, ap, ◌∙◌, subst}
-use mathlib.Core.Bool.{Bool, true, false, true≢false}
+-- The readers of the header, by the steps of the readers that they stand on. Assumes nothing.
+use mathlib.Core.Path.{◌≡◌, sym, subst}
+use mathlib.Core.Bool.{Bool, true, false}
 use mathlib.Core.List.{List}
 use Prim.Native.Nat.{ℕ, ◌-◌, ◌≤◌, ◌<◌}
-use native.Mathlib.Nat.{le_of_lt}
 use native.Mathlib.Omega.{arith}
-use borrow.Author.Tests.{lt-ltb, le-ltb, leb-true}
-use lib.Dec.{T, leb}
+use borrow.Author.Tests.{lt-ltb, le-ltb}
 use lib.ListN.{length, get_or}
-use lib.IntN.{ℤ, pos, negsuc, nat_abs}
-use lib.Signed.{non_neg}
-use mir.Syntax.{w32}
-use mir.Val.{Fits as FitsIn}
-use Rattle.laws.proofs.Tests.{and_both}
+use lib.IntN.{ℤ}
 use Rattle.text.specs.Bytes.{bytes}
 use Rattle.text.specs.Quantities.{side_in}
 use Rattle.text.specs.Reader.{Step, got, refused, Reader}
-use Rattle.text.specs.Words.{word_start, word}
-use Rattle.text.specs.Numbers.{number, measure, count}
+use Rattle.text.specs.Words.{word_start, Word, word}
+use Rattle.text.specs.Numbers.{Placed, Number, number, measure, count}
 use Rattle.text.specs.Headers as H
 use Rattle.text.specs.Headers.{letter, letter_next, named, name, corner, side, field, any_measure, absent_no_data, no_data}
 use Rattle.text.specs.Headers.{extent, corners, side_and_no_data, head}
+use Rattle.text.specs.declared.Span.{Span}
 use Rattle.text.specs.declared.Corners.{Corners}
-use Rattle.text.specs.declared.Refusal.{Refusal}
-use Rattle.text.specs.declared.words.Cursor.{Cursor}
-use Rattle.text.specs.declared.words.Word as W
-use Rattle.text.specs.declared.words.Next.{Next}
-use Rattle.text.specs.declared.words.Next.TheVariants.{Word, End}
-use Rattle.text.specs.declared.numbers.Number as D
-use Rattle.text.specs.declared.numbers.Numbered.{Numbered}
-use Rattle.text.specs.declared.numbers.Numbered.TheVariants.{Number, NoNumber}
-use Rattle.text.specs.declared.numbers.Measure as M
-use Rattle.text.specs.declared.numbers.Measured.{Measured}
-use Rattle.text.specs.declared.numbers.Measured.TheVariants.{Measure, NoMeasure}
-use Rattle.text.specs.declared.numbers.Count as C
-use Rattle.text.specs.declared.numbers.Counted.{Counted}
-use Rattle.text.specs.declared.numbers.Counted.TheVariants.{Count, NoCount}
-use Rattle.text.specs.declared.headers.Side as S
-use Rattle.text.specs.declared.headers.Sided.{Sided}
-use Rattle.text.specs.declared.headers.Sided.TheVariants.{Side, NoSide}
-use Rattle.text.specs.declared.headers.Length as L
-use Rattle.text.specs.declared.headers.Lengthed.{Lengthed}
-use Rattle.text.specs.declared.headers.Lengthed.TheVariants.{Length, NoLength}
-use Rattle.text.specs.declared.headers.Corner as K
-use Rattle.text.specs.declared.headers.Cornered.{Cornered}
-use Rattle.text.specs.declared.headers.Cornered.TheVariants.{Corner, NoCorner}
-use Rattle.text.specs.declared.headers.Pair as P
-use Rattle.text.specs.declared.headers.Paired.{Paired}
-use Rattle.text.specs.declared.headers.Paired.TheVariants.{Pair, NoPair}
-use Rattle.text.specs.declared.headers.Extent.{Extent}
-use Rattle.text.specs.declared.headers.Extended.{Extended}
-use Rattle.text.specs.declared.headers.Extended.TheVariants as E
-use Rattle.text.specs.declared.headers.Moved.{Moved}
-use Rattle.text.specs.declared.headers.Moved.TheVariants.{On, Off}
-use Rattle.text.specs.InnerWords.{word_of, Inside}
-use Rattle.text.specs.InnerNumbers.{numbered_of, measured_of, counted_of, CountFits}
-use Rattle.text.specs.InnerHeaders.{moved_of, sided_of, lengthed_of, cornered_of, paired_of, extent_of, extended_of, Fits}
 use Rattle.text.proofs.Ends.{end-lower}
 use Rattle.text.proofs.Right.{NextWord, number-next}
 
 -- ---- a header name
 
-module _ (n s : List ℕ) (at : ℕ) (r : Next) (m : word_of s r ≡ word s at) where
-  pub name-none : r ≡ End → refused 9 (length s) ≡ name n s at
+module _ (n s : List ℕ) (at : ℕ) where
+  pub name-none : (m p : ℕ) → word s at ≡ refused m p → refused m p ≡ name n s at
   unfolding name
-  name-none e = rw (sym m ∙ ap (word_of s) e)
+  name-none m p e = rw e
 
-  module _ (w : W.Word) (e : r ≡ Word w) where
+  module _ (w : Word) (j : ℕ) (e : word s at ≡ got w j) where
     pub name-off : false ≡ named s w.start w.end n → refused 6 w.start ≡ name n s at
     unfolding name
-    name-off t = rw (sym m ∙ ap (word_of s) e, sym t)
+    name-off t = rw (e, sym t)
 
-    pub name-on : true ≡ named s w.start w.end n → got tt w.rest.at ≡ name n s at
+    pub name-on : true ≡ named s w.start w.end n → got tt j ≡ name n s at
     unfolding name
-    name-on t = rw (sym m ∙ ap (word_of s) e, sym t)
-
-pub word-inside : (k : ℕ) (r : Next) (w : W.Word) → Inside k r → r ≡ Word w → (w.start ≤ w.end) × (w.end ≤ k)
-word-inside k r w i e = let q = subst (Inside k) e i in (le_of_lt q.0, q.1)
+    name-on t = rw (e, sym t)
 
 -- ---- a name, followed by its number
 
-module _ {A : Type 0} (x : Reader A) (n s : List ℕ) (at : ℕ) (r : Moved) (m : moved_of r ≡ name n s at) where
-  pub field_off : (f : Refusal) → r ≡ Off f → refused f.number f.place ≡ field n x s at
+module _ {A : Type 0} (x : Reader A) (n s : List ℕ) (at : ℕ) where
+  pub field_off : (m p : ℕ) → name n s at ≡ refused m p → refused m p ≡ field n x s at
   unfolding field
-  field_off f e = rw (sym m ∙ ap moved_of e)
+  field_off m p e = rw e
 
-  pub field-on : (k : Cursor) → r ≡ On k → x s k.at ≡ field n x s at
+  pub field-on : (j : ℕ) → name n s at ≡ got tt j → x s j ≡ field n x s at
   unfolding field
-  field-on k e = rw (sym m ∙ ap moved_of e)
+  field-on j e = rw e
 
 -- ---- the numbers
 
-module _ (s : List ℕ) (at : ℕ) (r : Numbered) (m : numbered_of r ≡ number s at) where
-  pub corner-none : (f : Refusal) → r ≡ NoNumber f → refused f.number f.place ≡ corner s at
+module _ (s : List ℕ) (at : ℕ) where
+  pub corner-none : (m p : ℕ) → number s at ≡ refused m p → refused m p ≡ corner s at
   unfolding corner
-  corner-none f e = rw (sym m ∙ ap numbered_of e)
+  corner-none m p e = rw e
 
-  module _ (x : D.Number) (e : r ≡ Number x) where
-    pub corner-from : x.start ≤ x.rest.at
-    corner-from =
-        let w = subst (NextWord s at) (sym m ∙ ap numbered_of e) (number-next s at) in
-        omega (arith, w.1, w.2, end-lower s (word_start s at))
+  module _ (x : Placed Number) (j : ℕ) (e : number s at ≡ got x j) where
+    pub corner-from : x.place ≤ j
+    corner-from = let w = subst (NextWord s at) e (number-next s at) in omega (arith, w.1, w.2, end-lower s (word_start s at))
 
-    pub corner-on : got (record { first = x.start; length = x.rest.at - x.start }) x.rest.at ≡ corner s at
+    pub corner-on : got (record { first = x.place; length = j - x.place }) j ≡ corner s at
     unfolding corner
-    corner-on = rw (sym m ∙ ap numbered_of e)
+    corner-on = rw e
 
-module _ (s : List ℕ) (at : ℕ) (r : Measured) (m : measured_of r ≡ measure s at) where
-  pub any_none : (f : Refusal) → r ≡ NoMeasure f → refused f.number f.place ≡ any_measure s at
+  pub any_none : (m p : ℕ) → measure s at ≡ refused m p → refused m p ≡ any_measure s at
   unfolding any_measure
-  any_none f e = rw (sym m ∙ ap measured_of e)
+  any_none m p e = rw e
 
-  pub any-on : (x : M.Measure) → r ≡ Measure x → got x.cm x.rest.at ≡ any_measure s at
-  unfolding any_measure
-  any-on x e = rw (sym m ∙ ap measured_of e)
-
-  pub side-none : (f : Refusal) → r ≡ NoMeasure f → refused f.number f.place ≡ side s at
+  pub side-none : (m p : ℕ) → measure s at ≡ refused m p → refused m p ≡ side s at
   unfolding side
-  side-none f e = rw (sym m ∙ ap measured_of e)
+  side-none m p e = rw e
 
-  module _ (x : M.Measure) (e : r ≡ Measure x) where
-    pub side-off : side_in x.cm ≡ false → refused 3 x.start ≡ side s at
-    unfolding side
-    side-off t = rw (sym m ∙ ap measured_of e, t)
+  module _ (x : Placed ℤ) (j : ℕ) (e : measure s at ≡ got x j) where
+    pub any-on : got x.is j ≡ any_measure s at
+    unfolding any_measure
+    any-on = rw e
 
-    pub side-on : side_in x.cm ≡ true → got x.cm x.rest.at ≡ side s at
+    pub side-off : side_in x.is ≡ false → refused 3 x.place ≡ side s at
     unfolding side
-    side-on t = rw (sym m ∙ ap measured_of e, t)
+    side-off t = rw (e, t)
+
+    pub side-on : side_in x.is ≡ true → got x.is j ≡ side s at
+    unfolding side
+    side-on t = rw (e, t)
 
 -- ---- the NoData number
 
@@ -147,75 +102,65 @@ module _ (s : List ℕ) (at : ℕ) where
 
 -- ---- the extent
 
-module _ (s : List ℕ) (at : ℕ) (c : Counted) (m : counted_of c ≡ field (bytes "ncols") count s at) where
-  pub extent-no-columns : (f : Refusal) → c ≡ NoCount f → refused f.number f.place ≡ extent s at
+module _ (s : List ℕ) (at : ℕ) where
+  pub extent-no-columns : (m p : ℕ) → field (bytes "ncols") count s at ≡ refused m p → refused m p ≡ extent s at
   unfolding extent
-  extent-no-columns f e = rw (sym m ∙ ap counted_of e)
+  extent-no-columns m p e = rw e
 
-  module _ (x : C.Count) (e : c ≡ Count x) (r : Counted) (l : counted_of r ≡ field (bytes "nrows") count s x.rest.at) where
-    pub extent-no-rows : (f : Refusal) → r ≡ NoCount f → refused f.number f.place ≡ extent s at
+  module _ (c j : ℕ) (e : field (bytes "ncols") count s at ≡ got c j) where
+    pub extent-no-rows : (m p : ℕ) → field (bytes "nrows") count s j ≡ refused m p → refused m p ≡ extent s at
     unfolding extent
-    extent-no-rows f q = rw (sym m ∙ ap counted_of e, sym l ∙ ap counted_of q)
+    extent-no-rows m p q = rw (e, q)
 
-    pub extent-on : (y : C.Count) → r ≡ Count y → got (record { rows = y.n; columns = x.n }) y.rest.at ≡ extent s at
+    pub extent-on : (r i : ℕ) → field (bytes "nrows") count s j ≡ got r i → got (record { rows = r; columns = c }) i ≡ extent s at
     unfolding extent
-    extent-on y q = rw (sym m ∙ ap counted_of e, sym l ∙ ap counted_of q)
-
-pub extent-fits : (c r : Counted) (x y : C.Count) → c ≡ Count x → r ≡ Count y → CountFits c → CountFits r → Fits y.n x.n
-extent-fits c r x y e q h k = record { rows_few = subst CountFits q k; columns-few = subst CountFits e h }
+    extent-on r i q = rw (e, q)
 
 -- ---- the corners
 
-module _ (s : List ℕ) (at : ℕ) (c : Cornered) (m : cornered_of c ≡ field (bytes "xllcorner") corner s at) where
-  pub corners-no-x : (f : Refusal) → c ≡ NoCorner f → refused f.number f.place ≡ corners s at
+module _ (s : List ℕ) (at : ℕ) where
+  pub corners-no-x : (m p : ℕ) → field (bytes "xllcorner") corner s at ≡ refused m p → refused m p ≡ corners s at
   unfolding corners
-  corners-no-x f e = rw (sym m ∙ ap cornered_of e)
+  corners-no-x m p e = rw e
 
-  module _ (x : K.Corner) (e : c ≡ Corner x) (r : Cornered) (l : cornered_of r ≡ field (bytes "yllcorner") corner s x.rest.at) where
-    pub corners-no-y : (f : Refusal) → r ≡ NoCorner f → refused f.number f.place ≡ corners s at
+  module _ (x : Span) (j : ℕ) (e : field (bytes "xllcorner") corner s at ≡ got x j) where
+    pub corners-no-y : (m p : ℕ) → field (bytes "yllcorner") corner s j ≡ refused m p → refused m p ≡ corners s at
     unfolding corners
-    corners-no-y f q = rw (sym m ∙ ap cornered_of e, sym l ∙ ap cornered_of q)
+    corners-no-y m p q = rw (e, q)
 
-    pub corners-on : (y : K.Corner) → r ≡ Corner y → got (record { x = x.span; y = y.span }) y.rest.at ≡ corners s at
+    pub corners-on : (y : Span) (i : ℕ) → field (bytes "yllcorner") corner s j ≡ got y i → got (record { x = x; y = y }) i ≡ corners s at
     unfolding corners
-    corners-on y q = rw (sym m ∙ ap cornered_of e, sym l ∙ ap cornered_of q)
+    corners-on y i q = rw (e, q)
 
 -- ---- the side and the NoData number
 
-module _ (x : H.Extent) (k : Corners) (s : List ℕ) (at : ℕ) (c : Sided) (m : sided_of c ≡ field (bytes "cellsize") side s at) where
-  pub last-no-side : (f : Refusal) → c ≡ NoSide f → refused f.number f.place ≡ side_and_no_data x k s at
+module _ (x : H.Extent) (k : Corners) (s : List ℕ) (at : ℕ) where
+  pub last-no-side : (m p : ℕ) → field (bytes "cellsize") side s at ≡ refused m p → refused m p ≡ side_and_no_data x k s at
   unfolding side_and_no_data
-  last-no-side f e = rw (sym m ∙ ap sided_of e)
+  last-no-side m p e = rw e
 
-  module _ (y : S.Side) (e : c ≡ Side y) (r : Lengthed) (l : lengthed_of r ≡ no_data s y.rest.at) where
-    pub last-no-data : (f : Refusal) → r ≡ NoLength f → refused f.number f.place ≡ side_and_no_data x k s at
+  module _ (y : ℤ) (j : ℕ) (e : field (bytes "cellsize") side s at ≡ got y j) where
+    pub last-no-data : (m p : ℕ) → no_data s j ≡ refused m p → refused m p ≡ side_and_no_data x k s at
     unfolding side_and_no_data
-    last-no-data f q = rw (sym m ∙ ap sided_of e, sym l ∙ ap lengthed_of q)
+    last-no-data m p q = rw (e, q)
 
-    pub last_on : (z : L.Length) → r ≡ Length z
-        → got (record { header = record { rows = x.rows; columns = x.columns; side = pos y.cm; no_data = z.cm }; corners = k }) z.rest.at
-        ≡ side_and_no_data x k s at
+    pub last_on : (z : ℤ) (i : ℕ) → no_data s j ≡ got z i
+        → got (record { header = record { rows = x.rows; columns = x.columns; side = y; no_data = z }; corners = k }) i ≡ side_and_no_data x k s at
     unfolding side_and_no_data
-    last_on z q = rw (sym m ∙ ap sided_of e, sym l ∙ ap lengthed_of q)
+    last_on z i q = rw (e, q)
 
 -- ---- the header
 
-module _ (s : List ℕ) (at : ℕ) (r : Extended) (m : extended_of r ≡ extent s at) where
-  pub head-no-extent : (f : Refusal) → r ≡ E.NoExtent f → refused f.number f.place ≡ head s at
+module _ (s : List ℕ) (at : ℕ) where
+  pub head-no-extent : (m p : ℕ) → extent s at ≡ refused m p → refused m p ≡ head s at
   unfolding head
-  head-no-extent f e = rw (sym m ∙ ap extended_of e)
+  head-no-extent m p e = rw e
 
-  module _ (x : Extent) (e : r ≡ E.Extent x) (k : Paired) (l : paired_of k ≡ corners s x.rest.at) where
-    pub head-no-corners : (f : Refusal) → k ≡ NoPair f → refused f.number f.place ≡ head s at
+  module _ (x : H.Extent) (j : ℕ) (e : extent s at ≡ got x j) where
+    pub head-no-corners : (m p : ℕ) → corners s j ≡ refused m p → refused m p ≡ head s at
     unfolding head
-    head-no-corners f q = rw (sym m ∙ ap extended_of e, sym l ∙ ap paired_of q)
+    head-no-corners m p q = rw (e, q)
 
-    pub head-on : (j : P.Pair) → k ≡ Pair j → (t : Step H.Head) → t ≡ side_and_no_data (extent_of x) j.corners s j.rest.at → t ≡ head s at
+    pub head-on : (k : Corners) (i : ℕ) → corners s j ≡ got k i → (t : Step H.Head) → t ≡ side_and_no_data x k s i → t ≡ head s at
     unfolding head
-    head-on j q t o = rw (sym m ∙ ap extended_of e, sym l ∙ ap paired_of q) o
-
--- ---- a side that is allowed fits its type
-
-pub side-nat : (z : ℤ) → side_in z ≡ true → (T (non_neg z) × FitsIn w32 (nat_abs z)) × (pos (nat_abs z) ≡ z)
-side-nat (pos n) h = ((tt, record { fits = omega (arith, leb-true n 100000 (and_both (leb 1 n) (leb n 100000) h).1) }), refl)
-side-nat (negsuc n) h = absurd (true≢false (sym h))
+    head-on k i q t o = rw (e, q) o

@@ -10,8 +10,9 @@ use lib.Dec.{eqb, ltb}
 use lib.ListN.{length, get_or}
 use Rattle.text.specs.Words.{solid, run, word_end}
 use Rattle.text.specs.Numbers.{digit, zero, value, after_sign, decimals, whole_and_decimals, number_at}
-use Rattle.text.specs.declared.numbers.Form.{Form}
-use Rattle.text.specs.declared.numbers.Form.TheVariants as F
+use Rattle.std.proofs.Common.{Result, Ok, Err}
+use Rattle.text.specs.declared.numbers.Formed.{Formed}
+use Rattle.text.specs.declared.numbers.Malformed.{Malformed}
 use Rattle.text.specs.InnerNumbers.{DigitsFrom, HundredthsFrom, TailFrom, Parsed}
 use Rattle.text.proofs.Bytes.{zero-digit}
 use Rattle.text.proofs.InnerRuns.{run-stop, run-lower, run-upper, run-fails, run-passes, run-within, run-split, run-after}
@@ -81,7 +82,7 @@ module _ (s : List ℕ) (p x q : ℕ) (w : HundredthsFrom s p x q) (minus : Bool
   abbrev e : ℕ
   e = word_end s p
 
-  pub decimals-none : p ≤ length s → q ≡ p → Parsed e (decimals s e minus size p) (F.Malformed p)
+  pub decimals-none : p ≤ length s → q ≡ p → Parsed e (decimals s e minus size p) (Err (record { at = p }))
   unfolding decimals
   decimals-none h z =
       let t = tail-short s p q h w.ends (omega arith) in
@@ -105,11 +106,11 @@ module _ (s : List ℕ) (p x q : ℕ) (w : HundredthsFrom s p x q) (minus : Bool
     apart : eqb f p ≡ false
     apart = ne_eqb f p (λ z. some (omega (arith, q-le, w.from)))
 
-    pub decimals-off : eqb f (word_end s f) ≡ false → Parsed e (decimals s e minus size p) (F.Malformed f)
+    pub decimals-off : eqb f (word_end s f) ≡ false → Parsed e (decimals s e minus size p) (Err (record { at = f }))
     unfolding decimals
     decimals-off b = record { is = rw (← t.ends, apart, e-is, b); ends = tt }
 
-    pub decimals-on : size < 100000000000 → eqb f (word_end s f) ≡ true → Parsed e (decimals s e minus size p) (F.Number minus (size + x) fine f)
+    pub decimals-on : size < 100000000000 → eqb f (word_end s f) ≡ true → Parsed e (decimals s e minus size p) (Ok (record { minus = minus; size = size + x; fine = fine; end = f }))
     unfolding decimals
     decimals-on l b = record { is = rw (← t.ends, apart, e-is, b, same-value, t.is); ends = (eqb-true f (word_end s f) b ∙ sym e-is, omega (arith, w.small)) }
 
@@ -146,11 +147,11 @@ module _ (s : List ℕ) (a b : ℕ) (h : a < length s) (first : solid (get_or s 
     pub point-within : get_or s d 0 ≡ 46 → d + 1 ≤ length s
     point-within z = omega (arith, byte-within s d (λ n. omega arith))
 
-    pub form-none : d ≡ b → Parsed (word_end s a) (number_at s a (word_end s a)) (F.Malformed d)
+    pub form-none : d ≡ b → Parsed (word_end s a) (number_at s a (word_end s a)) (Err (record { at = d }))
     form-none z = record { is = sym (at ∙ rw (eq-eqb d b z)); ends = tt }
 
     module _ (some : d ≡ b → ⊥) where
-      pub form-point : get_or s d 0 ≡ 46 → (r : Form) → Parsed (word_end s (d + 1)) (decimals s (word_end s (d + 1)) (ltb a b) (v * 100) (d + 1)) r
+      pub form-point : get_or s d 0 ≡ 46 → (r : Result Formed Malformed) → Parsed (word_end s (d + 1)) (decimals s (word_end s (d + 1)) (ltb a b) (v * 100) (d + 1)) r
           → Parsed (word_end s a) (number_at s a (word_end s a)) r
       form-point z r m =
           let e : word_end s a ≡ word_end s (d + 1) = word_end_lem ∙ end-byte s d (omega (arith, point-within z)) (rw z) in
@@ -159,10 +160,10 @@ module _ (s : List ℕ) (a b : ℕ) (h : a < length s) (first : solid (get_or s 
           (record { is = m.is ∙ rw (← e, w.is) is; ends = m.ends })
 
       module _ (z : get_or s d 0 ≡ 46 → ⊥) where
-        pub form-off : eqb d (word_end s d) ≡ false → Parsed (word_end s a) (number_at s a (word_end s a)) (F.Malformed d)
+        pub form-off : eqb d (word_end s d) ≡ false → Parsed (word_end s a) (number_at s a (word_end s a)) (Err (record { at = d }))
         form-off t = record { is = sym (at ∙ rw (ne_eqb d b some, ne_eqb (get_or s d 0) 46 z, word_end_lem, t)); ends = tt }
 
-        pub form-on : eqb d (word_end s d) ≡ true → Parsed (word_end s a) (number_at s a (word_end s a)) (F.Number (ltb a b) (v * 100) false d)
+        pub form-on : eqb d (word_end s d) ≡ true → Parsed (word_end s a) (number_at s a (word_end s a)) (Ok (record { minus = ltb a b; size = v * 100; fine = false; end = d }))
         form-on t =
             record {
               is = sym (at ∙ rw (ne_eqb d b some, ne_eqb (get_or s d 0) 46 z, word_end_lem, t, w.is));

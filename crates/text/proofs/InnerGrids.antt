@@ -1,75 +1,50 @@
--- The readers of the heights, by the answers of the functions that judge and store them. Assumes nothing.
+-- The readers of the heights and of whole texts, by the steps of the readers that they stand on. Assumes nothing.
 use mathlib.Core.Path.{◌≡◌, refl, sym, ap, ◌∙◌, subst}
 use mathlib.Core.Bool.{true, false}
 use mathlib.Core.List.{List, [], ◌∷◌, ◌++◌}
 use Prim.Native.Nat.{ℕ, zero, suc, ◌+◌, ◌-◌, ◌*◌, ◌≤◌, ◌<◌}
-use native.Mathlib.Nat.{le_trans, lt_of_le_of_lt}
+use native.Mathlib.Nat.{lt_of_le_of_lt}
 use native.Mathlib.Omega.{arith}
 use borrow.Author.Tests.{eq-eqb, ne_eqb}
-use lib.Dec.{T, le→leb, leb→le, lit≤, lit<}
-use lib.IntN.{ℤ, pos, negsuc, neg_ℤ}
+use lib.Dec.{T, leb→le, lit<}
+use lib.IntN.{ℤ, pos, negsuc}
 use lib.ListN.{length, take, set, length-set}
 use lib.Signed.{le_z}
 use mir.Syntax.{w32}
 use mir.Val.{SFits}
-use Rattle.laws.proofs.Tests.{and_both}
 use Rattle.laws.proofs.Filling.{filling-more}
 use Rattle.text.specs.Quantities.{height_in, no_data_height}
 use Rattle.text.specs.Reader.{Step, got, refused, after, give}
 use Rattle.text.specs.Words.{word_start}
-use Rattle.text.specs.Numbers.{measure}
+use Rattle.text.specs.Numbers.{Placed, measure}
 use Rattle.text.specs.Headers as H
 use Rattle.text.specs.Heights.{same, height, heights, end, lone_header, body, grid}
-use Rattle.text.specs.Answers.{accepted, refusal, header_of, lone_header_answer, grid_outcome, grid_answer}
-use Rattle.text.specs.declared.Refusal.{Refusal}
-use Rattle.text.specs.declared.words.Cursor.{Cursor}
-use Rattle.text.specs.declared.numbers.Measure as M
-use Rattle.text.specs.declared.numbers.Measured.{Measured}
-use Rattle.text.specs.declared.numbers.Measured.TheVariants.{Measure, NoMeasure}
-use Rattle.text.specs.declared.headers.Moved.{Moved}
-use Rattle.text.specs.declared.headers.Moved.TheVariants.{On, Off}
-use Rattle.text.specs.declared.headers.Length as L
-use Rattle.text.specs.declared.headers.Lengthed.{Lengthed}
-use Rattle.text.specs.declared.headers.Lengthed.TheVariants.{Length, NoLength}
-use Rattle.text.specs.declared.headers.Head as D
-use Rattle.text.specs.declared.headers.Headed.{Headed}
-use Rattle.text.specs.declared.headers.Headed.TheVariants.{Head, NoHead}
-use Rattle.text.specs.InnerNumbers.{measured_of}
-use Rattle.text.specs.InnerHeaders.{moved_of, lengthed_of, headed_of}
-use Rattle.text.specs.InnerHeights.{HeightFits, forget, Good, values_of, body_outcome, body_answer}
+use Rattle.text.specs.Answers.{accepted, refusal, lone_header_answer, grid_outcome, grid_answer}
+use Rattle.text.specs.InnerHeights.{forget, Good, values_of, body_outcome, body_answer}
 use Rattle.text.proofs.Ends.{word-found, word_none}
 
 -- ---- one height
 
-module _ (n : ℤ) (s : List ℕ) (at : ℕ) (r : Measured) (m : measured_of r ≡ measure s at) where
-  pub height-none : (f : Refusal) → r ≡ NoMeasure f → refused f.number f.place ≡ height n s at
+module _ (n : ℤ) (s : List ℕ) (at : ℕ) where
+  pub height-none : (m p : ℕ) → measure s at ≡ refused m p → refused m p ≡ height n s at
   unfolding height
-  height-none f e = rw (sym m ∙ ap measured_of e)
+  height-none m p e = rw e
 
-  module _ (x : M.Measure) (e : r ≡ Measure x) where
-    pub height-no-data : same x.cm n ≡ true → got no_data_height x.rest.at ≡ height n s at
+  module _ (x : Placed ℤ) (j : ℕ) (e : measure s at ≡ got x j) where
+    pub height-no-data : same x.is n ≡ true → got no_data_height j ≡ height n s at
     unfolding height
-    height-no-data t = rw (sym m ∙ ap measured_of e, t)
+    height-no-data t = rw (e, t)
 
-    pub height-on : same x.cm n ≡ false → height_in x.cm ≡ true → got x.cm x.rest.at ≡ height n s at
+    pub height-on : same x.is n ≡ false → height_in x.is ≡ true → got x.is j ≡ height n s at
     unfolding height
-    height-on t u = rw (sym m ∙ ap measured_of e, t, u)
+    height-on t u = rw (e, t, u)
 
-    pub height-off : same x.cm n ≡ false → height_in x.cm ≡ false → refused 5 x.start ≡ height n s at
+    pub height-off : same x.is n ≡ false → height_in x.is ≡ false → refused 5 x.place ≡ height n s at
     unfolding height
-    height-off t u = rw (sym m ∙ ap measured_of e, t, u)
-
-above-no-data : (z : ℤ) → T (le_z (neg_ℤ (pos 50000)) z) → T (le_z no_data_height z)
-above-no-data (pos n) t = tt
-above-no-data (negsuc n) t = le→leb n 999899 (le_trans (leb→le n 49999 t) (lit≤ tt))
-
-pub height-in-fits : (z : ℤ) → height_in z ≡ true → T (le_z no_data_height z) × T (le_z z (pos 900000))
-height-in-fits z e =
-    let b = and_both (le_z (neg_ℤ (pos 50000)) z) (le_z z (pos 900000)) e in
-    (above-no-data z (subst T (sym b.0) tt), subst T (sym b.1) tt)
+    height-off t u = rw (e, t, u)
 
 -- NoData and every height that is allowed fit 32 bits
-height-32 : (z : ℤ) → T (le_z no_data_height z) → T (le_z z (pos 900000)) → SFits w32 z
+pub height-32 : (z : ℤ) → T (le_z no_data_height z) → T (le_z z (pos 900000)) → SFits w32 z
 height-32 (pos n) l h = record { sfits = lt_of_le_of_lt (leb→le n 900000 h) (lit< tt) }
 height-32 (negsuc n) l h = record { sfits = lt_of_le_of_lt (leb→le n 999899 l) (lit< tt) }
 
@@ -104,29 +79,18 @@ values-joined : (z : ℤ) (x : Step (List ℤ)) → Good x → values_of (joined
 values-joined z (got hs j) g = refl
 values-joined z (refused m p) g = absurd g
 
--- what the answer of `read_height` tells
-pub length-off : (r : Lengthed) (x : Step ℤ) (f : Refusal) → lengthed_of r ≡ x → r ≡ NoLength f → x ≡ refused f.number f.place
-length-off r x f p q = sym p ∙ ap lengthed_of q
-
-pub length-on : (r : Lengthed) (x : Step ℤ) (y : L.Length) → lengthed_of r ≡ x → r ≡ Length y → x ≡ got y.cm y.rest.at
-length-on r x y p q = sym p ∙ ap lengthed_of q
-
-pub length-fits : (r : Lengthed) (y : L.Length) → HeightFits r → r ≡ Length y → SFits w32 y.cm
-length-fits r y h q = let b = subst HeightFits q h in height-32 y.cm b.0 b.1
-
 -- with k heights left to judge
 module _ (n : ℤ) (s : List ℕ) (i : ℕ) where
   pub judge-off : (k m p : ℕ) → 0 < k → height n s i ≡ refused m p → forget (heights n k s i) ≡ refused m p
   judge-off zero m p h e = absurd (omega arith)
   judge-off (suc k) m p h e = ap forget (first_off n s i k m p e)
 
-  pub judge-on : (k : ℕ) (z : ℤ) (j : ℕ) → 0 < k → height n s i ≡ got z j → forget (heights n k s i) ≡ forget (heights n (k - 1) s j)
-  judge-on zero z j h e = absurd (omega arith)
-  judge-on (suc k) z j h e =
-      let q : k ≡ suc k - 1 = omega arith in
-      ap forget (first_on n s i k z j e) ∙ forget-joined z (heights n k s j) ∙ ap (λ (m : ℕ). forget (heights n m s j)) q
+  pub judge-on : (k m : ℕ) (z : ℤ) (j : ℕ) → k ≡ m + 1 → height n s i ≡ got z j → forget (heights n k s i) ≡ forget (heights n m s j)
+  judge-on k m z j q e =
+      let r : k ≡ suc m = omega arith in
+      ap (λ (x : ℕ). forget (heights n x s i)) r ∙ ap forget (first_on n s i m z j e) ∙ forget-joined z (heights n m s j)
 
-  pub judge-all : (k : ℕ) → k ≤ 0 → got tt i ≡ forget (heights n k s i)
+  pub judge-all : (k : ℕ) → k ≡ 0 → got tt i ≡ forget (heights n k s i)
   unfolding heights
   judge-all zero h = refl
   judge-all (suc k) h = absurd (omega arith)
@@ -181,72 +145,60 @@ module _ (s : List ℕ) (at a : ℕ) (p : a ≡ word_start s at) where
 -- ---- what follows the header
 
 -- what `forget` keeps
-kept_on : (x : Step (List ℤ)) (j : ℕ) → forget x ≡ got tt j → Good x × (x ≡ got (values_of x) j)
-kept_on (got hs i) j e = let q : i ≡ j = cc in (tt, ap (got hs) q)
-kept_on (refused n p) j e = let z : ◌≡◌ {A = ℕ} 0 1 = cc in absurd (omega arith)
+pub judged-good : (x : Step (List ℤ)) (j : ℕ) → forget x ≡ got tt j → Good x × (x ≡ got (values_of x) j)
+judged-good (got hs i) j e = let q : i ≡ j = cc in (tt, ap (got hs) q)
+judged-good (refused n p) j e = let z : ◌≡◌ {A = ℕ} 0 1 = cc in absurd (omega arith)
 
-kept_off : (x : Step (List ℤ)) (n p : ℕ) → forget x ≡ refused n p → x ≡ refused n p
-kept_off (got hs i) n p e = let z : ◌≡◌ {A = ℕ} 0 1 = cc in absurd (omega arith)
-kept_off (refused m q) n p e = cc
-
-moved_on : (r : Moved) (x : Step Unit) (k : Cursor) → moved_of r ≡ x → r ≡ On k → x ≡ got tt k.at
-moved_on r x k p q = sym p ∙ ap moved_of q
-
-moved-off : (r : Moved) (x : Step Unit) (f : Refusal) → moved_of r ≡ x → r ≡ Off f → x ≡ refused f.number f.place
-moved-off r x f p q = sym p ∙ ap moved_of q
-
-pub judged-good : (n : ℤ) (k : ℕ) (s : List ℕ) (at : ℕ) (r : Moved) (c : Cursor) → moved_of r ≡ forget (heights n k s at) → r ≡ On c → Good (heights n k s at)
-judged-good n k s at r c m e = (kept_on (heights n k s at) c.at (moved_on r _ c m e)).0
+judged-off : (x : Step (List ℤ)) (n p : ℕ) → forget x ≡ refused n p → x ≡ refused n p
+judged-off (got hs i) n p e = let z : ◌≡◌ {A = ℕ} 0 1 = cc in absurd (omega arith)
+judged-off (refused m q) n p e = cc
 
 module _ (h : H.Header) (k : ℕ) (s : List ℕ) (at : ℕ) where
   pub body-unlike : (k ≡ h.rows * h.columns → ⊥) → body h k s at ≡ refused 2 0
   unfolding body
   body-unlike e = rw (ne_eqb k (h.rows * h.columns) e)
 
-  module _ (l : k ≡ h.rows * h.columns) (r : Moved) (m : moved_of r ≡ forget (heights h.no_data k s at)) where
-    pub body-off : (f : Refusal) → r ≡ Off f → body h k s at ≡ refused f.number f.place
+  module _ (l : k ≡ h.rows * h.columns) where
+    pub body-off : (m p : ℕ) → forget (heights h.no_data k s at) ≡ refused m p → body h k s at ≡ refused m p
     unfolding body
-    body-off f e = rw (eq-eqb k (h.rows * h.columns) l, kept_off (heights h.no_data k s at) _ _ (moved-off r _ f m e))
+    body-off m p e = rw (eq-eqb k (h.rows * h.columns) l, judged-off (heights h.no_data k s at) m p e)
 
-    module _ (c : Cursor) (e : r ≡ On c) (q : Moved) (t : moved_of q ≡ end s c.at) where
-      got-heights : heights h.no_data k s at ≡ got (values_of (heights h.no_data k s at)) c.at
-      got-heights = (kept_on (heights h.no_data k s at) _ (moved_on r _ c m e)).1
-
-      pub body_more : (f : Refusal) → q ≡ Off f → body h k s at ≡ refused f.number f.place
+    module _ (j : ℕ) (e : forget (heights h.no_data k s at) ≡ got tt j) where
+      pub body_more : (m p : ℕ) → end s j ≡ refused m p → body h k s at ≡ refused m p
       unfolding body
-      body_more f u = rw (eq-eqb k (h.rows * h.columns) l, got-heights, moved-off q _ f t u)
+      body_more m p q = rw (eq-eqb k (h.rows * h.columns) l, (judged-good (heights h.no_data k s at) j e).1, q)
 
-      pub body-on : (j : Cursor) → q ≡ On j → body h k s at ≡ got (values_of (heights h.no_data k s at)) j.at
+      pub body-on : (i : ℕ) → end s j ≡ got tt i → body h k s at ≡ got (values_of (heights h.no_data k s at)) i
       unfolding body
-      body-on j u = rw (eq-eqb k (h.rows * h.columns) l, got-heights, moved_on q _ j t u)
+      body-on i q = rw (eq-eqb k (h.rows * h.columns) l, (judged-good (heights h.no_data k s at) j e).1, q)
 
 -- ---- a header that stands alone
 
-module _ (s : List ℕ) (r : Headed) (m : headed_of r ≡ H.head s 0) where
-  pub lone-off : (f : Refusal) → r ≡ NoHead f → refusal f.number f.place ≡ lone_header_answer s
+module _ (s : List ℕ) where
+  pub lone-off : (m p : ℕ) → H.head s 0 ≡ refused m p → refusal m p ≡ lone_header_answer s
   unfolding lone_header H.header
-  lone-off f e = rw (sym m ∙ ap headed_of e)
+  lone-off m p e = rw e
 
-  module _ (x : D.Head) (e : r ≡ Head x) (q : Moved) (t : moved_of q ≡ end s x.rest.at) where
-    pub lone-more : (f : Refusal) → q ≡ Off f → refusal f.number f.place ≡ lone_header_answer s
+  module _ (x : H.Head) (j : ℕ) (e : H.head s 0 ≡ got x j) where
+    pub lone-more : (m p : ℕ) → end s j ≡ refused m p → refusal m p ≡ lone_header_answer s
     unfolding lone_header H.header
-    lone-more f u = rw (sym m ∙ ap headed_of e, moved-off q _ f t u)
+    lone-more m p q = rw (e, q)
 
-    pub lone-on : (k : Cursor) → q ≡ On k → accepted (header_of x.header) ≡ lone_header_answer s
+    pub lone-on : (i : ℕ) → end s j ≡ got tt i → accepted x.header ≡ lone_header_answer s
     unfolding lone_header H.header
-    lone-on k u = rw (sym m ∙ ap headed_of e, moved_on q _ k t u)
+    lone-on i q = rw (e, q)
 
 -- ---- the whole text
 
-module _ (lent : List ℤ) (s : List ℕ) (r : Headed) (m : headed_of r ≡ H.head s 0) where
-  pub grid-off : (f : Refusal) → r ≡ NoHead f → record { answer = refusal f.number f.place; heights = lent } ≡ grid_answer lent s
+module _ (lent : List ℤ) (s : List ℕ) where
+  pub grid-off : (m p : ℕ) → H.head s 0 ≡ refused m p → record { answer = refusal m p; heights = lent } ≡ grid_answer lent s
   unfolding grid H.header
-  grid-off f e = rw (sym m ∙ ap headed_of e)
+  grid-off m p e = rw e
 
-  pub grid-on : (x : D.Head) → r ≡ Head x → body_answer (header_of x.header) lent s x.rest.at ≡ grid_answer lent s
+  pub grid-on : (x : H.Head) (j : ℕ) → H.head s 0 ≡ got x j → body_answer x.header lent s j ≡ grid_answer lent s
   unfolding grid H.header
-  grid-on x e = rw (sym m ∙ ap headed_of e) (go (body (header_of x.header) (length lent) s x.rest.at))
+  grid-on x j e = rw e (go (body x.header (length lent) s j))
     where
-      go : (y : Step (List ℤ)) → body_outcome (header_of x.header) lent y ≡ grid_outcome lent (after y (λ hs. give (record { header = header_of x.header; heights = hs })) s)
+      go : (y : Step (List ℤ)) → body_outcome x.header lent y ≡ grid_outcome lent (after y (λ hs. give (record { header = x.header; heights = hs })) s)
       go (got hs i) = refl
       go (refused n p) = refl

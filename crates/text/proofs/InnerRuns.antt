@@ -2,7 +2,7 @@
 use mathlib.Core.Path.{◌≡◌, refl, sym, ap, ◌∙◌, subst}
 use mathlib.Core.Bool.{Bool, true, false, true≢false}
 use mathlib.Core.List.{List}
-use Prim.Native.Nat.{ℕ, zero, suc, ◌+◌, ◌-◌, ◌≤◌, ◌<◌}
+use Prim.Native.Nat.{ℕ, zero, suc, ◌+◌, ◌-◌, ◌≤◌, ◌<◌, max}
 use native.Mathlib.Nat.{le_refl}
 use native.Mathlib.Numerals.{add-one}
 use native.Mathlib.Decide.{dec_lt}
@@ -30,6 +30,14 @@ module _ (p : ℕ → Bool) (s : List ℕ) where
   run_step i e l h =
       let z : e - i ≡ suc (e - (i + 1)) = omega arith in
       ap (λ (n : ℕ). run p s i n) z ∙ run_more i _ h ∙ ap (λ (j : ℕ). run p s j (e - (i + 1))) (sym (add-one i))
+
+  -- a loop from `at` up to e that nothing stopped has come to i
+  pub run-top : (at e i : ℕ) → e ≤ i → (at ≤ e → i ≤ e) → run p s at (e - at) ≡ run p s i (e - i) → max e at ≡ run p s at (e - at)
+  run-top at e i h u q =
+      elim (dec_lt e at) [
+        | yes l ↦ omega (arith, run_end at e (omega arith))
+        | no f ↦ omega (arith, u (omega arith), q, run_end i e h)
+      ]
 
   pub run-lower : (i n : ℕ) → i ≤ run p s i n
   unfolding run
@@ -134,9 +142,9 @@ module _ (p : ℕ → Bool) (s : List ℕ) (a most : ℕ) where
     pub along-stop : p (get_or s i 0) ≡ false → i ≡ run p s a most
     along-stop e = sym (l.left ∙ run-stop p s i _ e)
 
-    pub along-end : p 0 ≡ false → (stop : ℕ) → Limit (length s) a most stop → stop ≤ i → i ≡ run p s a most
+    pub along-end : p 0 ≡ false → (stop : ℕ) → Limit (length s) a most stop → i ≡ stop → stop ≡ run p s a most
     along-end z stop m h =
-        elim (dec_lt i (a + most)) [
+        sym h ∙ elim (dec_lt i (a + most)) [
           | yes k ↦ along-stop (ap p (get_or-eq_default s 0 {n = i} (omega (arith, m.last (omega (arith, m.short)), m.from))) ∙ z)
           | no f ↦ sym (l.left ∙ run_end p s i (a + most) (omega arith))
         ]

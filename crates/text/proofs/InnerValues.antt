@@ -92,8 +92,8 @@ module _ (s : List ℕ) (a most : ℕ) where
     pub scan-stop : most ≤ 9 → digit (get_or s i 0) ≡ false → DigitsFrom s a most v i
     scan-stop m e = found m (along-stop digit s a most i w.along e)
 
-    pub scan-end : most ≤ 9 → (stop : ℕ) → Limit (length s) a most stop → stop ≤ i → DigitsFrom s a most v i
-    scan-end m stop l h = found m (along-end digit s a most i w.along refl stop l h)
+    pub scan-end : most ≤ 9 → (stop : ℕ) → Limit (length s) a most stop → i ≡ stop → DigitsFrom s a most v stop
+    scan-end m stop l h = subst (DigitsFrom s a most v) h (found m (h ∙ along-end digit s a most i w.along refl stop l h))
 
 -- two places of which fewer were read
 module _ (s : List ℕ) (p v end : ℕ) (d : DigitsFrom s p 2 v end) where

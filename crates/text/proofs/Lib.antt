@@ -1,4 +1,5 @@
 pub mod Bytes
+pub mod FaultNumbers
 pub mod Ends
 pub mod Examples
 pub mod Accepted

@@ -1,13 +1,14 @@
 -- RULES 2.5, 3 and 11.3: the answers of the calls that read a text, as the promises state them. Assumes nothing.
-use Rattle.std.specs.Prelude.{ℕ, List, ℤ, pos, length}
+use Rattle.std.specs.Prelude.{ℕ, List, ℤ, pos, length, Result, Ok, Err}
 use Rattle.text.specs.Reader.{Step, got, refused}
 use Rattle.text.specs.Headers as H
 use Rattle.text.specs.Heights as G
 use Rattle.text.specs.declared.Span.{Span}
 use Rattle.text.specs.declared.Corners.{Corners}
 use Rattle.text.specs.declared.Header.{Header}
-use Rattle.text.specs.declared.Answer.{Answer}
-use Rattle.text.specs.declared.Answer.TheVariants.{Accepted, Refused}
+use Rattle.text.specs.declared.Head.{Head}
+use Rattle.text.specs.declared.Refusal.{Refusal}
+use Rattle.text.specs.Faults.{number_of}
 
 -- number and place, and the four numbers
 pub record Outcome : Type 0 where
@@ -62,13 +63,21 @@ grid_outcome lent (refused n p) = record { answer = refusal n p; heights = lent 
 abbrev pub grid_answer : List ℤ → List ℕ → GridOutcome
 grid_answer lent s = grid_outcome lent (G.grid (length lent) s 0)
 
--- the header's numbers, and the number and the values of each case of the enum
+-- the header's numbers, and the number and the values of what a call answers
 abbrev pub header_of : Header → H.Header
 header_of h = record { rows = h.rows; columns = h.columns; side = pos h.side; no_data = h.no_data }
 
-abbrev pub outcome_of : Answer → Outcome
-outcome_of (Accepted h) = accepted (header_of h)
-outcome_of (Refused f) = refusal f.number f.place
+abbrev pub outcome_of : Result Header Refusal → Outcome
+outcome_of (Ok h) = accepted (header_of h)
+outcome_of (Err f) = refusal (number_of f.fault) f.place
 
-abbrev pub grid_outcome_of : Answer → List ℤ → GridOutcome
+abbrev pub head_outcome_of : Result Head Refusal → Outcome
+head_outcome_of (Ok h) = accepted (header_of h.header)
+head_outcome_of (Err f) = refusal (number_of f.fault) f.place
+
+abbrev pub corners_of : Result Head Refusal → Corners
+corners_of (Ok h) = h.corners
+corners_of (Err f) = record { x = no_span; y = no_span }
+
+abbrev pub grid_outcome_of : Result Header Refusal → List ℤ → GridOutcome
 grid_outcome_of r heights = record { answer = outcome_of r; heights = heights }

@@ -1,18 +1,17 @@
 -- What the functions of `heights` ask and answer, in terms of the definitions: only inner functions cite this file. Assumes nothing.
-use Rattle.std.specs.Prelude.{ℕ, List, [], T, ℤ, pos, length}
+use Rattle.std.specs.Prelude.{ℕ, List, [], T, ℤ, pos, length, Result, IfOk}
 use Rattle.std.specs.Int.Signed.{le_z}
 use Rattle.text.specs.Quantities.{no_data_height}
 use Rattle.text.specs.Reader.{Step, got, refused}
 use Rattle.text.specs.Headers as H
 use Rattle.text.specs.Heights.{body}
 use Rattle.text.specs.Answers.{GridOutcome, accepted, refusal}
-use Rattle.text.specs.declared.headers.Lengthed.{Lengthed}
-use Rattle.text.specs.declared.headers.Lengthed.TheVariants.{Length, NoLength}
+use Rattle.text.specs.declared.Refusal.{Refusal}
+use Rattle.text.specs.declared.words.Read.{Read}
 
 -- a height that was read is NoData or within the range
-abbrev pub HeightFits : Lengthed → Type 0
-HeightFits (Length x) = T (le_z no_data_height x.cm) × T (le_z x.cm (pos 900000))
-HeightFits (NoLength f) = Unit
+abbrev pub HeightFits : Result (Read ℤ) Refusal → Type 0
+HeightFits r = IfOk r (λ x. T (le_z no_data_height x.value) × T (le_z x.value (pos 900000)))
 
 -- whether the heights are good, and where they end
 abbrev pub forget : Step (List ℤ) → Step Unit

@@ -1,16 +1,13 @@
 -- What the functions of `numbers` answer, in terms of the definitions: only inner functions cite this file. Assumes nothing.
-use Rattle.std.specs.Prelude.{ℕ, ◌+◌, ◌-◌, ◌≤◌, ◌<◌, Bool, List, ◌≡◌, ltb, ℤ, length}
-use Rattle.text.specs.Reader.{Step, got, refused}
+use Rattle.std.specs.Prelude.{ℕ, ◌+◌, ◌-◌, ◌≤◌, ◌<◌, Bool, List, ◌≡◌, ltb, ℤ, length, Result, Ok, Err, IfOk}
 use Rattle.text.specs.Words.{run}
 use Rattle.text.specs.Numbers as N
-use Rattle.text.specs.declared.numbers.Form.{Form}
-use Rattle.text.specs.declared.numbers.Form.TheVariants as F
-use Rattle.text.specs.declared.numbers.Numbered.{Numbered}
-use Rattle.text.specs.declared.numbers.Numbered.TheVariants.{Number, NoNumber}
-use Rattle.text.specs.declared.numbers.Measured.{Measured}
-use Rattle.text.specs.declared.numbers.Measured.TheVariants.{Measure, NoMeasure}
-use Rattle.text.specs.declared.numbers.Counted.{Counted}
-use Rattle.text.specs.declared.numbers.Counted.TheVariants.{Count, NoCount}
+use Rattle.text.specs.declared.Refusal.{Refusal}
+use Rattle.text.specs.declared.words.Read.{Read}
+use Rattle.text.specs.declared.numbers.Formed.{Formed}
+use Rattle.text.specs.declared.numbers.Malformed.{Malformed}
+use Rattle.text.specs.declared.numbers.Number.{Number}
+use Rattle.text.specs.declared.numbers.Measure.{Measure}
 
 -- ---- digits and forms
 
@@ -46,40 +43,23 @@ pub record TailFrom (s : List ℕ) (p end : ℕ) (fine : Bool) : Type 0 where
   pub from : p ≤ end
   pub within : end ≤ length s
 
-abbrev pub form_of : Form → N.Form N.Number
-form_of (F.Number minus size fine end) = N.formed (record { minus = minus; size = size; fine = fine })
-form_of (F.Malformed p) = N.malformed p
-
--- a number's word ends at e
-abbrev pub EndsAt : ℕ → Form → Type 0
-EndsAt e (F.Number minus size fine end) = (end ≡ e) × (size < 200000000000)
-EndsAt e (F.Malformed p) = Unit
+abbrev pub form_of : Result Formed Malformed → N.Form N.Number
+form_of (Ok x) = N.formed (record { minus = x.minus; size = x.size; fine = x.fine })
+form_of (Err x) = N.malformed x.at
 
 -- a word that ends at e, with its form w
-pub record Parsed (e : ℕ) (w : N.Form N.Number) (r : Form) : Type 0 where
+pub record Parsed (e : ℕ) (w : N.Form N.Number) (r : Result Formed Malformed) : Type 0 where
   pub is : form_of r ≡ w
-  pub ends : EndsAt e r
+  pub ends : IfOk r (λ x. (x.end ≡ e) × (x.size < 200000000000))
 
--- ---- each answer as the step of a reading
+-- ---- what each value stands for
 
-abbrev pub numbered_of : Numbered → Step (N.Placed N.Number)
-numbered_of (Number x) = got (record { place = x.start; is = record { minus = x.minus; size = x.size; fine = x.fine } }) x.rest.at
-numbered_of (NoNumber f) = refused f.number f.place
+abbrev pub placed_of : Number → N.Placed N.Number
+placed_of x = record { place = x.start; is = record { minus = x.minus; size = x.size; fine = x.fine } }
 
-abbrev pub measured_of : Measured → Step (N.Placed ℤ)
-measured_of (Measure x) = got (record { place = x.start; is = x.cm }) x.rest.at
-measured_of (NoMeasure f) = refused f.number f.place
-
-abbrev pub counted_of : Counted → Step ℕ
-counted_of (Count x) = got x.n x.rest.at
-counted_of (NoCount f) = refused f.number f.place
+abbrev pub measure_of : Measure → N.Placed ℤ
+measure_of x = record { place = x.start; is = x.cm }
 
 -- at most nine digits and two decimals
-abbrev pub SizeFits : Numbered → Type 0
-SizeFits (Number x) = x.size < 200000000000
-SizeFits (NoNumber f) = Unit
-
--- at most 1,024 rows or columns
-abbrev pub CountFits : Counted → Type 0
-CountFits (Count x) = x.n ≤ 1024
-CountFits (NoCount f) = Unit
+abbrev pub SizeFits : Result (Read Number) Refusal → Type 0
+SizeFits r = IfOk r (λ x. x.value.size < 200000000000)

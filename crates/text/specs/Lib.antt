@@ -7,6 +7,7 @@ pub mod Numbers
 pub mod Right
 pub mod Headers
 pub mod Heights
+pub mod Faults
 pub mod Answers
 pub mod Ranges
 pub mod InnerWords

@@ -1,96 +1,71 @@
 // The heights and the text's end: all is judged before the first height is stored.
 ghost use Rattle.std.specs.Prelude.{◌≡◌, length};
 ghost use Rattle.text.specs.Quantities.{height_in};
-ghost use Rattle.text.specs.Heights.{same, height, heights, end};
+ghost use Rattle.text.specs.Heights.{height, heights, end};
 ghost use Rattle.text.specs.Answers.{header_of, grid_outcome_of};
-ghost use Rattle.text.specs.InnerHeaders.{moved_of, lengthed_of, Fits};
+ghost use Rattle.text.specs.InnerWords.{moved_of, step_of};
+ghost use Rattle.text.specs.InnerHeaders.{Fits};
 ghost use Rattle.text.specs.InnerHeights.{HeightFits, forget, Good, values_of, body_answer};
 
-use crate::headers::{Length, Lengthed, Moved};
-use crate::numbers::Measured;
-use crate::words::Cursor;
-use crate::{Answer, Header, NO_DATA, Refusal, numbers, words};
+use crate::words::{Cursor, Read, Reading};
+use crate::{Fault, Header, NO_DATA, Refusal, numbers, words};
 
 // Whether a height of so many cm is allowed.
 fn height_in(cm: i64) -> bool
     ensures { result ≡ height_in cm }
 {
-    if cm < -50000 {
-        return false;
-    }
-    cm <= 900000
-}
-
-// Whether two numbers of cm are equal.
-fn is_same(a: i64, b: i64) -> bool
-    ensures { result ≡ same a b }
-{
-    if a < b {
-        return false;
-    }
-    a <= b
+    (-50000..=900000).contains(&cm)
 }
 
 // The next height; `n` is the NoData number.
-fn read_height(s: &[u8], k: Cursor, n: i64) -> Lengthed
-    ensures { (lengthed_of result ≡ height n s.now k.at) × HeightFits result }
+#[tactic(auto, unfolding(crate::specs::Heights::height))]
+fn read_height(s: &[u8], k: Cursor, n: i64) -> Reading<i64>
+    ensures { (step_of (λ x. x) result ≡ height n s.now k.at) × HeightFits result }
 {
-    let m = numbers::read_measure(s, k);
-    match m {
-        Measured::NoMeasure(refusal) => Lengthed::NoLength(refusal),
-        Measured::Measure(x) => {
-            let rest = x.rest;
-            if is_same(x.cm, n) {
-                return Lengthed::Length(Length {
-                    cm: NO_DATA as i64,
-                    rest,
-                });
-            }
-            if height_in(x.cm) {
-                return Lengthed::Length(Length { cm: x.cm, rest });
-            }
-            Lengthed::NoLength(Refusal {
-                number: 5,
-                place: x.start,
-            })
-        }
+    let measure = numbers::read_measure(s, k)?;
+    let rest = measure.rest;
+    if measure.value.cm == n {
+        return Ok(Read {
+            value: i64::from(NO_DATA),
+            rest,
+        });
     }
+    if height_in(measure.value.cm) {
+        return Ok(Read {
+            value: measure.value.cm,
+            rest,
+        });
+    }
+    Err(Refusal {
+        fault: Fault::Height,
+        place: measure.value.start,
+    })
 }
 
-// Judges `count` heights.
-fn judge_heights(s: &[u8], k: Cursor, n: i64, count: usize) -> Moved
+// Judges `count` heights: the cursor after them.
+fn judge_heights(s: &[u8], k: Cursor, n: i64, count: usize) -> Result<Cursor, Refusal>
     ensures { moved_of result ≡ forget (heights n count s.now k.at) }
 {
-    let mut at = k.at;
-    let mut left = count;
-    while 0 < left {
-        let h = read_height(s, Cursor { at }, n);
-        match h {
-            Lengthed::NoLength(refusal) => {
-                return Moved::Off(refusal);
-            }
-            Lengthed::Length(x) => {
-                at = x.rest.at;
-            }
-        }
-        left -= 1;
+    let mut rest = k;
+    for _judged in 0..count {
+        rest = read_height(s, rest, n)?.rest;
     }
-    Moved::On(Cursor { at })
+    Ok(rest)
 }
 
 // Judges that no word is left.
-pub(crate) fn judge_end(s: &[u8], k: Cursor) -> Moved
+#[tactic(auto, unfolding(crate::specs::Heights::end, crate::specs::Words::word))]
+pub(crate) fn judge_end(s: &[u8], k: Cursor) -> Result<Cursor, Refusal>
     ensures { moved_of result ≡ end s.now k.at }
 {
-    let at = k.at;
-    let a = words::word_start(s, at);
+    let a = words::word_start(s, k.at);
     if a < s.len() {
-        return Moved::Off(Refusal {
-            number: 10,
+        return Err(Refusal {
+            fault: Fault::Trailing,
             place: a,
         });
     }
-    Moved::On(k)
+    Ok(k)
 }
 
 // Stores the heights, which were judged to be good.
@@ -98,41 +73,30 @@ fn store_heights(s: &[u8], k: Cursor, n: i64, out: &mut [i32])
     requires { Good (heights n (length out.old) s.now k.at) }
     ensures { out.new ≡ values_of (heights n (length out.old) s.now k.at) }
 {
-    let mut at = k.at;
-    let mut i = 0;
-    while i < out.len() {
-        let h = read_height(s, Cursor { at }, n);
-        let Lengthed::Length(x) = h else {
+    let mut rest = k;
+    for h in out {
+        let Ok(height) = read_height(s, rest, n) else {
             return;
         };
-        out[i] = x.cm as i32;
-        at = x.rest.at;
-        i += 1;
+        *h = height.value as i32;
+        rest = height.rest;
     }
 }
 
 // What follows the header: all heights are stored, or none.
-pub(crate) fn read(s: &[u8], k: Cursor, header: Header, out: &mut [i32]) -> Answer
+#[tactic(auto, unfolding(crate::specs::Heights::body))]
+pub(crate) fn read(s: &[u8], k: Cursor, header: Header, out: &mut [i32]) -> Result<Header, Refusal>
     requires { Fits header.rows header.columns }
     ensures { grid_outcome_of result out.new ≡ body_answer (header_of header) out.old s.now k.at }
 {
     if out.len() != header.rows * header.columns {
-        return Answer::Refused(Refusal {
-            number: 2,
+        return Err(Refusal {
+            fault: Fault::Length,
             place: 0,
         });
     }
-    let judged = match judge_heights(s, k, header.no_data, out.len()) {
-        Moved::Off(refusal) => {
-            return Answer::Refused(refusal);
-        }
-        Moved::On(rest) => judge_end(s, rest),
-    };
-    match judged {
-        Moved::Off(refusal) => Answer::Refused(refusal),
-        Moved::On(_) => {
-            store_heights(s, k, header.no_data, out);
-            Answer::Accepted(header)
-        }
-    }
+    let rest = judge_heights(s, k, header.no_data, out.len())?;
+    judge_end(s, rest)?;
+    store_heights(s, k, header.no_data, out);
+    Ok(header)
 }

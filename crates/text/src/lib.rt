@@ -4,6 +4,7 @@
 // ranges are tested here for the calls of the layers above too.
 #![tactic(auto)]
 
+mod faults;
 mod headers;
 mod heights;
 mod numbers;
@@ -11,9 +12,9 @@ mod ranges;
 mod words;
 
 ghost use Rattle.std.specs.Prelude.{◌≡◌};
-ghost use Rattle.text.specs.Answers.{outcome_of, grid_outcome_of, header_answer, corners_answer, lone_header_answer, grid_answer};
+ghost use Rattle.text.specs.Answers.{outcome_of, head_outcome_of, corners_of, grid_outcome_of, header_answer, corners_answer, lone_header_answer, grid_answer};
 
-use headers::{Headed, Moved};
+pub use faults::Fault;
 pub use numbers::is_number;
 pub use ranges::{first_bad, is_height, is_side, is_size};
 use words::Cursor;
@@ -21,10 +22,10 @@ use words::Cursor;
 // RULES 1: a NoData cell's height, in cm.
 pub const NO_DATA: i32 = -999900;
 
-// RULES 3: the number and the place.
-#[derive(Clone, Copy)]
+// RULES 3: the fault and the place.
+#[derive(Clone, Copy, PartialEq, Eq)]
 pub struct Refusal {
-    pub number: u32,
+    pub fault: Fault,
     pub place: usize,
 }
 
@@ -37,13 +38,6 @@ pub struct Header {
     pub no_data: i64,
 }
 
-// What a call that reads a text answers.
-#[derive(Clone, Copy)]
-pub enum Answer {
-    Accepted(Header),
-    Refused(Refusal),
-}
-
 // Where a word stands: its first byte and its length.
 #[derive(Clone, Copy)]
 pub struct Span {
@@ -51,81 +45,45 @@ pub struct Span {
     pub length: usize,
 }
 
-// Where the words of the two corner numbers stand; zeros at a refusal.
+// Where the words of the two corner numbers stand.
 #[derive(Clone, Copy)]
 pub struct Corners {
     pub x: Span,
     pub y: Span,
 }
 
-// The answer of the header call.
+// What the header call answers.
 #[derive(Clone, Copy)]
-pub struct HeaderAnswer {
-    pub answer: Answer,
+pub struct Head {
+    pub header: Header,
     pub corners: Corners,
 }
 
 // Reads the header alone, and judges nothing after it.
-pub fn read_header(text: &[u8]) -> HeaderAnswer
-    ensures answers { outcome_of result.answer ≡ header_answer text.now }
-    ensures corners { result.corners ≡ corners_answer text.now }
+#[tactic(auto, unfolding(crate::specs::Headers::header))]
+pub fn read_header(text: &[u8]) -> Result<Head, Refusal>
+    ensures answers { head_outcome_of result ≡ header_answer text.now }
+    ensures corners { corners_of result ≡ corners_answer text.now }
 {
-    let h = headers::read(text, Cursor { at: 0 });
-    match h {
-        Headed::NoHead(refusal) => HeaderAnswer {
-            answer: Answer::Refused(refusal),
-            corners: Corners {
-                x: Span {
-                    first: 0,
-                    length: 0,
-                },
-                y: Span {
-                    first: 0,
-                    length: 0,
-                },
-            },
-        },
-        Headed::Head(x) => {
-            let header = x.header;
-            let corners = x.corners;
-            HeaderAnswer {
-                answer: Answer::Accepted(header),
-                corners,
-            }
-        }
-    }
+    let head = headers::read(text, Cursor { at: 0 })?;
+    Ok(head.value)
 }
 
 // Reads a header that stands alone in its text, so that no word may follow it.
-pub fn read_lone_header(text: &[u8]) -> Answer
+#[tactic(auto, unfolding(crate::specs::Heights::lone_header, crate::specs::Headers::header))]
+pub fn read_lone_header(text: &[u8]) -> Result<Header, Refusal>
     ensures { outcome_of result ≡ lone_header_answer text.now }
 {
-    let h = headers::read(text, Cursor { at: 0 });
-    match h {
-        Headed::NoHead(refusal) => Answer::Refused(refusal),
-        Headed::Head(x) => {
-            let header = x.header;
-            let rest = x.rest;
-            let m = heights::judge_end(text, rest);
-            match m {
-                Moved::Off(refusal) => Answer::Refused(refusal),
-                Moved::On(_) => Answer::Accepted(header),
-            }
-        }
-    }
+    let head = headers::read(text, Cursor { at: 0 })?;
+    heights::judge_end(text, head.rest)?;
+    Ok(head.value.header)
 }
 
 // Reads the whole text into the lent heights; a refusal leaves them as they were.
-pub fn read_grid(text: &[u8], heights: &mut [i32]) -> Answer
+#[tactic(auto, unfolding(crate::specs::Heights::grid, crate::specs::Headers::header))]
+pub fn read_grid(text: &[u8], heights: &mut [i32]) -> Result<Header, Refusal>
     ensures { grid_outcome_of result heights.new ≡ grid_answer heights.old text.now }
 {
-    let h = headers::read(text, Cursor { at: 0 });
-    match h {
-        Headed::NoHead(refusal) => Answer::Refused(refusal),
-        Headed::Head(x) => {
-            let header = x.header;
-            let rest = x.rest;
-            heights::read(text, rest, header, heights)
-        }
-    }
+    let head = headers::read(text, Cursor { at: 0 })?;
+    heights::read(text, head.rest, head.value.header, heights)
 }

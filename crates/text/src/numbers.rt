@@ -1,13 +1,14 @@
 // Numbers, read from their first byte in one pass: a sign, whole digits, a point, decimals, and the word's end.
-ghost use Rattle.std.specs.Prelude.{◌≡◌, true, false, cond, ◌&&◌, ◌+◌, ◌-◌, ◌*◌, ◌≤◌, ◌<◌, eqb, length, get_or};
-ghost use Rattle.text.specs.Reader.{refused};
+ghost use Rattle.std.specs.Prelude.{◌≡◌, true, false, cond, ◌&&◌, ◌+◌, ◌-◌, ◌*◌, ◌≤◌, ◌<◌, eqb, length, get_or, IfOk};
 ghost use Rattle.text.specs.Words.{run, solid, word_end};
 ghost use Rattle.text.specs.Numbers.{digit, digit_of, zero, after_sign, value, number_at, decimals, is_formed, is_number, comma_decimal, centimetres, number};
 ghost use Rattle.text.specs.Numbers as D;
-ghost use Rattle.text.specs.InnerNumbers.{Limit, DigitsFrom, HundredthsFrom, TailFrom, Parsed, numbered_of, SizeFits, measured_of, counted_of, CountFits};
+ghost use Rattle.text.specs.Faults.{number_of};
+ghost use Rattle.text.specs.InnerWords.{step_of};
+ghost use Rattle.text.specs.InnerNumbers.{Limit, DigitsFrom, HundredthsFrom, TailFrom, Parsed, placed_of, measure_of, SizeFits};
 
-use crate::words::Cursor;
-use crate::{Refusal, words};
+use crate::words::{Cursor, Read, Reading};
+use crate::{Fault, Refusal, is_size, words};
 
 // Digits that were read: what they stand for, and the place after them.
 #[derive(Clone, Copy)]
@@ -23,27 +24,25 @@ pub(crate) struct Tail {
     pub(crate) fine: bool,
 }
 
-// A word's form: a number of `size` cm, `fine` where a digit past the second decimal is not 0; or the place at which it stops being a number.
+// A word's number: of `size` cm, `fine` where a digit past the second decimal is not 0; and the place after it.
 #[derive(Clone, Copy)]
-pub(crate) enum Form {
-    Number {
-        minus: bool,
-        size: u64,
-        fine: bool,
-        end: usize,
-    },
-    Malformed {
-        at: usize,
-    },
+pub(crate) struct Formed {
+    pub(crate) minus: bool,
+    pub(crate) size: u64,
+    pub(crate) fine: bool,
+    pub(crate) end: usize,
+}
+
+// The place at which a word stops being a number.
+#[derive(Clone, Copy)]
+pub(crate) struct Malformed {
+    pub(crate) at: usize,
 }
 
 fn is_digit(b: u8) -> bool
     ensures { result ≡ digit b }
 {
-    if b < 48 {
-        return false;
-    }
-    b <= 57
+    b.is_ascii_digit()
 }
 
 // What a digit stands for.
@@ -51,7 +50,7 @@ fn digit_of(b: u8) -> u64
     requires { digit b ≡ true }
     ensures { (result ≡ digit_of b) × (result ≤ 9) }
 {
-    (b - 48) as u64
+    u64::from(b - b'0')
 }
 
 // The place `most` places after `a`, or the text's length if that comes first.
@@ -59,10 +58,7 @@ fn limit(s: &[u8], a: usize, most: usize) -> usize
     requires { a ≤ length s.now }
     ensures { Limit (length s.now) a most result }
 {
-    if s.len() - a < most {
-        return s.len();
-    }
-    a + most
+    a + most.min(s.len() - a)
 }
 
 // The digits from `a` on, at most `most` of them.
@@ -72,16 +68,14 @@ fn read_digits(s: &[u8], a: usize, most: usize) -> Digits
 {
     let stop = limit(s, a, most);
     let mut value: u64 = 0;
-    let mut i = a;
-    while i < stop {
+    for i in a..stop {
         let b = s[i];
         if !is_digit(b) {
             return Digits { value, end: i };
         }
         value = value * 10 + digit_of(b);
-        i += 1;
     }
-    Digits { value, end: i }
+    Digits { value, end: stop }
 }
 
 // The place after the zeros from `a` on, at most `most` of them.
@@ -90,24 +84,19 @@ fn zeros_end(s: &[u8], a: usize, most: usize) -> usize
     ensures { result ≡ run zero s.now a most }
 {
     let stop = limit(s, a, most);
-    let mut i = a;
-    while i < stop {
-        if s[i] != 48 {
+    for i in a..stop {
+        if s[i] != b'0' {
             return i;
         }
-        i += 1;
     }
-    i
+    stop
 }
 
 // The byte at `i`; 0 past the text's end.
 fn byte_at(s: &[u8], i: usize) -> u8
     ensures { result ≡ get_or s.now i 0 }
 {
-    if i < s.len() {
-        return s[i];
-    }
-    0
+    s.get(i).copied().unwrap_or(0)
 }
 
 // Whether the word that goes on up to `i` ends there.
@@ -156,34 +145,34 @@ fn read_hundredths(s: &[u8], p: usize) -> Digits
 }
 
 // The number of `size` whole cm whose decimals begin at `p`.
-fn read_decimals(s: &[u8], minus: bool, size: u64, p: usize) -> Form
+fn read_decimals(s: &[u8], minus: bool, size: u64, p: usize) -> Result<Formed, Malformed>
     requires { (p ≤ length s.now) × (size < 100000000000) }
     ensures { Parsed (word_end s.now p) (decimals s.now (word_end s.now p) minus size p) result }
 {
     let h = read_hundredths(s, p);
     let q = h.end;
     if q == p {
-        return Form::Malformed { at: p };
+        return Err(Malformed { at: p });
     }
     if ends(s, q) {
-        return Form::Number {
+        return Ok(Formed {
             minus,
             size: size + h.value,
             fine: false,
             end: q,
-        };
+        });
     }
     let t = read_tail(s, p, q);
     let f = t.end;
     if ends(s, f) {
-        return Form::Number {
+        return Ok(Formed {
             minus,
             size: size + h.value,
             fine: t.fine,
             end: f,
-        };
+        });
     }
-    Form::Malformed { at: f }
+    Err(Malformed { at: f })
 }
 
 // The place after the minus, where there is one.
@@ -191,14 +180,14 @@ fn after_sign(s: &[u8], a: usize) -> usize
     requires { a < length s.now }
     ensures { result ≡ after_sign s.now a }
 {
-    if s[a] == 45 {
+    if s[a] == b'-' {
         return a + 1;
     }
     a
 }
 
 // The number whose word begins at `a`.
-fn read_form(s: &[u8], a: usize) -> Form
+fn read_form(s: &[u8], a: usize) -> Result<Formed, Malformed>
     requires { (a < length s.now) × (solid (get_or s.now a 0) ≡ true) }
     ensures { Parsed (word_end s.now a) (number_at s.now a (word_end s.now a)) result }
 {
@@ -206,28 +195,28 @@ fn read_form(s: &[u8], a: usize) -> Form
     let w = read_digits(s, b, 9);
     let d = w.end;
     if d == b {
-        return Form::Malformed { at: d };
+        return Err(Malformed { at: d });
     }
     let size = w.value * 100;
-    if byte_at(s, d) == 46 {
+    if byte_at(s, d) == b'.' {
         return read_decimals(s, a < b, size, d + 1);
     }
     if ends(s, d) {
-        return Form::Number {
+        return Ok(Formed {
             minus: a < b,
             size,
             fine: false,
             end: d,
-        };
+        });
     }
-    Form::Malformed { at: d }
+    Err(Malformed { at: d })
 }
 
 // Whether the bytes of `word` are those of a number's word.
 pub fn is_number(word: &[u8]) -> bool
     ensures { result ≡ is_number word.now }
 {
-    if word.len() == 0 {
+    if word.is_empty() {
         return false;
     }
     let b = after_sign(word, 0);
@@ -236,7 +225,7 @@ pub fn is_number(word: &[u8]) -> bool
     if d == b {
         return false;
     }
-    if byte_at(word, d) != 46 {
+    if byte_at(word, d) != b'.' {
         return d == word.len();
     }
     let t = read_digits(word, d + 1, 6);
@@ -259,7 +248,7 @@ fn is_comma_decimal(s: &[u8], a: usize) -> bool
     if d == b {
         return false;
     }
-    if byte_at(s, d) != 44 {
+    if byte_at(s, d) != b',' {
         return false;
     }
     let t = read_digits(s, d + 1, 6);
@@ -273,59 +262,47 @@ fn is_comma_decimal(s: &[u8], a: usize) -> bool
 // The refusal of the word that begins at `a` and breaks at `place`. `point` says whether its position allows a point.
 fn refuse(s: &[u8], a: usize, place: usize, point: bool) -> Refusal
     requires { (a < length s.now) × (solid (get_or s.now a 0) ≡ true) × (point ≡ true → is_formed (number_at s.now a (word_end s.now a)) ≡ false) }
-    ensures { (result.number ≡ cond (point && comma_decimal number_at s.now a (word_end s.now a)) 12 7) × (result.place ≡ place) }
+    ensures { (number_of result.fault ≡ cond (point && comma_decimal number_at s.now a (word_end s.now a)) 12 7) × (result.place ≡ place) }
 {
-    let number = if point {
-        if is_comma_decimal(s, a) { 12 } else { 7 }
+    let fault = if point && is_comma_decimal(s, a) {
+        Fault::Comma
     } else {
-        7
+        Fault::Malformed
     };
-    Refusal { number, place }
+    Refusal { fault, place }
 }
 
-// A number with the place of its word and the cursor after it.
+// A number with the place of its word.
 #[derive(Clone, Copy)]
 pub(crate) struct Number {
     pub(crate) start: usize,
     pub(crate) minus: bool,
     pub(crate) size: u64,
     pub(crate) fine: bool,
-    pub(crate) rest: Cursor,
-}
-
-#[derive(Clone, Copy)]
-pub(crate) enum Numbered {
-    Number(Number),
-    NoNumber(Refusal),
 }
 
 impl Cursor {
     // The next word as a number, and the moved cursor.
-    pub(crate) fn number(self, s: &[u8]) -> Numbered
-        ensures { (numbered_of result ≡ number s.now self.at) × SizeFits result }
+    pub(crate) fn number(self, s: &[u8]) -> Reading<Number>
+        ensures { (step_of placed_of result ≡ number s.now self.at) × SizeFits result }
     {
-        let at = self.at;
-        let a = words::word_start(s, at);
-        if s.len() <= a {
-            return Numbered::NoNumber(Refusal {
-                number: 9,
+        let start = words::word_start(s, self.at);
+        if s.len() <= start {
+            return Err(Refusal {
+                fault: Fault::Ended,
                 place: s.len(),
             });
         }
-        let f = read_form(s, a);
-        match f {
-            Form::Malformed { at: place } => Numbered::NoNumber(refuse(s, a, place, true)),
-            Form::Number {
-                minus,
-                size,
-                fine,
-                end,
-            } => Numbered::Number(Number {
-                start: a,
-                minus,
-                size,
-                fine,
-                rest: Cursor { at: end },
+        match read_form(s, start) {
+            Err(malformed) => Err(refuse(s, start, malformed.at, true)),
+            Ok(x) => Ok(Read {
+                value: Number {
+                    start,
+                    minus: x.minus,
+                    size: x.size,
+                    fine: x.fine,
+                },
+                rest: Cursor { at: x.end },
             }),
         }
     }
@@ -337,106 +314,63 @@ fn signed(minus: bool, size: u64) -> i64
     ensures { result ≡ centimetres minus size }
 {
     let c = size as i64;
-    if minus {
-        return 0 - c;
-    }
-    c
+    if minus { -c } else { c }
 }
 
-// A number in whole cm with the place of its word and the cursor after it.
+// A number in whole cm with the place of its word.
 #[derive(Clone, Copy)]
 pub(crate) struct Measure {
     pub(crate) start: usize,
     pub(crate) cm: i64,
-    pub(crate) rest: Cursor,
-}
-
-#[derive(Clone, Copy)]
-pub(crate) enum Measured {
-    Measure(Measure),
-    NoMeasure(Refusal),
 }
 
 // The next number in whole cm.
-pub(crate) fn read_measure(s: &[u8], k: Cursor) -> Measured
-    ensures { measured_of result ≡ D.measure s.now k.at }
+#[tactic(auto, unfolding(crate::specs::Numbers::measure))]
+pub(crate) fn read_measure(s: &[u8], k: Cursor) -> Reading<Measure>
+    ensures { step_of measure_of result ≡ D.measure s.now k.at }
 {
-    let n = k.number(s);
-    match n {
-        Numbered::NoNumber(refusal) => Measured::NoMeasure(refusal),
-        Numbered::Number(x) => {
-            if x.fine {
-                return Measured::NoMeasure(Refusal {
-                    number: 8,
-                    place: x.start,
-                });
-            }
-            let rest = x.rest;
-            Measured::Measure(Measure {
-                start: x.start,
-                cm: signed(x.minus, x.size),
-                rest,
-            })
-        }
+    let number = k.number(s)?;
+    let x = number.value;
+    if x.fine {
+        return Err(Refusal {
+            fault: Fault::Fine,
+            place: x.start,
+        });
     }
+    Ok(Read {
+        value: Measure {
+            start: x.start,
+            cm: signed(x.minus, x.size),
+        },
+        rest: number.rest,
+    })
 }
 
-// A count of rows or columns with the cursor after it.
-#[derive(Clone, Copy)]
-pub(crate) struct Count {
-    pub(crate) n: usize,
-    pub(crate) rest: Cursor,
-}
-
-#[derive(Clone, Copy)]
-pub(crate) enum Counted {
-    Count(Count),
-    NoCount(Refusal),
-}
-
-// A count has no point, so a comma in it is like any other byte.
-fn malformed_count(s: &[u8], a: usize, place: usize) -> Counted
-    requires { (a < length s.now) × (solid (get_or s.now a 0) ≡ true) }
-    ensures { (counted_of result ≡ refused 7 place) × CountFits result }
+// The next count of rows or columns. It has no point, so a comma in it is like any other byte.
+pub(crate) fn read_count(s: &[u8], k: Cursor) -> Reading<usize>
+    ensures { (step_of (λ x. x) result ≡ D.count s.now k.at) × IfOk result (λ x. x.value ≤ 1024) }
 {
-    Counted::NoCount(refuse(s, a, place, false))
-}
-
-// The next count.
-pub(crate) fn read_count(s: &[u8], k: Cursor) -> Counted
-    ensures { (counted_of result ≡ D.count s.now k.at) × CountFits result }
-{
-    let at = k.at;
-    let a = words::word_start(s, at);
+    let a = words::word_start(s, k.at);
     if s.len() <= a {
-        return Counted::NoCount(Refusal {
-            number: 9,
+        return Err(Refusal {
+            fault: Fault::Ended,
             place: s.len(),
         });
     }
     let d = read_digits(s, a, 9);
     let e = d.end;
-    if e == a {
-        return malformed_count(s, a, e);
+    if e == a || !ends(s, e) {
+        return Err(refuse(s, a, e, false));
     }
-    if !ends(s, e) {
-        return malformed_count(s, a, e);
-    }
-    let n = d.value;
-    if n < 1 {
-        return Counted::NoCount(Refusal {
-            number: 1,
+    let n = d.value as usize;
+    if !is_size(n) {
+        return Err(Refusal {
+            fault: Fault::Size,
             place: a,
         });
     }
-    if 1024 < n {
-        return Counted::NoCount(Refusal {
-            number: 1,
-            place: a,
-        });
-    }
-    Counted::Count(Count {
-        n: n as usize,
+    Ok(Read {
+        value: n,
         rest: Cursor { at: e },
     })
 }

@@ -5,48 +5,37 @@ ghost use Rattle.text.specs.Ranges.{size_accepted, side_accepted, height_accepte
 use crate::NO_DATA;
 
 // Whether a number of rows or columns is accepted.
+#[tactic(auto, unfolding(crate::specs::Ranges::size_accepted))]
 pub fn is_size(n: usize) -> bool
     ensures { result ≡ size_accepted n }
 {
-    if n < 1 {
-        return false;
-    }
-    n <= 1024
+    (1..=1024).contains(&n)
 }
 
 // Whether a cell side, in cm, is accepted.
+#[tactic(auto, unfolding(crate::specs::Ranges::side_accepted))]
 pub fn is_side(side: u32) -> bool
     ensures { result ≡ side_accepted side }
 {
-    if side < 1 {
-        return false;
-    }
-    side <= 100000
+    (1..=100000).contains(&side)
 }
 
 // Whether a height, in cm, is accepted.
+#[tactic(auto, unfolding(crate::specs::Ranges::height_accepted))]
 pub fn is_height(h: i32) -> bool
     ensures { result ≡ height_accepted h }
 {
-    if h == NO_DATA {
-        return true;
-    }
-    if h < -50000 {
-        return false;
-    }
-    h <= 900000
+    h == NO_DATA || (-50000..=900000).contains(&h)
 }
 
 // The first cell whose height is not accepted; the number of cells where there is none.
 pub fn first_bad(heights: &[i32]) -> usize
     ensures { result ≡ first_bad (length heights.now) heights.now }
 {
-    let mut x: usize = 0;
-    while x < heights.len() {
-        if !is_height(heights[x]) {
+    for (x, h) in heights.iter().enumerate() {
+        if !is_height(*h) {
             return x;
         }
-        x += 1;
     }
-    x
+    heights.len()
 }

@@ -11,8 +11,9 @@ use Rattle.text.specs.Numbers.{value, decimals}
 use Rattle.writer.specs.Words.{height_word, count_word, factor_word, direction_word}
 use Rattle.writer.specs.Text.{Frame, frame, text_of}
 use Rattle.writer.specs.Answers.{Cells, height_cells, count_cells, factor_cells, direction_cells, answer, after}
-use Rattle.writer.specs.declared.Answer.{Answer}
-use Rattle.writer.specs.declared.Answer.TheVariants.{Accepted, Refused}
+use Rattle.text.specs.declared.Refusal.{Refusal}
+use Rattle.text.specs.Faults.{fault_of}
+use Rattle.std.specs.Prelude.{Result, Ok, Err}
 
 -- ---- words of single cells
 
@@ -97,7 +98,7 @@ stars n = replicate n 42
 
 -- the answer, and the room afterwards
 pub record Told : Type 0 where
-  pub answer : Answer
+  pub answer : Result ℕ Refusal
   pub room : List ℕ
 
 abbrev pub told : Call → ℕ → Told
@@ -105,8 +106,8 @@ told c n =
     let cells = cells_of c.frame c.grid in
     record { answer = answer c.frame cells (stars n); room = after c.frame cells (stars n) }
 
-abbrev pub refused : ℕ → ℕ → Answer
-refused number place = Refused (record { number = number; place = place })
+abbrev pub refused : ℕ → ℕ → Result ℕ Refusal
+refused number place = Err (record { fault = fault_of number; place = place })
 
 -- ---- whole texts
 
@@ -159,12 +160,12 @@ told_of_rooms x = map (told x.call) ((x.length + 3) ∷ x.length ∷ (x.length -
 
 abbrev pub claimed_of_rooms : Whole → List Told
 claimed_of_rooms x =
-    record { answer = Accepted x.length; room = bytes x.text ++ stars 3 } ∷
-    record { answer = Accepted x.length; room = bytes x.text } ∷
+    record { answer = Ok x.length; room = bytes x.text ++ stars 3 } ∷
+    record { answer = Ok x.length; room = bytes x.text } ∷
     record { answer = refused 13 0; room = stars (x.length - 1) } ∷ []
 
 pub rooms-hold : map told_of_rooms wholes ≡ map claimed_of_rooms wholes
-unfolding wholes bytes run value decimals height_cells count_cells factor_cells direction_cells answer after
+unfolding wholes bytes run value decimals height_cells count_cells factor_cells direction_cells answer after fault_of
 rooms-hold = refl
 
 -- ---- refusals
@@ -251,11 +252,11 @@ abbrev pub claimed_of_case : Case → Told
 claimed_of_case x = record { answer = refused x.number x.place; room = stars x.room }
 
 pub one-wrong-hold : map told_of_case one_wrong ≡ map claimed_of_case one_wrong
-unfolding one_wrong bytes run value decimals height_cells count_cells factor_cells direction_cells answer after
+unfolding one_wrong bytes run value decimals height_cells count_cells factor_cells direction_cells answer after fault_of
 one-wrong-hold = refl
 
 pub several-wrong-hold : map told_of_case several_wrong ≡ map claimed_of_case several_wrong
-unfolding several_wrong bytes run value decimals height_cells count_cells factor_cells direction_cells answer after
+unfolding several_wrong bytes run value decimals height_cells count_cells factor_cells direction_cells answer after fault_of
 several-wrong-hold = refl
 
 -- ---- 7: corner words of bad form
@@ -278,7 +279,7 @@ claimed_of_corner g w =
     record { answer = refused 7 1; room = stars 200 } ∷ []
 
 pub bad-corners-hold : map (λ (g : Grid). map (told_of_corner g) bad_corners) grids ≡ map (λ (g : Grid). map (claimed_of_corner g) bad_corners) grids
-unfolding bad_corners bytes run value decimals height_cells count_cells factor_cells direction_cells answer after
+unfolding bad_corners bytes run value decimals height_cells count_cells factor_cells direction_cells answer after fault_of
 bad-corners-hold = refl
 
 -- ---- what is not refused: the bounds, and counts, LS and directions of any size
@@ -298,8 +299,8 @@ accepted =
     (call 1 1 1 "0" "0" (directions (254 ∷ [])), 77) ∷
     (call 1 1 1 "0" "0" (directions (255 ∷ [])), 79) ∷ []
 
-pub accepted-hold : map (λ (x : Call × ℕ). (told x.0 200).answer) accepted ≡ map (λ (x : Call × ℕ). Accepted x.1) accepted
-unfolding accepted bytes run value decimals height_cells count_cells factor_cells direction_cells answer after
+pub accepted-hold : map (λ (x : Call × ℕ). (told x.0 200).answer) accepted ≡ map (λ (x : Call × ℕ). Ok x.1) accepted
+unfolding accepted bytes run value decimals height_cells count_cells factor_cells direction_cells answer after fault_of
 accepted-hold = refl
 
 -- counts, LS and directions have no test of their own: none of them gives 5

@@ -20,9 +20,6 @@ use Rattle.numerals.specs.Words.{decimal, padded, fixed}
 use Rattle.numerals.specs.Writing.{overlay, Wrote}
 use Rattle.numerals.proofs.Writing.{wrote-laid, wrote-byte, wrote_then}
 use Rattle.writer.specs.Words.{none, metres, height_word, count_word, factor_word, direction_word}
-use Rattle.writer.specs.InnerCells.{word_of}
-use Rattle.writer.specs.declared.words.Kind.{Kind}
-use Rattle.writer.specs.declared.words.Kind.TheVariants.{Count, Factor}
 
 -- ---- a number with decimals, in three parts: the digits before the point, the point, the decimals
 
@@ -88,26 +85,24 @@ module _ (code : ℕ) where
 
 -- ---- counts and LS
 
-module _ {kind : Kind} (n : ℕ) where
-  pub count_none : kind ≡ Count → n ≡ 0 → word_of kind n ≡ none
-  unfolding word_of count_word
-  count_none k e = ap (λ (j : Kind). word_of j n) k ∙ ap count_word e
+module _ (n : ℕ) where
+  pub count_none : n ≡ 0 → count_word n ≡ none
+  unfolding count_word
+  count_none e = ap count_word e
 
-  pub count-some : kind ≡ Count → (n ≡ 0 → ⊥) → word_of kind n ≡ decimal n
-  unfolding word_of count_word
-  count-some k d = ap (λ (j : Kind). word_of j n) k ∙ ap (λ (b : Bool). cond b none (decimal n)) (ne_eqb n 0 d)
+  pub count-some : (n ≡ 0 → ⊥) → count_word n ≡ decimal n
+  unfolding count_word
+  count-some d = ap (λ (b : Bool). cond b none (decimal n)) (ne_eqb n 0 d)
 
   -- too long and NoData are the two greatest numbers of 32 bits
-  pub factor-none : kind ≡ Factor → too_long ≤ n → n < 4294967296 → word_of kind n ≡ none
-  unfolding word_of factor_word
-  factor-none k l h =
-      ap (λ (j : Kind). word_of j n) k
-      ∙ (elim (ℕ_discrete n no_data_factor) [
+  pub factor-none : too_long ≤ n → n < 4294967296 → factor_word n ≡ none
+  unfolding factor_word
+  factor-none l h =
+      elim (ℕ_discrete n no_data_factor) [
         | yes e ↦ rw (eq-eqb n no_data_factor e) refl
         | no d ↦ rw (ne_eqb n no_data_factor d, eq-eqb n too_long (omega arith)) refl
-      ])
+      ]
 
-  pub factor-some : kind ≡ Factor → n < too_long → word_of kind n ≡ fixed 5 n
-  unfolding word_of factor_word
-  factor-some k h =
-      ap (λ (j : Kind). word_of j n) k ∙ rw (ne_eqb n no_data_factor (λ e. omega arith), ne_eqb n too_long (λ e. omega arith)) refl
+  pub factor-some : n < too_long → factor_word n ≡ fixed 5 n
+  unfolding factor_word
+  factor-some h = rw (ne_eqb n no_data_factor (λ e. omega arith), ne_eqb n too_long (λ e. omega arith)) refl

@@ -17,13 +17,11 @@ use Rattle.text.specs.Numbers.{is_number}
 use Rattle.text.specs.Ranges.{size_accepted, side_accepted, all_long, first_bad, height_accepted, size_test, length_test, side_test, height_test}
 use Rattle.text.proofs.Accepted.{size_is, side-is, height-passed}
 use Rattle.numerals.proofs.Decimal.{decimal-short, fixed-length}
-use Rattle.writer.specs.Words.{none, metres, height_word, direction_word}
+use Rattle.writer.specs.Words.{none, metres, height_word, count_word, factor_word, direction_word}
 use Rattle.writer.specs.Text.{Frame, frame, header_words, lines, text_of}
 use Rattle.writer.specs.Answers.{corner_test, frame_tests, Cells, height_cells, number_cells, count_cells, factor_cells, direction_cells, judged}
 use Rattle.writer.specs.Rooms.{room_for, EachBelow, Holds}
-use Rattle.writer.specs.InnerCells.{bytes_of, word_of}
-use Rattle.writer.specs.declared.words.Kind.{Kind}
-use Rattle.writer.specs.declared.words.Kind.TheVariants.{Count, Factor}
+use Rattle.writer.specs.InnerCells.{bytes_of}
 use Rattle.writer.proofs.Accepted.{FrameAccepted, corner-short, frame-accepted}
 use Rattle.writer.proofs.Forms.{height-small}
 use Rattle.writer.proofs.InnerWords.{none-length, count_none, count-some, factor-none, factor-some, direction-none, direction-some}
@@ -60,16 +58,18 @@ height-short z = go (same z no_data_height)
     go true e = omega (arith, none-length)
     go false e = metres-short z (height-small z e)
 
-number_short : (kind : Kind) (n : ℕ) → n < 4294967296 → length (word_of kind n) ≤ 11
-number_short Count n h =
+count-short : (n : ℕ) → n < 4294967296 → length (count_word n) ≤ 11
+count-short n h =
     elim (ℕ_discrete n 0) [
-      | yes e ↦ omega (arith, ap length (count_none n refl e), none-length)
-      | no d ↦ omega (arith, ap length (count-some n refl d), decimal-short 9 n (omega arith))
+      | yes e ↦ omega (arith, ap length (count_none n e), none-length)
+      | no d ↦ omega (arith, ap length (count-some n d), decimal-short 9 n (omega arith))
     ]
-number_short Factor n h =
+
+factor-short : (n : ℕ) → n < 4294967296 → length (factor_word n) ≤ 11
+factor-short n h =
     elim (dec_lt n 4294967294) [
-      | yes l ↦ omega (arith, ap length (factor-some n refl l), fixed-length 5 n, decimal-short 4 (n / 100000) (omega arith))
-      | no f ↦ omega (arith, ap length (factor-none n refl (omega arith) h), none-length)
+      | yes l ↦ omega (arith, ap length (factor-some n l), fixed-length 5 n, decimal-short 4 (n / 100000) (omega arith))
+      | no f ↦ omega (arith, ap length (factor-none n (omega arith) h), none-length)
     ]
 
 direction-short : (code : ℕ) → code < 256 → length (direction_word code) ≤ 11
@@ -183,7 +183,7 @@ module _ (rows columns n : ℕ) (big : size_accepted rows ≡ true → size_acce
       never-13 f (height_cells f hs) room (heights-other f hs) (λ p q.
       let many = (frame-accepted f (length hs) p).1 in
       let each = height-passed (rows * columns) hs (verdict-passed (height_test (rows * columns) hs) [] q).0 in
-      fits-with f (height_cells f hs) room refl refl h (heights-long f hs p) p
+      fits-with f (height_cells f hs) room refl refl h (heights-long f hs room p) p
       (bytes-short height_word no_data_height hs (λ k l. height-short (get_or hs k no_data_height) (each k (omega (arith, l, many))))))
 
   -- numbers below b, whose words are short
@@ -197,12 +197,12 @@ module _ (rows columns n : ℕ) (big : size_accepted rows ≡ true → size_acce
       (bytes-short word 0 numbers (λ k l. short (get_or numbers k 0) (w k l))))
 
   pub room-holds : Holds rows columns n
-  unfolding count_cells factor_cells direction_cells word_of
+  unfolding count_cells factor_cells direction_cells
   room-holds =
       record {
         heights = heights-hold;
-        counts = numbers-hold 4294967296 (word_of Count) (number_short Count);
-        factors = numbers-hold 4294967296 (word_of Factor) (number_short Factor);
+        counts = numbers-hold 4294967296 count_word count-short;
+        factors = numbers-hold 4294967296 factor_word factor-short;
         directions = numbers-hold 256 direction_word direction-short;
       }
 

@@ -1,13 +1,13 @@
 -- RULES 10.1: what each call of the writer answers, and what the lent room holds afterwards. Assumes nothing.
-use Rattle.std.specs.Prelude.{not, List, [], ◌∷◌, ◌++◌, map, ℕ, ◌*◌, ltb, ℤ, length}
+use Rattle.std.specs.Prelude.{not, Result, Ok, Err, List, [], ◌∷◌, ◌++◌, map, ℕ, ◌*◌, ltb, ℤ, length}
 use Rattle.laws.specs.Tests.{Test, passed, failed, test, verdict}
+use Rattle.text.specs.declared.Refusal.{Refusal}
+use Rattle.text.specs.Faults.{number_of, fault_of}
 use Rattle.text.specs.Numbers.{is_number}
 use Rattle.text.specs.Ranges.{size_test, length_test, side_test, height_test}
 use Rattle.numerals.specs.Writing.{overlay}
 use Rattle.writer.specs.Words.{height_word, count_word, factor_word, direction_word}
 use Rattle.writer.specs.Text.{Frame, text_of}
-use Rattle.writer.specs.declared.Answer.{Answer}
-use Rattle.writer.specs.declared.Answer.TheVariants.{Accepted, Refused}
 
 -- 7: a corner word of bad form, commas too; place: 1 for x, 2 for y
 unfoldable pub corner_test : ℕ → List ℕ → Test
@@ -63,9 +63,10 @@ unfolding frame_tests room_test text_of verdict
 judged f c room = verdict (frame_tests f c.number ++ c.tests ++ (room_test (text_of f c.words) room ∷ []))
 
 -- The answer gives the text's length.
-unfoldable pub answer_of : List ℕ → Test → Answer
-answer_of text passed = Accepted (length text)
-answer_of text (failed number place) = Refused (record { number = number; place = place })
+unfoldable pub answer_of : List ℕ → Test → Result ℕ Refusal
+unfolding fault_of
+answer_of text passed = Ok (length text)
+answer_of text (failed number place) = Err (record { fault = fault_of number; place = place })
 
 -- The room past the text, and at a refusal all of it, stays as it was.
 unfoldable pub room_of : List ℕ → List ℕ → Test → List ℕ
@@ -73,7 +74,7 @@ room_of text room passed = overlay room 0 text
 room_of text room (failed number place) = room
 
 -- the whole of a call
-unfoldable pub answer : Frame → Cells → List ℕ → Answer
+unfoldable pub answer : Frame → Cells → List ℕ → Result ℕ Refusal
 unfolding judged answer_of text_of
 answer f c room = answer_of (text_of f c.words) (judged f c room)
 
@@ -90,6 +91,6 @@ pub record Numbers : Type 0 where
   pub length : ℕ
 
 -- An accepted call has number and place 0; a refusal returns number and place with every other number 0
-abbrev pub told : Answer → Numbers
-told (Accepted n) = record { number = 0; place = 0; length = n }
-told (Refused f) = record { number = f.number; place = f.place; length = 0 }
+abbrev pub told : Result ℕ Refusal → Numbers
+told (Ok n) = record { number = 0; place = 0; length = n }
+told (Err f) = record { number = number_of f.fault; place = f.place; length = 0 }

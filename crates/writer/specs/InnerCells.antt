@@ -1,8 +1,6 @@
 -- The cells of a grid one after the other, each word with the byte after it: only inner functions cite this file. Assumes nothing.
-use Rattle.std.specs.Prelude.{cond, List, [], ◌∷◌, ◌++◌, ℕ, ◌+◌, eqb, length}
-use Rattle.writer.specs.Words.{count_word, factor_word}
-use Rattle.writer.specs.declared.words.Kind.{Kind}
-use Rattle.writer.specs.declared.words.Kind.TheVariants.{Count, Factor}
+use Rattle.std.specs.Prelude.{cond, List, [], ◌∷◌, ◌++◌, map, ℕ, ◌+◌, eqb, length}
+use Rattle.writer.specs.Answers.{Cells}
 
 -- the byte after the word in a column: LF after the last one of a row, else a space
 unfoldable pub gap_of : ℕ → ℕ → ℕ
@@ -23,8 +21,6 @@ unfoldable pub bytes_of : List (List ℕ) → ℕ
 bytes_of [] = 0
 bytes_of (w ∷ ws) = length w + 1 + bytes_of ws
 
--- the word of a count or of an LS
-unfoldable pub word_of : Kind → ℕ → List ℕ
-unfolding count_word factor_word
-word_of Count n = count_word n
-word_of Factor n = factor_word n
+-- cells of which each is good and gets its word
+abbrev pub good_cells : {A : Type 0} → (A → List ℕ) → List A → Cells
+good_cells word cells = record { number = length cells; tests = []; words = map word cells }

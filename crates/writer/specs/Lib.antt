@@ -6,4 +6,4 @@ pub mod Rooms
 -- What only inner functions cite
 pub mod InnerCells
 pub mod InnerJudging
-pub mod InnerWriting
+pub mod InnerFrame

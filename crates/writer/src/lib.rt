@@ -1,6 +1,7 @@
 // The writer: grids as text, in the form of the text that was read. RULES 10.
 //
-// Every grid gets an answer: no call has a `requires`. A call judges everything, the room too, before it writes the first byte.
+// Every grid gets an answer, the text's length or a refusal: no call has a `requires`. A call judges everything, the room too, before it
+// writes the first byte.
 #![tactic(auto)]
 
 mod cells;
@@ -8,43 +9,43 @@ mod header;
 mod judge;
 mod words;
 
-ghost use Rattle.std.specs.Prelude.{◌≡◌, ◌≤◌, length};
-ghost use Rattle.writer.specs.Text.{frame, header_words, lines};
-ghost use Rattle.writer.specs.Answers.{height_cells, number_cells, count_cells, factor_cells, direction_cells, answer, after};
+ghost use Rattle.std.specs.Prelude.{◌≡◌, length};
+ghost use Rattle.laws.specs.Tests.{passed, verdict};
+ghost use Rattle.writer.specs.Text.{frame};
+ghost use Rattle.writer.specs.Answers.{height_cells, count_cells, factor_cells, direction_cells, frame_tests, answer, after};
 ghost use Rattle.writer.specs.Rooms.{room_for, Holds};
-ghost use Rattle.writer.specs.InnerCells.{word_of};
-ghost use Rattle.writer.specs.InnerWriting.{Begun};
+ghost use Rattle.writer.specs.InnerFrame.{frame_of};
+ghost use Rattle.writer.specs.InnerCells.{good_cells};
 
-use judge::Judgement;
-use text::Refusal;
-use words::Kind;
+use header::Frame;
+use text::{Fault, Refusal};
+use words::{Counts, Directions, Factors, Heights, Word};
 
-// The answer of each call: how many bytes the text has, or why there is none.
-#[derive(Clone, Copy)]
-pub enum Answer {
-    Accepted { length: usize },
-    Refused(Refusal),
+// Writes a grid whose header is good, and whose cells are.
+fn put_text<W: Word>(frame: Frame, cells: &[W::Cell], room: &mut [u8]) -> Result<usize, Refusal>
+    requires { verdict (frame_tests (frame_of frame) (length cells.now)) ≡ passed }
+    ensures answers { result ≡ answer (frame_of frame.entry) (good_cells W.word cells.now) room.old }
+    ensures leaves { room.new ≡ after (frame_of frame.entry) (good_cells W.word cells.now) room.old }
+{
+    let length = frame.length() + cells::length::<W>(cells);
+    if room.len() < length {
+        return Err(Refusal {
+            fault: Fault::Room,
+            place: 0,
+        });
+    }
+    let next = frame.put(room);
+    cells::put::<W>(room, next, frame.columns, cells);
+    Ok(length)
 }
 
-// Puts the header into the room if the whole text, of so many bytes, fits it, and else leaves the room as it is; the place after
-// the header.
-fn begin(
-    room: &mut [u8],
-    bytes: usize,
-    rows: usize,
-    columns: usize,
-    side: u32,
-    x: &[u8],
-    y: &[u8],
-) -> usize
-    requires { (length x.now ≤ 17) × (length y.now ≤ 17) }
-    ensures { Begun room.old bytes
-        (lines (header_words (frame rows columns side x.now y.now))) result room.new }
+// Writes a grid of cells of which any is good.
+fn write<W: Word>(frame: Frame, cells: &[W::Cell], room: &mut [u8]) -> Result<usize, Refusal>
+    ensures answers { result ≡ answer (frame_of frame.entry) (good_cells W.word cells.now) room.old }
+    ensures leaves { room.new ≡ after (frame_of frame.entry) (good_cells W.word cells.now) room.old }
 {
-    if room.len() < bytes {
-        return 0;
-    }
-    header::put(room, rows, columns, side, x, y)
+    frame.judge(cells.len())?;
+    put_text::<W>(frame, cells, room)
 }
 
 // Writes heights in cm, ground or filled, into the lent room.
@@ -56,70 +57,28 @@ pub fn write_heights(
     y: &[u8],
     heights: &[i32],
     room: &mut [u8],
-) -> Answer
+) -> Result<usize, Refusal>
     ensures answers { result ≡ answer (frame rows columns side x.now y.now)
         (height_cells (frame rows columns side x.now y.now) heights.now) room.old }
     ensures leaves { room.new ≡ after (frame rows columns side x.now y.now)
         (height_cells (frame rows columns side x.now y.now) heights.now) room.old }
 {
-    let judgement = judge::judge(rows, columns, side, x, y, heights.len());
-    match judgement {
-        Judgement::Unsound(refusal) => Answer::Refused(refusal),
-        Judgement::Sound => {
-            let bad = text::first_bad(heights);
-            if bad < heights.len() {
-                return Answer::Refused(Refusal {
-                    number: 5,
-                    place: bad,
-                });
-            }
-            let length = header::length(rows, columns, side, x, y) + cells::heights_length(heights);
-            let next = begin(room, length, rows, columns, side, x, y);
-            if room.len() < length {
-                return Answer::Refused(Refusal {
-                    number: 13,
-                    place: 0,
-                });
-            }
-            cells::put_heights(room, next, columns, heights);
-            Answer::Accepted { length }
-        }
+    let frame = Frame {
+        rows,
+        columns,
+        side,
+        x,
+        y,
+    };
+    frame.judge(heights.len())?;
+    let bad = text::first_bad(heights);
+    if bad < heights.len() {
+        return Err(Refusal {
+            fault: Fault::Height,
+            place: bad,
+        });
     }
-}
-
-// Writes counts or LS.
-fn write_numbers(
-    rows: usize,
-    columns: usize,
-    side: u32,
-    x: &[u8],
-    y: &[u8],
-    kind: Kind,
-    numbers: &[u32],
-    room: &mut [u8],
-) -> Answer
-    ensures answers { result ≡ answer (frame rows columns side x.now y.now)
-        (number_cells (word_of kind) numbers.now) room.old }
-    ensures leaves { room.new ≡ after (frame rows columns side x.now y.now)
-        (number_cells (word_of kind) numbers.now) room.old }
-{
-    let judgement = judge::judge(rows, columns, side, x, y, numbers.len());
-    match judgement {
-        Judgement::Unsound(refusal) => Answer::Refused(refusal),
-        Judgement::Sound => {
-            let length = header::length(rows, columns, side, x, y)
-                + cells::numbers_length(kind, numbers);
-            let next = begin(room, length, rows, columns, side, x, y);
-            if room.len() < length {
-                return Answer::Refused(Refusal {
-                    number: 13,
-                    place: 0,
-                });
-            }
-            cells::put_numbers(room, next, columns, kind, numbers);
-            Answer::Accepted { length }
-        }
-    }
+    put_text::<Heights>(frame, heights, room)
 }
 
 // Writes flow counts into the lent room.
@@ -131,13 +90,20 @@ pub fn write_counts(
     y: &[u8],
     counts: &[u32],
     room: &mut [u8],
-) -> Answer
+) -> Result<usize, Refusal>
     ensures answers { result ≡ answer (frame rows columns side x.now y.now)
         (count_cells counts.now) room.old }
     ensures leaves { room.new ≡ after (frame rows columns side x.now y.now)
         (count_cells counts.now) room.old }
 {
-    write_numbers(rows, columns, side, x, y, Kind::Count, counts, room)
+    let frame = Frame {
+        rows,
+        columns,
+        side,
+        x,
+        y,
+    };
+    write::<Counts>(frame, counts, room)
 }
 
 // Writes LS, in hundred-thousandths, into the lent room.
@@ -149,13 +115,20 @@ pub fn write_factors(
     y: &[u8],
     factors: &[u32],
     room: &mut [u8],
-) -> Answer
+) -> Result<usize, Refusal>
     ensures answers { result ≡ answer (frame rows columns side x.now y.now)
         (factor_cells factors.now) room.old }
     ensures leaves { room.new ≡ after (frame rows columns side x.now y.now)
         (factor_cells factors.now) room.old }
 {
-    write_numbers(rows, columns, side, x, y, Kind::Factor, factors, room)
+    let frame = Frame {
+        rows,
+        columns,
+        side,
+        x,
+        y,
+    };
+    write::<Factors>(frame, factors, room)
 }
 
 // Writes directions, as their codes, into the lent room.
@@ -167,29 +140,20 @@ pub fn write_directions(
     y: &[u8],
     directions: &[u8],
     room: &mut [u8],
-) -> Answer
+) -> Result<usize, Refusal>
     ensures answers { result ≡ answer (frame rows columns side x.now y.now)
         (direction_cells directions.now) room.old }
     ensures leaves { room.new ≡ after (frame rows columns side x.now y.now)
         (direction_cells directions.now) room.old }
 {
-    let judgement = judge::judge(rows, columns, side, x, y, directions.len());
-    match judgement {
-        Judgement::Unsound(refusal) => Answer::Refused(refusal),
-        Judgement::Sound => {
-            let length = header::length(rows, columns, side, x, y)
-                + cells::directions_length(directions);
-            let next = begin(room, length, rows, columns, side, x, y);
-            if room.len() < length {
-                return Answer::Refused(Refusal {
-                    number: 13,
-                    place: 0,
-                });
-            }
-            cells::put_directions(room, next, columns, directions);
-            Answer::Accepted { length }
-        }
-    }
+    let frame = Frame {
+        rows,
+        columns,
+        side,
+        x,
+        y,
+    };
+    write::<Directions>(frame, directions, room)
 }
 
 // How many bytes a room needs for any text of a shape.

@@ -1,34 +1,24 @@
 -- `factor::map` meets its contract. Assumes nothing.
-use mathlib.Core.Path.{sym, ap, ◌∙◌}
-use Rattle.factor.specs.Farms.{one, of_farm}
-use Rattle.factor.specs.InnerPass.{farm_by}
-use mathlib.Core.List.{[], ◌∷◌}
 use Prim.Native.Nat.{◌*◌}
-use Rattle.factor.specs.Answers.{lent, found}
-use Rattle.factor.specs.Inner.{Passing}
-use Rattle.factor.proofs.Answers.{one-rules, one-naming, first-refuses}
+use Rattle.std.proofs.lemmas.Result.{err_from_is_err_and}
+use Rattle.factor.specs.Farms.{one}
+use Rattle.factor.specs.Answers.{lent}
+use Rattle.factor.proofs.Answers.{one-passing, one-naming, first-refuses}
 use Rattle.factor.proofs.map.Goals as goal
+
+pub returns-in_err-rules : goal.returns-in_err-rules
+returns-in_err-rules c =
+    let a = c.args in
+    let p = err_from_is_err_and c.from_residual.result c.from_residual.ensures.1 in
+    let all = first-refuses a.rows a.columns a.side (one a.settings) a.source a.elevation.now (lent a.filled.now a.direction.now a.count.now a.lengths.now a.factors.now a.workspace.now)
+    c.in_err-rules.field-0.0 c.in_err-rules.ensures.verdict-is in
+    rw (p.1, p.2) (record { answers = all.0; leaves = all.1.0; trails = all.1.1.0; totals = all.1.1.1.0; surface = all.1.1.1.1 })
 
 pub map_sound-requires : goal.map_sound-requires
 map_sound-requires c =
-    let passing : Passing c.args.rows c.args.columns c.args.side (one c.args.settings) (λ x. of_farm c.in-Sound.rules c.in-Sound.rules (farm_by (0 ∷ []) 0 x)) c.args.elevation.now (lent c.args.filled.now c.args.direction.now c.args.count.now c.args.lengths.now c.args.factors.now c.args.workspace.now) = record {
-      passes = sym (sym (ap found c.in-Sound.is) ∙ c.judge-judgement.ensures.verdict-is);
-      rules-are = one-rules c.args.settings (c.judge-judgement.ensures.rules-are c.in-Sound.rules c.in-Sound.is);
-    } in
-    let a = c.args in ((one a.settings, passing), one-naming (a.rows * a.columns))
+    let a = c.args in ((one a.settings, one-passing c.in_ok-rules.ensures), one-naming (a.rows * a.columns))
 
-pub returns-in-Unsound : goal.returns-in-Unsound
-returns-in-Unsound c =
-    let a = c.args in
-    let all = first-refuses a.rows a.columns a.side (one a.settings) a.source a.elevation.now (lent c.args.filled.now c.args.direction.now c.args.count.now c.args.lengths.now c.args.factors.now c.args.workspace.now)
-    c.in-Unsound.refusal (sym (ap found c.in-Unsound.is) ∙ c.judge-judgement.ensures.verdict-is) in
-    record { answers = all.0; leaves = all.1.0; trails = all.1.1.0; totals = all.1.1.1.0; surface = all.1.1.1.1 }
-
-pub returns-in-Sound : goal.returns-in-Sound
-returns-in-Sound c =
-    let passing : Passing c.args.rows c.args.columns c.args.side (one c.args.settings) (λ x. of_farm c.in-Sound.rules c.in-Sound.rules (farm_by (0 ∷ []) 0 x)) c.args.elevation.now (lent c.args.filled.now c.args.direction.now c.args.count.now c.args.lengths.now c.args.factors.now c.args.workspace.now) = record {
-      passes = sym (sym (ap found c.in-Sound.is) ∙ c.judge-judgement.ensures.verdict-is);
-      rules-are = one-rules c.args.settings (c.judge-judgement.ensures.rules-are c.in-Sound.rules c.in-Sound.is);
-    } in
-    let all = c.map_sound.ensures (one c.args.settings) passing in
+pub returns : goal.returns
+returns c =
+    let all = c.map_sound.ensures (one c.args.settings) (one-passing c.in_ok-rules.ensures) in
     record { answers = all.0; leaves = all.1.0; trails = all.1.1.0; totals = all.1.1.1.0; surface = all.1.1.1.1 }

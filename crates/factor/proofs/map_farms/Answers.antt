@@ -1,42 +1,29 @@
 -- `factor::map_farms` meets its contract. Assumes nothing.
-use Rattle.factor.proofs.Answers.{two-rules, two-naming, first-refuses}
-use Rattle.factor.proofs.Judging.{first-marked, first-cells}
-use Rattle.factor.specs.Inner.{Passing}
-use Rattle.factor.specs.Answers.{lent, found_in}
-use Rattle.factor.specs.Farms.{two, of_farm}
-use Rattle.factor.specs.InnerPass.{farm_by}
-use mathlib.Core.Path.{sym, ap, ◌∙◌}
+use Rattle.std.proofs.lemmas.Result.{err_from_is_err_and}
+use Rattle.factor.specs.Farms.{two}
+use Rattle.factor.specs.Answers.{lent}
+use Rattle.factor.proofs.Answers.{two-passing, two-naming, first-refuses}
+use Rattle.factor.proofs.Judging.{first-marked}
 use Rattle.factor.proofs.map_farms.Goals as goal
+
+pub returns-in_err-rules : goal.returns-in_err-rules
+returns-in_err-rules c =
+    let a = c.args in
+    let p = err_from_is_err_and c.from_residual.result c.from_residual.ensures.1 in
+    let all = first-refuses a.rows a.columns a.side (two a.first a.second a.marks.now) a.source a.elevation.now (lent a.filled.now a.direction.now a.count.now a.lengths.now a.factors.now a.workspace.now)
+    c.in_err-rules.field-0.0 c.in_err-rules.ensures.verdict-is in
+    rw (p.1, p.2) (record { answers = all.0; leaves = all.1.0; trails = all.1.1.0; totals = all.1.1.1.0; surface = all.1.1.1.1 })
 
 pub map_sound-requires : goal.map_sound-requires
 map_sound-requires c =
-    let passing : Passing c.args.rows c.args.columns c.args.side (two c.args.first c.args.second c.args.marks.now) (λ x. of_farm c.in-Sound.first c.in-Sound.second (farm_by c.args.marks.now 1 x)) c.args.elevation.now (lent c.args.filled.now c.args.direction.now c.args.count.now c.args.lengths.now c.args.factors.now c.args.workspace.now) = let a = c.args in
-    record {
-      passes = sym (sym (ap found_in c.in-Sound.is) ∙ c.judge_farms-judgement.ensures.verdict-is);
-      rules-are = two-rules a.first a.second a.marks.now
-          (c.judge_farms-judgement.ensures.rules-are c.in-Sound.first c.in-Sound.second c.in-Sound.is);
-    } in
-    let a = c.args in (
+    let a = c.args in
+    let passing = two-passing a.marks c.in_ok-rules.ensures in (
       (two a.first a.second a.marks.now, passing),
-      two-naming (first-cells a.rows a.columns a.side (two a.first a.second a.marks.now) a.elevation.now (lent c.args.filled.now c.args.direction.now c.args.count.now c.args.lengths.now c.args.factors.now c.args.workspace.now) passing.passes)
-          (first-marked a.rows a.columns a.side a.first a.second a.marks.now a.elevation.now (lent c.args.filled.now c.args.direction.now c.args.count.now c.args.lengths.now c.args.factors.now c.args.workspace.now) passing.passes),
+      two-naming a.marks (first-marked a.rows a.columns a.side a.first a.second a.marks.now a.elevation.now (lent a.filled.now a.direction.now a.count.now a.lengths.now a.factors.now a.workspace.now) passing.passes),
     )
 
-pub returns-in-Unsound : goal.returns-in-Unsound
-returns-in-Unsound c =
+pub returns : goal.returns
+returns c =
     let a = c.args in
-    let all = first-refuses a.rows a.columns a.side (two a.first a.second a.marks.now) a.source a.elevation.now (lent c.args.filled.now c.args.direction.now c.args.count.now c.args.lengths.now c.args.factors.now c.args.workspace.now)
-    c.in-Unsound.refusal (sym (ap found_in c.in-Unsound.is) ∙ c.judge_farms-judgement.ensures.verdict-is) in
-    record { answers = all.0; leaves = all.1.0; trails = all.1.1.0; totals = all.1.1.1.0; surface = all.1.1.1.1 }
-
-pub returns-in-Sound : goal.returns-in-Sound
-returns-in-Sound c =
-    let passing : Passing c.args.rows c.args.columns c.args.side (two c.args.first c.args.second c.args.marks.now) (λ x. of_farm c.in-Sound.first c.in-Sound.second (farm_by c.args.marks.now 1 x)) c.args.elevation.now (lent c.args.filled.now c.args.direction.now c.args.count.now c.args.lengths.now c.args.factors.now c.args.workspace.now) = let a = c.args in
-    record {
-      passes = sym (sym (ap found_in c.in-Sound.is) ∙ c.judge_farms-judgement.ensures.verdict-is);
-      rules-are = two-rules a.first a.second a.marks.now
-          (c.judge_farms-judgement.ensures.rules-are c.in-Sound.first c.in-Sound.second c.in-Sound.is);
-    } in
-    let a = c.args in
-    let all = c.map_sound.ensures (two a.first a.second a.marks.now) passing in
+    let all = c.map_sound.ensures (two a.first a.second a.marks.now) (two-passing a.marks c.in_ok-rules.ensures) in
     record { answers = all.0; leaves = all.1.0; trails = all.1.1.0; totals = all.1.1.1.0; surface = all.1.1.1.1 }

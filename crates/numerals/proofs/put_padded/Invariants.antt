@@ -5,6 +5,3 @@ use Rattle.numerals.proofs.put_padded.Given as goal
 
 abbrev pub invariant-loop-i : goal.invariant-loop-i
 invariant-loop-i l = Back l.initial.out l.at (padded l.count l.n) l.out l.i (padded l.i l.left)
-
-abbrev pub decreases-loop-i : goal.decreases-loop-i
-decreases-loop-i l = l.i

@@ -1,29 +1,48 @@
 -- `settings::judge` meets its contract. Assumes nothing.
-use Rattle.settings.proofs.Cutoffs.{threshold-share, threshold-over, threshold-never, share-accepted, over-accepted, never-accepted, share-refused, judged-low, judged-high, judged-channel, judged-rules}
+use mathlib.Core.Path.{refl}
+use native.Mathlib.Omega.{arith}
+use Rattle.std.proofs.lemmas.Result.{err_from_is_err_and}
+use Rattle.settings.proofs.Cutoffs.{whole-none, whole-some, refused-is, threshold-share, threshold-over, threshold-never, share-accepted, over-accepted, never-accepted, share-refused, judged-low, judged-high, judged-channel, judged-rules}
 use Rattle.settings.proofs.judge.Goals as goal
 
-pub returns-then-low-gt100 : goal.returns-then-low-gt100
-returns-then-low-gt100 c = judged-low c.args.s c.whole_of-low.ensures c.if-low-gt100.true
+pub returns-in_err-low : goal.returns-in_err-low
+returns-in_err-low c =
+    let p = err_from_is_err_and c.from_residual.result c.from_residual.ensures.1 in
+    rw (p.1, p.2, refused-is c.in_err-low.ensures.ok_part c.in_err-low.ensures.value)
+    (judged-low c.args.s refl (whole-none c.whole_of.ensures c.in_err-low.ensures.ok_part))
 
-pub returns-then-high-gt100 : goal.returns-then-high-gt100
-returns-then-high-gt100 c = judged-high c.args.s c.whole_of-low.ensures c.if-low-gt100.false c.whole_of-high.ensures c.if-high-gt100.true
+pub returns-in_err-high : goal.returns-in_err-high
+returns-in_err-high c =
+    let low = whole-some c.whole_of.ensures c.in_ok-low.ensures.ok_part in
+    let p = err_from_is_err_and c.from_residual-in_err-high.result c.from_residual-in_err-high.ensures.1 in
+    rw (p.1, p.2, refused-is c.in_err-high.ensures.ok_part c.in_err-high.ensures.value)
+    (judged-high c.args.s low.0 (omega (arith, low.0, low.1)) refl (whole-none c.whole_of-2.ensures c.in_err-high.ensures.ok_part))
 
-pub returns-then-share-gt1000 : goal.returns-then-share-gt1000
-returns-then-share-gt1000 c =
-    judged-channel c.args.s c.whole_of-low.ensures c.if-low-gt100.false c.whole_of-high.ensures c.if-high-gt100.false _
-    (threshold-share c.in-Percentage.is c.whole_of-share.ensures) (share-refused _ c.if-share-gt1000.true)
+pub returns-in_err-ok_or-in-Percentage : goal.returns-in_err-ok_or-in-Percentage
+returns-in_err-ok_or-in-Percentage c =
+    let low = whole-some c.whole_of.ensures c.in_ok-low.ensures.ok_part in
+    let high = whole-some c.whole_of-2.ensures c.in_ok-high.ensures.ok_part in
+    let p = err_from_is_err_and c.from_residual-in_err-ok_or-in-Percentage.result c.from_residual-in_err-ok_or-in-Percentage.ensures.1 in
+    rw (p.1, p.2, refused-is c.in_err-ok_or-in-Percentage.ensures.ok_part c.in_err-ok_or-in-Percentage.ensures.value)
+    (judged-channel c.args.s low.0 (omega (arith, low.0, low.1)) high.0 (omega (arith, high.0, high.1)) _ (threshold-share c.in-Percentage.is refl)
+    (share-refused _ (whole-none c.whole_of-in-Percentage.ensures c.in_err-ok_or-in-Percentage.ensures.ok_part)))
 
-pub returns-else-share-gt1000 : goal.returns-else-share-gt1000
-returns-else-share-gt1000 c =
-    judged-rules c.args.s c.whole_of-low.ensures c.if-low-gt100.false c.whole_of-high.ensures c.if-high-gt100.false _
-    (threshold-share c.in-Percentage.is c.whole_of-share.ensures) (share-accepted _ c.if-share-gt1000.false)
+pub returns-in_ok-ok_or-in-Percentage : goal.returns-in_ok-ok_or-in-Percentage
+returns-in_ok-ok_or-in-Percentage c =
+    let low = whole-some c.whole_of.ensures c.in_ok-low.ensures.ok_part in
+    let high = whole-some c.whole_of-2.ensures c.in_ok-high.ensures.ok_part in
+    let share = whole-some c.whole_of-in-Percentage.ensures c.in_ok-ok_or-in-Percentage.ensures.ok_part in
+    judged-rules c.args.s low.0 (omega (arith, low.0, low.1)) high.0 (omega (arith, high.0, high.1)) _ (threshold-share c.in-Percentage.is share.0)
+    (share-accepted _ (omega (arith, share.0, share.1)))
 
 pub returns-in-Cells : goal.returns-in-Cells
 returns-in-Cells c =
-    judged-rules c.args.s c.whole_of-low.ensures c.if-low-gt100.false c.whole_of-high.ensures c.if-high-gt100.false _
-    (threshold-over c.in-Cells.is) (over-accepted _)
+    let low = whole-some c.whole_of.ensures c.in_ok-low.ensures.ok_part in
+    let high = whole-some c.whole_of-2.ensures c.in_ok-high.ensures.ok_part in
+    judged-rules c.args.s low.0 (omega (arith, low.0, low.1)) high.0 (omega (arith, high.0, high.1)) _ (threshold-over c.in-Cells.is) (over-accepted _)
 
 pub returns-in-NoChannel : goal.returns-in-NoChannel
 returns-in-NoChannel c =
-    judged-rules c.args.s c.whole_of-low.ensures c.if-low-gt100.false c.whole_of-high.ensures c.if-high-gt100.false _
-    (threshold-never c.in-NoChannel.is) never-accepted
+    let low = whole-some c.whole_of.ensures c.in_ok-low.ensures.ok_part in
+    let high = whole-some c.whole_of-2.ensures c.in_ok-high.ensures.ok_part in
+    judged-rules c.args.s low.0 (omega (arith, low.0, low.1)) high.0 (omega (arith, high.0, high.1)) _ (threshold-never c.in-NoChannel.is) never-accepted

@@ -11,9 +11,9 @@ use Rattle.terrain.proofs.survey.Goals as goal
 pub judge-requires : goal.judge-requires
 judge-requires c = (relief-levels c.requires.0 c.fill.ensures, c.requires.1)
 
-pub returns : goal.returns
-returns c =
+pub returns-in-Own : goal.returns-in-Own
+returns-in-Own c =
     let a = c.args in (
-      sym (ap (λ (o : Source). verdict (source_tests o a.rows a.columns (filled_levels a.rows a.columns a.elevation.now) a.direction.now)) c.in_default.is ∙ verdict-none),
+      sym (ap (λ (o : Source). verdict (source_tests o a.rows a.columns (filled_levels a.rows a.columns a.elevation.now) a.direction.now)) c.in-Own.is ∙ verdict-none),
       c.fill.ensures,
     )

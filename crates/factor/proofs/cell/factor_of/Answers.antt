@@ -9,7 +9,7 @@ use Rattle.factor.proofs.cell.factor_of.Goals as goal
 pub returns-then-mm-gt-GREATEST_MM : goal.returns-then-mm-gt-GREATEST_MM
 returns-then-mm-gt-GREATEST_MM c =
     let a = c.args in
-    factor-long a.formula a.side a.q a.length c.if-mm-gt-GREATEST_MM.true
+    factor-long a.formula a.side a.q a.length (rw c.from.ensures at c.if-mm-gt-GREATEST_MM.true)
 
 pub overflow_sub-class : goal.overflow_sub-class
 overflow_sub-class c =
@@ -36,5 +36,5 @@ returns c =
     let bounds : (2 ≤ c.exponent_of-class.result) × (c.exponent_of-class.result ≤ 5) = rw c.exponent_of-class.ensures (exponent-in c.args.side c.args.q) in
     let a = c.args in
     let e : c.exponent_of-class.result - 2 + 2 ≡ c.exponent_of-class.result = omega (arith, bounds.0) in
-    factor-short a.formula a.side a.q a.length c.if-mm-gt-GREATEST_MM.false (e ∙ c.exponent_of-class.ensures) c.length_factor-t.ensures
+    factor-short a.formula a.side a.q a.length (rw c.from.ensures at c.if-mm-gt-GREATEST_MM.false) (e ∙ c.exponent_of-class.ensures) (rw c.from.ensures at c.length_factor-t.ensures)
     c.steepness_factor.ensures

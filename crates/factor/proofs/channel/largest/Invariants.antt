@@ -1,12 +1,7 @@
 -- What the loops of `factor::channel::largest` keep, and what falls. Assumes nothing.
 use mathlib.Core.Path.{◌≡◌}
-use Prim.Native.Nat.{◌-◌, ◌≤◌}
-use lib.ListN.{length}
 use Rattle.factor.specs.Channel.{largest_of}
 use Rattle.factor.proofs.channel.largest.Given as goal
 
 abbrev pub invariant-loop-x : goal.invariant-loop-x
-invariant-loop-x l = (l.most ≡ largest_of l.x l.count) × (l.x ≤ length l.count)
-
-abbrev pub decreases-loop-x : goal.decreases-loop-x
-decreases-loop-x l = length l.count - l.x
+invariant-loop-x l = l.most ≡ largest_of l.x-index l.count

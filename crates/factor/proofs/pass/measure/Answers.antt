@@ -1,9 +1,7 @@
 -- `factor::pass::measure` meets its contract. Assumes nothing.
 use Rattle.factor.specs.Farms.{of_farm}
 use Rattle.factor.proofs.InnerWalking.{Walking, measure-charted, walk_start, walk-turning, walk_turn, walk-all}
-use Rattle.factor.specs.InnerPass.{farm_by, Naming, Bounds}
-use Rattle.factor.specs.Channel.{largest_of}
-use lib.ListN.{length}
+use Rattle.factor.specs.InnerPass.{farm_by, Naming, Farmed}
 use native.Mathlib.Omega.{arith}
 use Prim.Native.Nat.{ℕ}
 use mathlib.Core.Path.{◌≡◌, refl, sym, subst, ◌∙◌}
@@ -11,37 +9,36 @@ use Rattle.factor.proofs.pass.measure.Goals as goal
 
 pub turn-requires : goal.turn-requires
 turn-requires c =
-    let bounds-are : let a = c.args in Bounds a.first a.second (largest_of (length a.count.now) a.count.now) c.bounds_of-bounds.result = let a = c.args in
-    subst (λ (n : ℕ). Bounds a.first a.second n c.bounds_of-bounds.result) c.largest.ensures c.bounds_of-bounds.ensures in
     let a = c.args in
     let m = c.requires.2 in
-    let q = measure-charted m a.first a.second (farm_by a.marks.now a.each) c.requires.3.few c.lefts_of-lefts.ensures bounds-are in
-    let w = c.loop-place.invariant.3 c.requires.0 c.requires.1 (λ x. of_farm a.first a.second (farm_by a.marks.now a.each x)) q
-    (walk_start m (λ x. of_farm a.first a.second (farm_by a.marks.now a.each x)) c.clear.ensures) in (
+    let q = measure-charted m a.rules.first a.rules.second (farm_by a.marks)
+    (subst (λ (n : ℕ). Farmed a.rules.first n c.new.result) c.largest-most.ensures c.new.ensures)
+    (subst (λ (n : ℕ). Farmed a.rules.second n c.new-2.result) c.largest-most.ensures c.new-2.ensures) in
+    let w = c.loop-place.invariant.2 c.requires.0 c.requires.1 (λ x. of_farm a.rules.first a.rules.second (farm_by a.marks x)) q
+    (walk_start m (λ x. of_farm a.rules.first a.rules.second (farm_by a.marks x)) (c.fill.ensures.after (λ y e. e))) in (
       walk-turning q w c.loop-place-test.true refl,
       c.all-lists.ensures,
       c.shifts_of-shifts.ensures m.directed.drawn.sized.cols-small,
-      subst (λ (n : ℕ). Naming n a.marks.now a.each) (sym m.directed.drawn.long) c.requires.3,
+      subst (λ (n : ℕ). Naming n a.marks) (sym m.directed.drawn.long) c.requires.3,
     )
 
 pub loop-place-preserved : goal.loop-place-preserved
 loop-place-preserved c = (
   c.lengths-in-loop-place-1.given ∙ c.loop-place.invariant.0,
   c.factors-1.given ∙ c.loop-place.invariant.1,
-  omega (arith, c.loop-place-test.true),
-  λ rows lv rules m w. walk_turn m (c.loop-place.invariant.3 rows lv rules m w) c.loop-place-test.true refl c.turn.ensures,
+  λ rows lv rules m w. walk_turn m (c.loop-place.invariant.2 rows lv rules m w) c.loop-place-test.true refl c.turn.ensures,
 )
 
 pub returns : goal.returns
 returns c =
-    let bounds-are : let a = c.args in Bounds a.first a.second (largest_of (length a.count.now) a.count.now) c.bounds_of-bounds.result = let a = c.args in
-    subst (λ (n : ℕ). Bounds a.first a.second n c.bounds_of-bounds.result) c.largest.ensures c.bounds_of-bounds.ensures in
     let a = c.args in
     let e : c.loop-place.place ≡ a.places = omega arith in
     λ rows lv m k.
-    let q = measure-charted m a.first a.second (farm_by a.marks.now a.each) k.few c.lefts_of-lefts.ensures bounds-are in
-    walk-all m (λ x. of_farm a.first a.second (farm_by a.marks.now a.each x))
-    (subst (Walking rows a.columns a.side (λ x. of_farm a.first a.second (farm_by a.marks.now a.each x)) lv a.direction.now a.count.now
+    let q = measure-charted m a.rules.first a.rules.second (farm_by a.marks)
+    (subst (λ (n : ℕ). Farmed a.rules.first n c.new.result) c.largest-most.ensures c.new.ensures)
+    (subst (λ (n : ℕ). Farmed a.rules.second n c.new-2.result) c.largest-most.ensures c.new-2.ensures) in
+    walk-all m (λ x. of_farm a.rules.first a.rules.second (farm_by a.marks x))
+    (subst (Walking rows a.columns a.side (λ x. of_farm a.rules.first a.rules.second (farm_by a.marks x)) lv a.direction.now a.count.now
     a.order.now c.loop-place.lengths c.loop-place.factors) e
-    (c.loop-place.invariant.3 rows lv (λ x. of_farm a.first a.second (farm_by a.marks.now a.each x)) q
-    (walk_start m (λ x. of_farm a.first a.second (farm_by a.marks.now a.each x)) c.clear.ensures)))
+    (c.loop-place.invariant.2 rows lv (λ x. of_farm a.rules.first a.rules.second (farm_by a.marks x)) q
+    (walk_start m (λ x. of_farm a.rules.first a.rules.second (farm_by a.marks x)) (c.fill.ensures.after (λ y e. e)))))

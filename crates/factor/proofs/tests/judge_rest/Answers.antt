@@ -1,27 +1,21 @@
 -- `factor::tests::judge_rest` meets its contract. Assumes nothing.
-use Rattle.factor.proofs.Judging.{place-few, rest-settings, rest-marks, rest-sound}
-use native.Mathlib.Omega.{arith}
-use mathlib.Core.Path.{sym, ◌∙◌}
+use mathlib.Core.Path.{sym}
+use Rattle.std.proofs.lemmas.Result.{err_from_is_err_and}
+use Rattle.factor.proofs.Judging.{rest-found, rest-marked, rest-passed}
 use Rattle.factor.proofs.tests.judge_rest.Goals as goal
 
-pub overflow_add-place : goal.overflow_add-place
-overflow_add-place c =
-    omega
-    (arith, place-few c.args.second (sym c.judge-judged.ensures ∙ c.in-Refused.is))
-
-pub returns-then-x-marks : goal.returns-then-x-marks
-returns-then-x-marks c =
+pub returns-in_err-second : goal.returns-in_err-second
+returns-in_err-second c =
     let a = c.args in
-    rest-marks a.first a.second a.marks.now (sym c.judge-judged.ensures ∙ c.in-Accepted.is)
-    c.first_mark-x.ensures c.if-x-marks.true c.unsound_farms-then-x-marks.ensures
+    let p = err_from_is_err_and c.from_residual.result c.from_residual.ensures.1 in
+    rw (p.1, p.2) (rest-found a.first a.second a.marks.now c.in_err-second.ensures)
 
-pub returns-in-Refused : goal.returns-in-Refused
-returns-in-Refused c =
+pub returns-in-Some : goal.returns-in-Some
+returns-in-Some c =
     let a = c.args in
-    rest-settings a.first a.second a.marks.now c.unsound_farms.ensures (sym c.judge-judged.ensures ∙ c.in-Refused.is)
-    (omega arith)
+    rest-marked a.first a.second a.marks.now c.in_ok-second.ensures (sym c.in-Some.ensures)
 
-pub returns-else-x-marks : goal.returns-else-x-marks
-returns-else-x-marks c =
+pub returns-in-None : goal.returns-in-None
+returns-in-None c =
     let a = c.args in
-    rest-sound a.first a.second a.marks.now (sym c.judge-judged.ensures ∙ c.in-Accepted.is) c.first_mark-x.ensures c.if-x-marks.false
+    rest-passed a.first a.second a.marks.now c.in_ok-second.ensures (sym c.in-None.ensures)

@@ -34,8 +34,8 @@ overflow_sub-result c =
     let few : c.centimetres-cm.result ≤ 900000 = subst (λ (k : ℕ). k ≤ 900000) (sym c.centimetres-cm.ensures) (size_few _ _ c.requires other) in
     minus-fits _ few
 
-pub returns : goal.returns
-returns c =
+pub returns-else-bits-lt-MINUS : goal.returns-else-bits-lt-MINUS
+returns-else-bits-lt-MINUS c =
     let other : equal c.args.bits c.args.v ≡ false = sym c.is_equal.ensures ∙ c.if-is_equal.false in
     let few : c.centimetres-cm.result ≤ 900000 = subst (λ (k : ℕ). k ≤ 900000) (sym c.centimetres-cm.ensures) (size_few _ _ c.requires other) in
     minus_is _ few ∙ ap (λ (k : ℕ). neg_ℤ (pos k)) c.centimetres-cm.ensures ∙ sym (minus-cm _ c.if-bits-lt-MINUS.false)

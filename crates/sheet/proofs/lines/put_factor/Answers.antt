@@ -9,6 +9,7 @@ use Rattle.text.specs.Bytes.{bytes}
 use Rattle.factor.specs.Cell.{too_long}
 use Rattle.numerals.specs.Words.{decimal}
 use Rattle.sheet.specs.Lines.{factor_word}
+use Rattle.sheet.proofs.InnerShown.{number-as}
 use Rattle.sheet.proofs.lines.put_factor.Goals as goal
 
 pub returns-then-factor-eq-TOO_LONG : goal.returns-then-factor-eq-TOO_LONG
@@ -19,4 +20,4 @@ returns-then-factor-eq-TOO_LONG c =
 
 pub returns : goal.returns
 unfolding bytes factor_word
-returns c = (wrote_as (ap (λ (b : Bool). cond b (bytes "long") (decimal c.args.factor) ++ (10 ∷ [])) (sym (ne_eqb c.args.factor too_long c.if-factor-eq-TOO_LONG.false))) c.put_number.ensures.0, c.put_number.ensures.1)
+returns c = (wrote_as (ap (λ (b : Bool). cond b (bytes "long") (decimal c.args.factor) ++ (10 ∷ [])) (sym (ne_eqb c.args.factor too_long c.if-factor-eq-TOO_LONG.false))) (number-as 10 c.from.ensures c.put_number.ensures.0), c.put_number.ensures.1)

@@ -1,5 +1,5 @@
 -- `sheet::lines::put_values` meets its contract. Assumes nothing.
-use borrow.Author.Rules.{sfits_of}
+use borrow.Author.Rules.{rules}
 use mathlib.Core.Path.{◌≡◌, ap}
 use mathlib.Core.List.{[], ◌∷◌, ◌++◌}
 use lib.IntN.{ℤ}
@@ -15,8 +15,8 @@ use Rattle.sheet.proofs.lines.put_values.Goals as goal
 pub returns : goal.returns
 unfolding line value_words
 returns c =
-    let eg : to_z w32 (of_z w32 c.args.cell.elevation) ≡ c.args.cell.elevation = to_z-of_z {w = w32} (sfits_of c.struct_told-1.given.0.1) in
-    let ef : to_z w32 (of_z w32 c.args.cell.filled) ≡ c.args.cell.filled = to_z-of_z {w = w32} (sfits_of c.struct_told-1.given.1.0.1) in (
+    let eg : to_z w32 (of_z w32 c.args.cell.elevation) ≡ c.args.cell.elevation = to_z-of_z {w = w32} (search rules) in
+    let ef : to_z w32 (of_z w32 c.args.cell.filled) ≡ c.args.cell.filled = to_z-of_z {w = w32} (search rules) in (
       wrote-word (integer c.args.cell.elevation) (wrote_as (ap (λ (z : ℤ). integer z ++ (32 ∷ [])) eg) c.put_height-a.ensures.0)
           (wrote-word (integer c.args.cell.filled) (wrote_as (ap (λ (z : ℤ). integer z ++ (32 ∷ [])) ef) c.put_height-b.ensures.0) c.put_flow.ensures.0),
       omega (arith, c.put_height-a.ensures.1, c.put_height-b.ensures.1, c.put_flow.ensures.1),

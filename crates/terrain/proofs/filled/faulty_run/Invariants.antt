@@ -1,11 +1,6 @@
--- What the loops of `terrain::filled::faulty_run` keep, and what falls. Assumes nothing.
-use Rattle.std.proofs.Common.{ℕ, ◌-◌, ◌≤◌}
-use Rattle.terrain.specs.InnerCells.{RunsTo}
+-- What the loops of `terrain::filled::faulty_run` keep. Assumes nothing.
 use Rattle.terrain.specs.InnerFlood.{Faulty}
 use Rattle.terrain.proofs.filled.faulty_run.Given as goal
 
 abbrev pub invariant-loop-x : goal.invariant-loop-x
-invariant-loop-x l = (l.from ≤ l.x) × (l.x ≤ l.to) × ((rows : ℕ) → RunsTo rows l.columns l.from l.to → Faulty rows l.columns l.elevation l.level l.from l.x l.sum)
-
-abbrev pub decreases-loop-x : goal.decreases-loop-x
-decreases-loop-x l = l.to - l.x
+invariant-loop-x l = Faulty l.ground.rows l.ground.columns l.ground.elevation.now l.level l.from l.x l.sum

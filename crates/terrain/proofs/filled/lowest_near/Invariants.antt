@@ -1,10 +1,7 @@
--- What the loops of `terrain::filled::lowest_near` keep, and what falls. Assumes nothing.
-use Rattle.std.proofs.Common.{◌≡◌, ◌-◌, ◌≤◌}
+-- What the loops of `terrain::filled::lowest_near` keep. Assumes nothing.
+use Rattle.std.proofs.Common.{◌≡◌}
 use Rattle.terrain.specs.Filled.{lowest_of}
 use Rattle.terrain.proofs.filled.lowest_near.Given as goal
 
 abbrev pub invariant-loop-k : goal.invariant-loop-k
-invariant-loop-k l = (l.k ≤ 8) × (l.low ≡ lowest_of l.rows l.columns l.level l.x l.k)
-
-abbrev pub decreases-loop-k : goal.decreases-loop-k
-decreases-loop-k l = 8 - l.k
+invariant-loop-k l = l.low ≡ lowest_of l.ground.rows l.ground.columns l.level l.x l.k

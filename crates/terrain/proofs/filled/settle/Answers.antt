@@ -1,17 +1,19 @@
 -- `terrain::filled::settle` meets its contract. Assumes nothing.
-use Rattle.std.proofs.Common.{sym, subst, true≢false}
-use Rattle.laws.proofs.Settle.{start-kept}
-use Rattle.terrain.specs.InnerFlood.{FillKept}
+use Rattle.std.proofs.Common.{sym, subst}
+use Rattle.laws.proofs.Settle.{start-kept, settling-more}
+use Rattle.terrain.specs.Cells.{levels_of}
+use Rattle.terrain.specs.Filled.{filling}
+use Rattle.terrain.specs.InnerFlood.{FillKept, Stands}
 use Rattle.terrain.proofs.Filling.{filling-rule, filled_is}
 use Rattle.terrain.proofs.filled.settle.Goals as goal
 
-pub loop-again-init : goal.loop-again-init
-loop-again-init c =
-    let e = c.restart.ensures c.args.rows c.args.columns c.requires.1 in
-    record {
-      kept = subst (FillKept c.args.rows c.args.columns c.args.elevation.now) (sym e) (start-kept _ _ (filling-rule _ _ _ c.requires.0));
-      still = (λ f. absurd (true≢false f));
-    }
+pub loop-init : goal.loop-init
+loop-init c =
+    let g = c.args.ground in
+    subst (FillKept g.rows g.columns g.elevation.now) (sym c.restart.ensures) (start-kept _ _ (filling-rule _ _ _ g.ready))
 
 pub returns : goal.returns
-returns c = filled_is _ _ _ c.requires.0 c.loop-again.level c.loop-again.invariant.kept (c.loop-again.invariant.still c.loop-again-test.false)
+returns c =
+    let g = c.args.ground in
+    let s = settling-more (filling g.rows g.columns (levels_of g.elevation.now)) (Stands g.rows g.columns g.elevation.now) (filling-rule _ _ _ g.ready) c.loop.level c.sweep.new.level c.sweep.result c.loop.invariant c.sweep.ensures in
+    filled_is _ _ _ g.ready c.sweep.new.level s.kept (s.still c.loop-test.false)

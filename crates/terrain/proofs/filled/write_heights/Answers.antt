@@ -7,4 +7,4 @@ use Rattle.terrain.proofs.filled.write_heights.Goals as goal
 pub returns : goal.returns
 returns c =
     let s = c.args in
-    agrees-map height_of s.level.now c.loop-x.filled 0 (pos 0) (omega arith) (λ j h. c.loop-x.invariant.2 j (omega arith))
+    agrees-map height_of s.level.now c.loop-x.filled 0 (pos 0) (omega arith) (λ j h. c.loop-x.invariant j (omega arith))

@@ -1,7 +1,6 @@
 -- `terrain::ring::peel` meets its contract. Assumes nothing.
 use Rattle.terrain.proofs.InnerRinging.{same_none, search-start}
-use Rattle.std.proofs.Common.{arith}
 use Rattle.terrain.proofs.ring.peel.Goals as goal
 
 pub loop-x-init : goal.loop-x-init
-loop-x-init c = (search-start c.requires.0, same_none c.args.words.now, omega arith)
+loop-x-init c = (search-start c.requires, same_none c.args.words.now)

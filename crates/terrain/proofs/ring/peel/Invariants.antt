@@ -1,10 +1,7 @@
--- What the loops of `terrain::ring::peel` keep, and what falls. Assumes nothing.
+-- What the loops of `terrain::ring::peel` keep. Assumes nothing.
 use Rattle.terrain.specs.InnerGiven.{SameLevels, Searching}
-use Rattle.std.proofs.Common.{◌-◌, ◌*◌, ◌≤◌}
+use Rattle.std.proofs.Common.{◌*◌}
 use Rattle.terrain.proofs.ring.peel.Given as goal
 
 abbrev pub invariant-loop-x : goal.invariant-loop-x
-invariant-loop-x l = Searching l.rows l.columns l.direction l.words l.place l.x (l.rows * l.columns) × SameLevels l.initial.words l.words × (l.x ≤ l.rows * l.columns)
-
-abbrev pub decreases-loop-x : goal.decreases-loop-x
-decreases-loop-x l = l.rows * l.columns - l.x
+invariant-loop-x l = Searching l.drawing.rows l.drawing.columns l.drawing.direction.now l.words l.place l.x (l.drawing.rows * l.drawing.columns) × SameLevels l.initial.words l.words

@@ -1,10 +1,6 @@
--- What the loops of `terrain::trail::count_flow` keep, and what falls. Assumes nothing.
+-- What the loops of `terrain::trail::count_flow` keep. Assumes nothing.
 use Rattle.terrain.proofs.InnerPassing.{Passing}
-use Rattle.std.proofs.Common.{◌-◌, ◌≤◌}
 use Rattle.terrain.proofs.trail.count_flow.Given as goal
 
 abbrev pub invariant-loop-place : goal.invariant-loop-place
-invariant-loop-place l = Passing l.rows l.columns l.direction l.order l.count l.place × (l.place ≤ l.places)
-
-abbrev pub decreases-loop-place : goal.decreases-loop-place
-decreases-loop-place l = l.places - l.place
+invariant-loop-place l = Passing l.drawing.rows l.drawing.columns l.drawing.direction.now l.order l.count l.place

@@ -1,10 +1,6 @@
--- What the loops of `terrain::trail::longest_trail` keep, and what falls. Assumes nothing.
+-- What the loops of `terrain::trail::longest_trail` keep. Assumes nothing.
 use Rattle.terrain.proofs.InnerFollowing.{Backing}
-use Rattle.std.proofs.Common.{◌≤◌}
 use Rattle.terrain.proofs.trail.longest_trail.Given as goal
 
 abbrev pub invariant-loop-place : goal.invariant-loop-place
-invariant-loop-place l = Backing l.rows l.columns l.direction l.order l.places l.workspace l.place l.most × (l.place ≤ l.places)
-
-abbrev pub decreases-loop-place : goal.decreases-loop-place
-decreases-loop-place l = l.place
+invariant-loop-place l = Backing l.drawing.rows l.drawing.columns l.drawing.direction.now l.order l.places l.workspace l.place l.most

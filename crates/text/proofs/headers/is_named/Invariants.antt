@@ -1,12 +1,9 @@
--- What the loops of `text::headers::is_named` keep, and what falls. Assumes nothing.
+-- What the loop of `text::headers::is_named` keeps. Assumes nothing.
 use mathlib.Core.Path.{◌≡◌}
-use Prim.Native.Nat.{◌≤◌, ◌-◌}
-use lib.ListN.{length, drop}
+use Prim.Native.Nat.{◌+◌}
+use lib.ListN.{drop}
 use Rattle.text.specs.Headers.{named}
 use Rattle.text.proofs.headers.is_named.Given as goal
 
-abbrev pub invariant-loop-j : goal.invariant-loop-j
-invariant-loop-j l = (named l.s l.a l.e l.n ≡ named l.s l.i l.e (drop l.j l.n)) × (l.i ≤ l.e)
-
-abbrev pub decreases-loop-j : goal.decreases-loop-j
-decreases-loop-j l = length l.n - l.j
+abbrev pub invariant-loop-i : goal.invariant-loop-i
+invariant-loop-i l = named l.s l.a l.e l.n ≡ named l.s (l.a + l.i) l.e (drop l.i l.n)

@@ -1,10 +1,11 @@
 -- `text::numbers::is_number` meets its contract. Assumes nothing.
 use mathlib.Core.Path.{sym, ◌∙◌}
 use Rattle.text.proofs.InnerAlone.{alone-empty, alone-none, alone-whole, alone-short, alone-point}
+use borrow.Author.Rules.{rules}
 use Rattle.text.proofs.numbers.is_number.Goals as goal
 
-pub returns-then-word-eq0 : goal.returns-then-word-eq0
-returns-then-word-eq0 c = alone-empty _ c.if-word-eq0.true
+pub returns-then-is_empty : goal.returns-then-is_empty
+returns-then-is_empty c = alone-empty _ (search rules)
 
 pub returns-then-d-b : goal.returns-then-d-b
 returns-then-d-b c = alone-none _ _ _ c.after_sign-b.ensures c.read_digits-w.ensures.ends c.if-d-b.true

@@ -1,45 +1,43 @@
 -- `text::numbers::read_count` meets its contract. Assumes nothing.
 use mathlib.Core.Path.{sym, ◌∙◌}
+use mathlib.Core.Bool.{true≢false}
 use Rattle.text.proofs.Ends.{first-solid}
-use Rattle.text.proofs.InnerSteps.{count_none, count-empty, count-off, count_low, count-high, count-on}
+use Rattle.text.proofs.InnerSteps.{count_none, count-empty, count-off, count-size, count-good, size-few}
+use Rattle.text.proofs.numbers.read_count.Goals.{then-e-a-via-then-e-a, then-e-a-via-else-e-a+then-not-ends}
 use Rattle.text.proofs.numbers.read_count.Goals as goal
 
 pub returns-then-s-a : goal.returns-then-s-a
 returns-then-s-a c = (count_none _ _ _ c.word_start-a.ensures c.if-s-a.true, tt)
 
-pub malformed_count-requires : goal.malformed_count-requires
-malformed_count-requires c = (c.if-s-a.false, first-solid _ _ _ c.word_start-a.ensures c.if-s-a.false)
+pub refuse-requires : goal.refuse-requires
+refuse-requires c = (
+  c.if-s-a.false,
+  first-solid _ _ _ c.word_start-a.ensures c.if-s-a.false,
+  λ z. absurd (true≢false (sym z)),
+)
 
 pub returns-then-e-a : goal.returns-then-e-a
-returns-then-e-a c = (c.malformed_count.ensures.0 ∙ count-empty _ _ _ c.word_start-a.ensures c.if-s-a.false _ _ c.read_digits-d.ensures c.if-e-a.true, c.malformed_count.ensures.1)
+returns-then-e-a c =
+    let q = c.refuse.ensures in (
+      rw (q.0, q.1)
+          (elim c.then-e-a.branch [
+            | then-e-a-via-then-e-a w ↦ count-empty _ _ _ c.word_start-a.ensures c.if-s-a.false _ _ c.read_digits-d.ensures w.if-e-a.true
+            | then-e-a-via-else-e-a+then-not-ends w ↦
+                count-off _ _ _ c.word_start-a.ensures c.if-s-a.false _ _ c.read_digits-d.ensures w.if-e-a.false (sym w.ends.ensures ∙ w.if-not-ends.true)
+          ]),
+      tt,
+    )
 
-pub malformed_count-requires-then-not-ends : goal.malformed_count-requires-then-not-ends
-malformed_count-requires-then-not-ends c = (c.if-s-a.false, first-solid _ _ _ c.word_start-a.ensures c.if-s-a.false)
-
-pub returns-then-not-ends : goal.returns-then-not-ends
-returns-then-not-ends c = (
-  c.malformed_count-then-not-ends.ensures.0 ∙ count-off _ _ _ c.word_start-a.ensures c.if-s-a.false _ _ c.read_digits-d.ensures c.if-e-a.false
-      (sym c.ends.ensures ∙ c.if-not-ends.true),
-  c.malformed_count-then-not-ends.ensures.1,
-)
-
-pub returns-then-n-lt1 : goal.returns-then-n-lt1
-returns-then-n-lt1 c = (
-  count_low _ _ _ c.word_start-a.ensures c.if-s-a.false _ _ c.read_digits-d.ensures c.if-e-a.false (sym c.ends.ensures ∙ c.if-not-ends.false)
-      c.if-n-lt1.true,
-  tt,
-)
-
-pub returns-then-n-gt1024 : goal.returns-then-n-gt1024
-returns-then-n-gt1024 c = (
-  count-high _ _ _ c.word_start-a.ensures c.if-s-a.false _ _ c.read_digits-d.ensures c.if-e-a.false (sym c.ends.ensures ∙ c.if-not-ends.false)
-      c.if-n-lt1.false c.if-n-gt1024.true,
+pub returns-then-not-is_size : goal.returns-then-not-is_size
+returns-then-not-is_size c = (
+  count-size _ _ _ c.word_start-a.ensures c.if-s-a.false _ _ c.read_digits-d.ensures c.if-e-a.false (sym c.ends.ensures ∙ c.if-not-ends.false)
+      (sym c.is_size.ensures ∙ c.if-not-is_size.true),
   tt,
 )
 
 pub returns : goal.returns
-returns c = (
-  count-on _ _ _ c.word_start-a.ensures c.if-s-a.false _ _ c.read_digits-d.ensures c.if-e-a.false (sym c.ends.ensures ∙ c.if-not-ends.false)
-      c.if-n-lt1.false c.if-n-gt1024.false,
-  c.if-n-gt1024.false,
-)
+returns c =
+    let t = sym c.is_size.ensures ∙ c.if-not-is_size.false in (
+      count-good _ _ _ c.word_start-a.ensures c.if-s-a.false _ _ c.read_digits-d.ensures c.if-e-a.false (sym c.ends.ensures ∙ c.if-not-ends.false) t,
+      size-few _ t,
+    )

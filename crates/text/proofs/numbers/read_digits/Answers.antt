@@ -20,4 +20,4 @@ pub loop-i-preserved : goal.loop-i-preserved
 loop-i-preserved c = scan-more _ _ _ _ _ c.loop-i.invariant (omega (arith, c.limit-stop.ensures.short)) (omega (arith, c.limit-stop.ensures.within)) _ (sym c.is_digit.ensures ∙ c.if-not-is_digit.false) c.digit_of.ensures.0
 
 pub returns : goal.returns
-returns c = scan-end _ _ _ _ _ c.loop-i.invariant c.requires.1 _ c.limit-stop.ensures c.loop-i-test.false
+returns c = scan-end _ _ _ _ _ c.loop-i.invariant c.requires.1 _ c.limit-stop.ensures (omega (arith, c.limit-stop.ensures.from))

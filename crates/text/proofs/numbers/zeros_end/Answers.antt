@@ -13,4 +13,4 @@ pub loop-i-preserved : goal.loop-i-preserved
 loop-i-preserved c = along-more zero _ _ _ _ c.loop-i.invariant (omega (arith, c.limit-stop.ensures.short)) (omega (arith, c.limit-stop.ensures.within)) (eq-eqb _ 48 c.if-s-i-ne48.false)
 
 pub returns : goal.returns
-returns c = along-end zero _ _ _ _ c.loop-i.invariant refl _ c.limit-stop.ensures c.loop-i-test.false
+returns c = along-end zero _ _ _ _ c.loop-i.invariant refl _ c.limit-stop.ensures (omega (arith, c.limit-stop.ensures.from))

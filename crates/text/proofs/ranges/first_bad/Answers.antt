@@ -1,6 +1,5 @@
 -- `text::ranges::first_bad` meets its contract. Assumes nothing.
-use mathlib.Core.Path.{◌≡◌, sym, ap, ◌∙◌}
-use native.Mathlib.Omega.{arith}
+use mathlib.Core.Path.{◌≡◌, refl, sym, ap, ◌∙◌}
 use lib.ListN.{get_or}
 use lib.IntN.{pos}
 use mir.Syntax.{w32}
@@ -14,7 +13,7 @@ pub returns-then-not-is_height : goal.returns-then-not-is_height
 returns-then-not-is_height c =
     let z = get_or c.args.heights.now c.loop-x.x (pos 0) in
     let e : to_z w32 (of_z w32 z) ≡ z = search rules in
-    first-bad c.args.heights.now c.loop-x.x c.loop-x-test.true c.loop-x.invariant.1 (sym c.if-not-is_height.true ∙ c.is_height.ensures ∙ ap height_accepted e)
+    first-bad c.args.heights.now c.loop-x.x c.loop-x-test.true c.loop-x.invariant (sym c.if-not-is_height.true ∙ c.is_height.ensures ∙ ap height_accepted e)
 
 pub returns : goal.returns
-returns c = all-good c.args.heights.now c.loop-x.x (omega arith) c.loop-x.invariant.1
+returns c = all-good c.args.heights.now _ refl (search rules)

@@ -1,4 +1,4 @@
--- What the loops of `text::words::word_end` keep, and what falls. Assumes nothing.
+-- What the loops of `text::words::word_end` keep. Assumes nothing.
 use mathlib.Core.Path.{◌≡◌}
 use Prim.Native.Nat.{◌-◌}
 use lib.ListN.{length}
@@ -7,6 +7,3 @@ use Rattle.text.proofs.words.word_end.Given as goal
 
 abbrev pub invariant-loop-i : goal.invariant-loop-i
 invariant-loop-i l = word_end l.s l.at ≡ run solid l.s l.i (length l.s - l.i)
-
-abbrev pub decreases-loop-i : goal.decreases-loop-i
-decreases-loop-i l = length l.s - l.i

@@ -1,4 +1,4 @@
--- What the loops of `text::words::word_start` keep, and what falls. Assumes nothing.
+-- What the loops of `text::words::word_start` keep. Assumes nothing.
 use mathlib.Core.Path.{◌≡◌}
 use Prim.Native.Nat.{◌-◌}
 use lib.ListN.{length}
@@ -7,6 +7,3 @@ use Rattle.text.proofs.words.word_start.Given as goal
 
 abbrev pub invariant-loop-i : goal.invariant-loop-i
 invariant-loop-i l = word_start l.s l.at ≡ run blank l.s l.i (length l.s - l.i)
-
-abbrev pub decreases-loop-i : goal.decreases-loop-i
-decreases-loop-i l = length l.s - l.i
