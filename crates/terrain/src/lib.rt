@@ -102,11 +102,10 @@ fn judge(
             place: 0,
         });
     }
-    let bad = text::first_bad(elevation);
-    if bad < cells {
+    if let Some(place) = text::first_bad(elevation) {
         return Err(Refusal {
             fault: Fault::Height,
-            place: bad,
+            place,
         });
     }
     Ok(())

@@ -71,11 +71,10 @@ pub fn write_heights(
         y,
     };
     frame.judge(heights.len())?;
-    let bad = text::first_bad(heights);
-    if bad < heights.len() {
+    if let Some(place) = text::first_bad(heights) {
         return Err(Refusal {
             fault: Fault::Height,
-            place: bad,
+            place,
         });
     }
     put_text::<Heights>(frame, heights, room)
