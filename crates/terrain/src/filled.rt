@@ -60,34 +60,36 @@ fn start(ground: Ground, words: &mut [u32])
     }
 }
 
-// Takes the cells of the list of a level, until it is empty: each is done at this level, and reaches its neighbours.
-fn drain(ground: Ground, lists: &mut Lists, words: &mut [u32], band: usize, list: usize)
-    requires { (length words.old ≡ ground.rows * ground.columns) × (band < 1024) × (list < 2048)
-        × Waiting ground.rows ground.columns words.old (level_in band list) }
-    ensures { FloodedTo ground.entry.rows ground.entry.columns words.old words.new (level_in band list) }
-{
-    let level = level_of(band, list);
-    'turns: for _ in 0..words.len() {
-        let Some(x) = lists.pop(words, list) else {
-            return;
-        };
-        words[x] = level;
-        lists.spread(ground, words, band, level, x);
+impl Lists {
+    // Takes the cells of the list of a level, until it is empty: each is done at this level, and reaches its neighbours.
+    fn drain(&mut self, ground: Ground, words: &mut [u32], band: usize, list: usize)
+        requires { (length words.old ≡ ground.rows * ground.columns) × (band < 1024) × (list < 2048)
+            × Waiting ground.rows ground.columns words.old (level_in band list) }
+        ensures { FloodedTo ground.entry.rows ground.entry.columns words.old words.new (level_in band list) }
+    {
+        let level = level_of(band, list);
+        'turns: for _ in 0..words.len() {
+            let Some(x) = self.heads[list].pop(words) else {
+                return;
+            };
+            words[x] = level;
+            self.spread(ground, words, band, level, x);
+        }
     }
-}
 
-// Takes the cells of a band, the lowest first.
-fn flood_band(ground: Ground, lists: &mut Lists, words: &mut [u32], band: usize)
-    requires { (length words.old ≡ ground.rows * ground.columns) × (band < 1024)
-        × Waiting ground.rows ground.columns words.old (level_in band 1024) }
-    ensures { FloodedTo ground.entry.rows ground.entry.columns words.old words.new (level_in (band + 1) 1024) }
-{
-    if lists.is_empty(band) {
-        return;
-    }
-    lists.open_band(words, band);
-    for list in 1024..2048 {
-        drain(ground, lists, words, band, list);
+    // Takes the cells of a band, the lowest first.
+    fn flood_band(&mut self, ground: Ground, words: &mut [u32], band: usize)
+        requires { (length words.old ≡ ground.rows * ground.columns) × (band < 1024)
+            × Waiting ground.rows ground.columns words.old (level_in band 1024) }
+        ensures { FloodedTo ground.entry.rows ground.entry.columns words.old words.new (level_in (band + 1) 1024) }
+    {
+        if self.heads[band].is_empty() {
+            return;
+        }
+        self.open_band(words, band);
+        for list in 1024..2048 {
+            self.drain(ground, words, band, list);
+        }
     }
 }
 
@@ -99,7 +101,7 @@ fn flood(ground: Ground, words: &mut [u32])
     let mut lists = Lists::new();
     lists.reach_rims(ground, words);
     for band in 0..1024 {
-        flood_band(ground, &mut lists, words, band);
+        lists.flood_band(ground, words, band);
     }
 }
 

@@ -31,7 +31,7 @@ pub(crate) fn start_word(g: u32) -> u32
 
 // The head of a list: its first cell plus one, or 0.
 #[derive(Clone, Copy)]
-struct Head {
+pub(crate) struct Head {
     first: u32,
     ghost small: { first < 2097152 },
 }
@@ -46,8 +46,12 @@ impl Head {
         self.first = ((x + 1) % LINKS as usize) as u32;
     }
 
+    pub(crate) fn is_empty(self) -> bool {
+        self.first < 1
+    }
+
     // Takes the first cell off the list, if there is one.
-    fn pop(&mut self, words: &[u32]) -> Option<usize>
+    pub(crate) fn pop(&mut self, words: &[u32]) -> Option<usize>
         ensures { IfSome result (λ x. queued_from ≤ slice_index words.now x) }
     {
         let x = (self.first as usize).checked_sub(1)?;
@@ -90,7 +94,7 @@ pub(crate) fn level_of(band: usize, list: usize) -> u32
 // 1,024 for none, and no type of its own: the loops count bands, and an Option would be one more test for each cell reached.
 #[derive(Drop)]
 pub(crate) struct Lists {
-    heads: [Head; 2048],
+    pub(crate) heads: [Head; 2048],
 }
 
 impl Lists {
@@ -98,20 +102,6 @@ impl Lists {
         Lists {
             heads: [Head { first: 0 }; 2048],
         }
-    }
-
-    pub(crate) fn is_empty(&self, list: usize) -> bool
-        requires { list < 2048 }
-    {
-        self.heads[list].first < 1
-    }
-
-    // Takes the first cell off a list, if there is one.
-    pub(crate) fn pop(&mut self, words: &[u32], list: usize) -> Option<usize>
-        requires { list < 2048 }
-        ensures { IfSome result (λ x. queued_from ≤ slice_index words.now x) }
-    {
-        self.heads[list].pop(words)
     }
 
     // Moves the cells of a band's list to the lists of their levels.
