@@ -37,7 +37,8 @@ pub(crate) struct Head {
 }
 
 impl Head {
-    // Puts the cell x, which is not done, at the front of the list.
+    // Puts the cell x, which is not done, at the front of the list. The remainder is x + 1 on every grid; with it no contract has to
+    // bound the words' length.
     fn push(&mut self, words: &mut [u32], level: u32, x: usize)
         requires { top ≤ slice_index words.old x }
         ensures { Queueing (λ z. z ≡ x) words.old words.new }
@@ -90,8 +91,8 @@ pub(crate) fn level_of(band: usize, list: usize) -> u32
     ((band + 926) * 1024 + list) as u32
 }
 
-// The lists. They don't hold the words too: each method would have to promise that it kept the same ones. A band is a number, with
-// 1,024 for none, and no type of its own: the loops count bands, and an Option would be one more test for each cell reached.
+// The lists. They don't hold the words and the ground too: each method would have to promise that it kept the same ones. A band is a
+// number, with 1,024 for none, and no type of its own: the loops count bands, and an Option would be one more test for each cell.
 #[derive(Drop)]
 pub(crate) struct Lists {
     pub(crate) heads: [Head; 2048],
