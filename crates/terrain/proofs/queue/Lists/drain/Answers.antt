@@ -1,8 +1,8 @@
--- `terrain::filled::drain` meets its contract. Assumes nothing.
+-- `terrain::queue::Lists::drain` meets its contract. Assumes nothing.
 use Rattle.terrain.proofs.InnerInterior.{ready-sized}
 use Rattle.terrain.proofs.InnerQueueing.{to-then, to-taken}
 use Rattle.std.proofs.Common.{◌∙◌, arith}
-use Rattle.terrain.proofs.filled.drain.Goals as goal
+use Rattle.terrain.proofs.queue.Lists.drain.Goals as goal
 
 pub turns-preserved : goal.turns-preserved
 turns-preserved c = (
