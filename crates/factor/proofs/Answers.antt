@@ -1,10 +1,10 @@
 -- The promise of the map call: from the judge's finding, the terrain layer's promise, and the pass along the order. Assumes nothing.
 use mathlib.Core.Path.{◌≡◌, refl, sym, ap, ap₂, subst, ◌∙◌, fun_ext}
-use mathlib.Core.List.{List, [], ◌∷◌}
+use mathlib.Core.List.{List}
 use mathlib.Core.Bool.{Bool, true, false, cond, true≢false}
-use Prim.Native.Nat.{ℕ, ◌*◌, ◌≤◌, ◌<◌}
+use Prim.Native.Nat.{ℕ, ◌*◌}
 use native.Mathlib.Omega.{arith}
-use lib.ListN.{length, replicate, get_or}
+use lib.ListN.{length, replicate}
 use lib.IntN.{ℤ}
 use Rattle.laws.specs.Tests.{Test, passed, failed, verdict}
 use Rattle.text.specs.Faults.{number_of, fault_of}
@@ -24,13 +24,14 @@ use Rattle.terrain.specs.declared.Source.{Source}
 use Rattle.terrain.specs.Answers as terrain
 use Rattle.terrain.specs.declared.Summary.{Summary}
 use Rattle.std.specs.Borrow.{Bor}
-use Rattle.std.proofs.Common.{Option, Some, None, Result, Ok, Err}
+use Rattle.std.proofs.Common.{Some, None, Result, Ok, Err}
 use Rattle.terrain.proofs.Public.{accepted-ready, accepted-directed, filled-small, counts-long}
 use Rattle.factor.specs.Farms.{Farms, one, two, farm_at, Marked, of_farm, rules_in}
 use Rattle.factor.specs.Length.{lengths_of}
 use Rattle.factor.specs.Grid.{factors_of}
-use Rattle.factor.specs.Answers.{Grids, lent, judged, map_of, answer_of, refused_grids, grids_of, answer, after, first_tests}
-use Rattle.factor.specs.Inner.{Promised}
+use Rattle.factor.specs.Answers.{Grids, lent, judged, map_of, answer_of, refused_grids, grids_of, answer, after, first_tests, Judges, JudgesFarms}
+use Rattle.factor.specs.declared.tests.FarmRules.{FarmRules}
+use Rattle.factor.specs.Inner.{Passing, Promised}
 use Rattle.factor.specs.InnerPass.{farm_by, Naming, Measuring}
 use Rattle.factor.proofs.Judging.{lent_on, judged-row, first-fails, first-kept, first_passes, first-side, first-lengths}
 
@@ -43,7 +44,12 @@ unfolding rules_in
 one-rules settings e = fun_ext (λ x. e)
 
 pub one-naming : (n : ℕ) → Naming n None
-one-naming n = record { within = (λ x h. tt); few = (λ x. omega arith) }
+one-naming n x h = tt
+
+pub one-passing : {rows cols side : ℕ} {settings : Settings} {elevation : List ℤ} {g : Grids} {rules : Rules} →
+    Judges rows cols side settings elevation g (Ok rules) →
+    Passing rows cols side (one settings) (λ x. of_farm rules rules (farm_by None x)) elevation g
+one-passing {settings = settings} {rules = rules} j = record { passes = sym j.verdict-is; rules-are = one-rules settings (j.rules-are rules refl) }
 
 -- each cell has a mark of its own
 pub two-rules : (first second : Settings) (marks : Bor (List ℕ)) {f s : Rules} → (f ≡ rules_of first) × (s ≡ rules_of second) →
@@ -51,8 +57,14 @@ pub two-rules : (first second : Settings) (marks : Bor (List ℕ)) {f s : Rules}
 unfolding rules_in
 two-rules first second marks e = fun_ext (λ x. ap₂ (λ (f s : Rules). of_farm f s (farm_at marks.now x)) e.0 e.1)
 
-pub two-naming : {n : ℕ} {marks : Bor (List ℕ)} → Marked n marks.now → Naming n (Some marks)
-two-naming m = record { within = (λ x l. omega (arith, m.long)); few = m.few }
+pub two-passing : {rows cols side : ℕ} {first second : Settings} (marks : Bor (List ℕ)) {elevation : List ℤ} {g : Grids} {rules : FarmRules} →
+    JudgesFarms rows cols side first second marks.now elevation g (Ok rules) →
+    Passing rows cols side (two first second marks.now) (λ x. of_farm rules.first rules.second (farm_by (Some marks) x)) elevation g
+two-passing {first = first} {second = second} marks {rules = rules} j =
+    record { passes = sym j.verdict-is; rules-are = two-rules first second marks (j.rules-are rules refl) }
+
+pub two-naming : {n : ℕ} (marks : Bor (List ℕ)) → Marked n marks.now → Naming n (Some marks)
+two-naming marks m x l = omega (arith, m.long)
 
 -- grids that are the same one by one
 lent_same : {f f' : List ℤ} {d d' c c' l l' x x' w w' : List ℕ} → f ≡ f' → d ≡ d' → c ≡ c' → l ≡ l' → x ≡ x' → w ≡ w' →

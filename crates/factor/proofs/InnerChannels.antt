@@ -1,6 +1,6 @@
 -- Counts of channels, as the code bounds them. Assumes nothing.
 use mathlib.Core.Path.{◌≡◌, sym, ap, ◌∙◌}
-use mathlib.Core.List.{List, [], ◌∷◌}
+use mathlib.Core.List.{List}
 use Prim.Native.Nat.{ℕ, zero, suc, ◌*◌, ◌/◌, ◌≤◌, ◌<◌}
 use native.Mathlib.Omega.{arith}
 use native.Mathlib.Decide.{dec_lt}
@@ -10,8 +10,9 @@ use borrow.Author.Tests.{lt-ltb, le-ltb}
 use Rattle.laws.proofs.Sums.{greatest-ge}
 use Rattle.settings.specs.declared.Rules.{Rules}
 use Rattle.factor.specs.Farms.{of_farm}
+use Rattle.factor.specs.InnerPass.{farm_in, Farmed}
+use Rattle.factor.specs.declared.pass.Terms.{Terms}
 use Rattle.factor.specs.Channel.{is_channel, largest_of, channel_at}
-use Rattle.factor.specs.InnerPass.{Bounds}
 
 -- a share of the largest count, as a whole number of cells
 pub share-test : (m c : ℕ) → ltb (m / 1000) c ≡ ltb m (1000 * c)
@@ -35,11 +36,8 @@ bounded rows cols rules most count e m x h =
     m (get_or count x 0) (largest-ge count x (omega arith)) ∙ ap (λ (n : ℕ). is_channel rules.threshold (largest_of n count) (get_or count x 0)) e
 
 -- the bounds of two farms
-pub bounds-both : (first second : Rules) (largest a b : ℕ) → ((c : ℕ) → c ≤ largest → ltb a c ≡ is_channel first.threshold largest c) →
-    ((c : ℕ) → c ≤ largest → ltb b c ≡ is_channel second.threshold largest c) → Bounds first second largest (a ∷ b ∷ [])
-bounds-both first second largest a b p q = record { tells = go }
-  where
-    go : (farm c : ℕ) → farm < 2 → c ≤ largest → ltb (get_or (a ∷ b ∷ []) farm 0) c ≡ is_channel (of_farm first second farm).threshold largest c
-    go zero c h l = p c l
-    go (suc zero) c h l = q c l
-    go (suc (suc n)) c h l = absurd (omega arith)
+pub bounds-both : (first second : Rules) (largest : ℕ) (terms : Terms) → Farmed first largest terms.first → Farmed second largest terms.second →
+    (farm c : ℕ) → farm < 2 → c ≤ largest → ltb (farm_in terms farm).most c ≡ is_channel (of_farm first second farm).threshold largest c
+bounds-both first second largest terms p q zero c h l = p.tells c l
+bounds-both first second largest terms p q (suc zero) c h l = q.tells c l
+bounds-both first second largest terms p q (suc (suc n)) c h l = absurd (omega arith)

@@ -11,7 +11,8 @@ use Rattle.settings.specs.declared.Rules.{Rules}
 use Rattle.factor.specs.Cell.{factor_of}
 use Rattle.factor.specs.Inflow.{cutoff_for, start_length, step_over}
 use Rattle.factor.specs.Inner.{greatest_length, steepness_of, final_length, brought_by}
-use Rattle.factor.specs.InnerPass.{formula_in, Ruled, length_now, Settled, Receiving, lengths_with, bearing_at, beside_at, length_then, amount_then, lengths_next, Turning, Turned}
+use Rattle.factor.specs.InnerPass.{Ruled, length_now, Settled, Receiving, lengths_with, bearing_at, beside_at, length_then, amount_then, lengths_next, Turning, Turned}
+use Rattle.factor.specs.declared.pass.Farm.{Farm}
 use Rattle.factor.specs.declared.pass.Terms.{Terms}
 use Rattle.factor.proofs.Lengths.{step-le, start-le, amount-le}
 use Rattle.factor.proofs.Slopes.{steepness-small}
@@ -32,16 +33,16 @@ unfolding brought_by
 brought-small side rules k p q i len s h = amount-le (cutoff_for rules.low rules.high side q) q p i (step_over k) len greatest_length (step-le k) s h
 
 -- the cell x, of the farm f, is settled
-module _ (terms : Terms) (lefts bounds : List ℕ) (farm : ℕ → ℕ) (dir count lengths factors : List ℕ) (x : ℕ) {f len : ℕ} {lengths' factors' : List ℕ}
-    (own : f ≡ farm x) (s : Settled terms bounds f dir count lengths factors x len lengths' factors') where
-  abbrev settled : ℕ → ℕ → List ℕ
-  settled g m = set factors x (factor_of (formula_in terms g) terms.side (steepness_of (get_or factors x 0)) m)
+module _ (terms : Terms) (farm : ℕ → Farm) (dir count lengths factors : List ℕ) (x : ℕ) {f : Farm} {len : ℕ} {lengths' factors' : List ℕ}
+    (own : f ≡ farm x) (s : Settled terms.side f dir count lengths factors x len lengths' factors') where
+  abbrev settled : Farm → ℕ → List ℕ
+  settled g m = set factors x (factor_of g.formula terms.side (steepness_of (get_or factors x 0)) m)
 
   abbrev final : ℕ
-  final = length_then terms lefts bounds farm dir count lengths factors x
+  final = length_then terms farm dir count lengths factors x
 
   length-now : len ≡ final
-  length-now = s.length-is ∙ ap (λ (g : ℕ). length_now bounds g dir count lengths x) own
+  length-now = s.length-is ∙ ap (λ (g : Farm). length_now g dir count lengths x) own
 
   factors-now : factors' ≡ settled (farm x) final
   factors-now = s.factors-are ∙ ap₂ settled own length-now
@@ -49,11 +50,11 @@ module _ (terms : Terms) (lefts bounds : List ℕ) (farm : ℕ → ℕ) (dir cou
   lengths-now : lengths' ≡ set lengths x final
   lengths-now = s.lengths-are ∙ ap (set lengths x) length-now
 
-  pub turned-off : 8 ≤ bearing_at dir x → Turned terms lefts bounds farm dir count lengths factors x lengths' factors'
+  pub turned-off : 8 ≤ bearing_at dir x → Turned terms farm dir count lengths factors x lengths' factors'
   turned-off h = record { factors-are = factors-now; leaves = (λ k. lengths-now); hands_on = (λ rules r k. absurd (omega arith)) }
 
   -- it points at the cell y, of the farm g
-  module _ {y p g : ℕ} (i : y ≡ beside_at terms dir x) (d : y ≡ x → ⊥) (q : p ≡ steepness_of (get_or factors x 0)) (next : g ≡ farm y) where
+  module _ {y p : ℕ} {g : Farm} (i : y ≡ beside_at terms dir x) (d : y ≡ x → ⊥) (q : p ≡ steepness_of (get_or factors x 0)) (next : g ≡ farm y) where
     -- which is as it was
     same_length : get_or lengths' y 0 ≡ get_or lengths y 0
     same_length = ap (λ (l : List ℕ). get_or l y 0) s.lengths-are ∙ get_or-set_other lengths x y len 0 d
@@ -62,15 +63,16 @@ module _ (terms : Terms) (lefts bounds : List ℕ) (farm : ℕ → ℕ) (dir cou
     same-fall = ap (λ (l : List ℕ). get_or l y 0) s.factors-are ∙ get_or-set_other factors x y _ 0 d
 
     -- and receives
-    pub receiving : Turning terms lefts farm dir count lengths factors x → bearing_at dir x < 8 → Receiving terms lefts g dir lengths' factors' y p len
+    pub receiving : Turning terms farm dir count lengths factors x → bearing_at dir x < 8 → Receiving terms.side g dir lengths' factors' y p len
     receiving t k =
         let long = ap length s.lengths-are ∙ length-set lengths x len in
-        let falls = ap length s.factors-are ∙ length-set factors x (factor_of (formula_in terms f) terms.side (steepness_of (get_or factors x 0)) len) in
+        let falls = ap length s.factors-are ∙ length-set factors x (factor_of f.formula terms.side (steepness_of (get_or factors x 0)) len) in
         let here = t.settling in
-        let channel = ltb (get_or bounds (farm x) 0) (get_or count x 0) in
+        let channel = ltb (farm x).most (get_or count x 0) in
         record {
           rules = t.rules;
-          ruled = subst (Ruled t.rules terms lefts) (ap farm (sym i) ∙ sym next) t.next-ruled;
+          ruled = subst (Ruled t.rules) (ap farm (sym i) ∙ sym next) t.next-ruled;
+          sided = here.sided;
           dir-in = omega (arith, t.next-dir k);
           lengths-in = omega (arith, t.next-lengths k);
           factors-in = omega (arith, t.next-factors k);
@@ -86,25 +88,25 @@ module _ (terms : Terms) (lefts bounds : List ℕ) (farm : ℕ → ℕ) (dir cou
           );
         }
 
-    module _ {lengths'' : List ℕ} (a : (rules : Rules) → Ruled rules terms lefts g →
-        lengths'' ≡ lengths_with terms rules dir lengths' factors' y (bearing_at dir x) p len) where
+    module _ {lengths'' : List ℕ} (a : (rules : Rules) → Ruled rules g →
+        lengths'' ≡ lengths_with terms.side rules dir lengths' factors' y (bearing_at dir x) p len) where
       module _ (rules : Rules) where
         abbrev brings : ℕ → ℕ → ℕ → ℕ
         brings u v m = brought_by terms.side rules (bearing_at dir x) u v (start_length (get_or dir y 0)) m
 
-        amount-is : brings p (steepness_of (get_or factors' y 0)) len ≡ amount_then terms lefts bounds farm dir count lengths factors x rules y
+        amount-is : brings p (steepness_of (get_or factors' y 0)) len ≡ amount_then terms farm dir count lengths factors x rules y
         amount-is = ap₂ (λ (u v : ℕ). brings u v len) q (ap steepness_of same-fall)
             ∙ ap (brings (steepness_of (get_or factors x 0)) (steepness_of (get_or factors y 0))) length-now
 
-        there : lengths_with terms rules dir lengths' factors' y
-            (bearing_at dir x) p len ≡ lengths_next terms lefts bounds farm dir count lengths factors x rules y
+        there : lengths_with terms.side rules dir lengths' factors' y
+            (bearing_at dir x) p len ≡ lengths_next terms farm dir count lengths factors x rules y
         there = ap₂ (λ (l : List ℕ) (m : ℕ). set l y m) lengths-now (ap₂ max same_length (ap (λ (u : ℕ). u + 1) amount-is))
 
-      pub turned_on : bearing_at dir x < 8 → Turned terms lefts bounds farm dir count lengths factors x lengths'' factors'
+      pub turned_on : bearing_at dir x < 8 → Turned terms farm dir count lengths factors x lengths'' factors'
       turned_on h =
           record {
             factors-are = factors-now;
             leaves = (λ k. absurd (omega arith));
-            hands_on = (λ rules r k. a rules (subst (Ruled rules terms lefts) (ap farm (sym i) ∙ sym next) r) ∙ there rules
-                ∙ ap (lengths_next terms lefts bounds farm dir count lengths factors x rules) i);
+            hands_on = (λ rules r k. a rules (subst (Ruled rules) (ap farm (sym i) ∙ sym next) r) ∙ there rules
+                ∙ ap (lengths_next terms farm dir count lengths factors x rules) i);
           }

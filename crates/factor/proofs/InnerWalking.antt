@@ -1,9 +1,9 @@
 -- The pass along the order: when a cell's turn comes, its length and its LS are those of the definitions, and it hands on what it brings. Assumes nothing.
-use mathlib.Core.Path.{◌≡◌, refl, sym, ap, ap₂, subst, ◌∙◌}
-use mathlib.Core.List.{List, [], ◌∷◌}
+use mathlib.Core.Path.{◌≡◌, sym, ap, ap₂, subst, ◌∙◌}
+use mathlib.Core.List.{List}
 use mathlib.Core.Logic.{⊎_elim}
 use mathlib.Core.Bool.{Bool, true, false, cond}
-use Prim.Native.Nat.{ℕ, zero, suc, ◌+◌, ◌-◌, ◌*◌, ◌≤◌, ◌<◌, max}
+use Prim.Native.Nat.{ℕ, ◌+◌, ◌-◌, ◌*◌, ◌≤◌, ◌<◌, max}
 use native.Mathlib.Omega.{arith}
 use native.Mathlib.Decide.{dec_lt, ℕ_discrete}
 use lib.Dec.{ltb, eqb}
@@ -34,8 +34,9 @@ use Rattle.factor.specs.Length.{cutoff_at, brought_to, lengths_of}
 use Rattle.factor.specs.Cell.{factor_of}
 use Rattle.factor.specs.Grid.{factor_at, factors_of}
 use Rattle.factor.specs.Inflow.{start_length}
-use Rattle.factor.specs.Inner.{greatest_fall, steepness_of, final_length, left_by, brought_by}
-use Rattle.factor.specs.InnerPass.{formula_in, Ruled, Bounds, bearing_at, beside_at, Turning, length_then, amount_then, lengths_next, Turned, Measuring}
+use Rattle.factor.specs.Inner.{greatest_fall, steepness_of, final_length, brought_by}
+use Rattle.factor.specs.InnerPass.{farm_in, Sided, Ruled, Farmed, bearing_at, beside_at, Turning, length_then, amount_then, lengths_next, Turned, Measuring}
+use Rattle.factor.specs.declared.pass.Farm.{Farm}
 use Rattle.factor.specs.declared.pass.Terms.{Terms}
 use Rattle.factor.proofs.Slopes.{fall-steepness, fall-small}
 use Rattle.factor.proofs.Lengths.{lengths-long, lengths-at}
@@ -54,13 +55,14 @@ module _ (rows cols side : ℕ) (rules : ℕ → Rules) (lv dir count : List ℕ
         (length_at rows cols side rules lv dir count z)
 
 -- what the pass assumes of a map: its levels lv, the rules and the farm of each cell, directions, counts, and an order of its cells
-pub record Charted (rows : ℕ) (lv : List ℕ) (rules : ℕ → Rules) (terms : Terms) (lefts bounds : List ℕ) (farm : ℕ → ℕ) (dir count order : List ℕ)
+pub record Charted (rows : ℕ) (lv : List ℕ) (rules : ℕ → Rules) (terms : Terms) (farm : ℕ → Farm) (dir count order : List ℕ)
     (places : ℕ) : Type 0 where
   pub directed : Directed rows terms.columns dir
   pub capped : (x : ℕ) → get_or lv x 0 ≤ top
-  pub ruled : (x : ℕ) → Ruled (rules x) terms lefts (farm x)
+  pub sided : Sided terms.side
+  pub ruled : (x : ℕ) → Ruled (rules x) (farm x)
   pub count_long : length count ≡ rows * terms.columns
-  pub channel : (x : ℕ) → x < rows * terms.columns → ltb (get_or bounds (farm x) 0) (get_or count x 0) ≡ channel_at rows terms.columns (rules x) count x
+  pub channel : (x : ℕ) → x < rows * terms.columns → ltb (farm x).most (get_or count x 0) ≡ channel_at rows terms.columns (rules x) count x
   pub order_is : Downhill rows terms.columns dir order places
 
 -- ---- the map as the code reads it
@@ -92,8 +94,8 @@ module _ (rows cols : ℕ) (lv dir : List ℕ) (capped : (x : ℕ) → get_or lv
 
 -- ---- the turn of one cell
 
-module _ {rows : ℕ} {lv dir count order lefts bounds : List ℕ} {places : ℕ} {rules : ℕ → Rules} {farm : ℕ → ℕ} {terms : Terms}
-    (c : Charted rows lv rules terms lefts bounds farm dir count order places) where
+module _ {rows : ℕ} {lv dir count order : List ℕ} {places : ℕ} {rules : ℕ → Rules} {farm : ℕ → Farm} {terms : Terms}
+    (c : Charted rows lv rules terms farm dir count order places) where
   abbrev cols : ℕ
   cols = terms.columns
 
@@ -139,13 +141,13 @@ module _ {rows : ℕ} {lv dir count order lefts bounds : List ℕ} {places : ℕ
     code-some q = mapped-is rows cols dir x here-valid (code_read c.directed.drawn x here_in ∙ q)
 
     -- its length
-    here-length : length_then terms lefts bounds farm dir count lengths factors x ≡ final_at rows cols terms.side rules lv dir count x (whole x)
+    here-length : length_then terms farm dir count lengths factors x ≡ final_at rows cols terms.side rules lv dir count x (whole x)
     unfolding final_at
     here-length =
         ap₂ (λ (b : Bool) (m : ℕ). final_length b (start_length (get_or dir x 0)) m) (c.channel x here_in) here-whole
         ∙ ap (λ (code : ℕ). final_length (channel_at rows cols (rules x) count x) (start_length code) (whole x)) (sym (code_read c.directed.drawn x here_in))
 
-    here-final : length_then terms lefts bounds farm dir count lengths factors x ≡ final x
+    here-final : length_then terms farm dir count lengths factors x ≡ final x
     here-final = here-length ∙ final-is c.directed terms.side rules lv count x here-valid
 
     module _ (k : bearing_at dir x < 8) where
@@ -162,22 +164,21 @@ module _ {rows : ℕ} {lv dir count order lefts bounds : List ℕ} {places : ℕ
           (w.falls (to x) next-in (hand-next handed w.handing x here-new))
 
       -- what it hands on
-      here-given : amount_then terms lefts bounds farm dir count lengths factors x (rules (to x)) (to x) + 1 ≡ given_by rows cols
+      here-given : amount_then terms farm dir count lengths factors x (rules (to x)) (to x) + 1 ≡ given_by rows cols
           terms.side rules lv dir count x (whole x)
       unfolding given_by brought_to brought_by cutoff_at
       here-given =
-          let len = length_then terms lefts bounds farm dir count lengths factors x in
+          let len = length_then terms farm dir count lengths factors x in
           ap (λ (i : ℕ). brought_by terms.side (rules (to x)) (bearing_at dir x) (steepness_of (get_or factors x 0))
           (steepness_of (get_or factors (to x) 0)) i len + 1)
           (ap start_length (sym (code_read c.directed.drawn (to x) next-in)))
           ∙ rw (here-fall.1, next-fall.1, receiver-bearing c.directed.drawn x here_in code-some k, here-length)
 
-    pub walk-turning : Turning terms lefts farm dir count lengths factors x
+    pub walk-turning : Turning terms farm dir count lengths factors x
     walk-turning =
         record {
           settling = record {
-            farm-in = (c.ruled x).farm-in;
-            sided = (c.ruled x).sided;
+            sided = c.sided;
             dir-in = omega (arith, here_in, c.directed.drawn.long);
             count-in = omega (arith, here_in, c.count_long);
             lengths-in = omega (arith, here_in, w.handing.long);
@@ -198,9 +199,9 @@ module _ {rows : ℕ} {lv dir count order lefts bounds : List ℕ} {places : ℕ
           next_small = (λ k. omega (arith, ap (λ (z : ℕ). get_or factors z 0) (next-is k), (next-fall k).0));
         }
 
-    module _ {lengths' factors' : List ℕ} (t : Turned terms lefts bounds farm dir count lengths factors x lengths' factors') where
+    module _ {lengths' factors' : List ℕ} (t : Turned terms farm dir count lengths factors x lengths' factors') where
       abbrev now : ℕ
-      now = length_then terms lefts bounds farm dir count lengths factors x
+      now = length_then terms farm dir count lengths factors x
 
       stored : get_or (set lengths x now) x 0 ≡ final_at rows cols terms.side rules lv dir count x (whole x)
       stored = get_or-set_same lengths x now 0 (omega (arith, here_in, w.handing.long)) ∙ here-length
@@ -216,16 +217,16 @@ module _ {rows : ℕ} {lv dir count order lefts bounds : List ℕ} {places : ℕ
                 (turn-off handed (omega (arith, receiver-leaves c.directed.drawn x here_in (omega arith))) stored)
           ])
         where
-          on : (k : bearing_at dir x < 8) → lengths' ≡ lengths_next terms lefts bounds farm dir count lengths factors x (rules (to x)) (to x)
+          on : (k : bearing_at dir x < 8) → lengths' ≡ lengths_next terms farm dir count lengths factors x (rules (to x)) (to x)
           on k =
-              t.hands_on (rules (to x)) (subst (λ (z : ℕ). Ruled (rules (to x)) terms lefts (farm z)) (sym (next-is k)) (c.ruled (to x))) k
-              ∙ ap (lengths_next terms lefts bounds farm dir count lengths factors x (rules (to x))) (next-is k)
+              t.hands_on (rules (to x)) (subst (λ (z : ℕ). Ruled (rules (to x)) (farm z)) (sym (next-is k)) (c.ruled (to x))) k
+              ∙ ap (lengths_next terms farm dir count lengths factors x (rules (to x))) (next-is k)
 
       stands : (z : ℕ) → stands_in order (p + 1) z ≡ stands_in order p z + when (eqb x z) 1
       stands z = stands-more order p z ∙ ap (λ (y : ℕ). stands_in order p z + when (eqb y z) 1) (sym e)
 
       abbrev made : ℕ
-      made = factor_of (formula_in terms (farm x)) terms.side (steepness_of (get_or factors x 0)) now
+      made = factor_of (farm x).formula terms.side (steepness_of (get_or factors x 0)) now
 
       other : (z : ℕ) → (z ≡ x → ⊥) → get_or factors' z 0 ≡ get_or factors z 0
       other z q = ap (λ (l : List ℕ). get_or l z 0) t.factors-are ∙ get_or-set_other factors x z made 0 q
@@ -233,7 +234,7 @@ module _ {rows : ℕ} {lv dir count order lefts bounds : List ℕ} {places : ℕ
       same : get_or factors' x 0 ≡ factor_of (rules x).formula terms.side (steepness_at rows cols lv dir x) (final x)
       same =
           ap (λ (l : List ℕ). get_or l x 0) t.factors-are ∙ get_or-set_same factors x made 0 (omega (arith, here_in, w.factors-long))
-          ∙ ap₂ (factor_of (formula_in terms (farm x)) terms.side) here-fall.1 here-final
+          ∙ ap₂ (factor_of (farm x).formula terms.side) here-fall.1 here-final
           ∙ ap (λ (f : Formula). factor_of f terms.side (steepness_at rows cols lv dir x) (final x)) (c.ruled x).formula-is
 
       done_next : (z : ℕ) → 0 < stands_in order (p + 1) z → get_or factors' z 0 ≡ factor_of (rules z).formula terms.side
@@ -257,46 +258,32 @@ module _ {rows : ℕ} {lv dir count order lefts bounds : List ℕ} {places : ℕ
 
 -- ---- the start and the end
 
--- what the tables hold at each farm
-tables-ruled : (columns side : ℕ) (first second : Rules) {lefts : List ℕ} (farm : ℕ) → farm < 2 → 1 ≤ side → side ≤ 100000 →
-    lefts ≡ left_by first.high ∷ left_by second.high ∷ left_by first.low ∷ left_by second.low ∷ [] →
-    Ruled (of_farm first second farm) (record { columns = columns; side = side; first = first.formula; second = second.formula }) lefts farm
-tables-ruled columns side first second zero h s t e =
-    record {
-      farm-in = h;
-      sided = record { side-some = s; side-small = t };
-      high_is = ap (λ (l : List ℕ). get_or l 0 0) e;
-      low-is =
-          ap (λ (l : List ℕ). get_or l 2 0) e;
-      formula-is = refl;
-    }
-tables-ruled columns side first second (suc zero) h s t e =
-    record {
-      farm-in = h;
-      sided = record { side-some = s; side-small = t };
-      high_is = ap (λ (l : List ℕ). get_or l 1 0) e;
-      low-is =
-          ap (λ (l : List ℕ). get_or l 3 0) e;
-      formula-is = refl;
-    }
-tables-ruled columns side first second (suc (suc n)) h s t e = absurd (omega arith)
+-- what the terms hold at each farm
+terms-farmed : {largest : ℕ} (terms : Terms) (first second : Rules) → Farmed first largest terms.first → Farmed second largest terms.second → (farm : ℕ) →
+    Farmed (of_farm first second farm) largest (farm_in terms farm)
+terms-farmed {largest} terms first second f s farm = go (eqb farm 0)
+  where
+    go : (b : Bool) → Farmed (cond b first second) largest (cond b terms.first terms.second)
+    go true = f
+    go false = s
 
 module _ {rows cols side : ℕ} {lv dir count order lengths factors : List ℕ} {places : ℕ}
     (m : Measuring rows cols side lv dir count order places lengths factors) where
-  -- the terms and tables of two farms, which may be the same, chart the map for any choice of a farm for each cell
-  pub measure-charted : (first second : Rules) (farm : ℕ → ℕ) → ((x : ℕ) → farm x < 2) → {lefts bounds : List ℕ} →
-      lefts ≡ left_by first.high ∷ left_by second.high ∷ left_by first.low ∷ left_by second.low ∷ [] →
-      Bounds first second (largest_of (length count) count) bounds →
-      Charted rows lv (λ x. of_farm first second (farm x)) (record { columns = cols; side = side; first = first.formula; second = second.formula })
-      lefts bounds farm dir count order places
-  measure-charted first second farm few {lefts} {bounds} l b =
+  -- two farms, which may be the same, chart the map for any choice of a farm for each cell
+  pub measure-charted : (first second : Rules) (farm : ℕ → ℕ) {f s : Farm} →
+      Farmed first (largest_of (length count) count) f → Farmed second (largest_of (length count) count) s →
+      Charted rows lv (λ x. of_farm first second (farm x)) (record { columns = cols; side = side; first = f; second = s })
+      (λ x. farm_in (record { columns = cols; side = side; first = f; second = s }) (farm x)) dir count order places
+  measure-charted first second farm {f} {s} a b =
+      let farmed = (λ (x : ℕ). terms-farmed (record { columns = cols; side = side; first = f; second = s }) first second a b (farm x)) in
       record {
         directed = m.directed;
         capped = m.capped;
-        ruled = (λ x. tables-ruled cols side first second (farm x) (few x) m.side-some m.side-small l);
+        sided = record { side-some = m.side-some; side-small = m.side-small };
+        ruled = (λ x. (farmed x).ruled);
         count_long = m.count_long;
-        channel = (λ x h. bounded rows cols (of_farm first second (farm x)) (get_or bounds (farm x) 0) count m.count_long
-            (λ n k. b.tells (farm x) n (few x) k) x h);
+        channel = (λ x h. bounded rows cols (of_farm first second (farm x)) (farm_in (record { columns = cols; side = side; first = f; second = s }) (farm x)).most
+            count m.count_long (farmed x).tells x h);
         order_is = m.order_is;
       }
 

@@ -8,7 +8,7 @@ use native.Mathlib.Omega.{arith}
 use native.Mathlib.Decide.{dec_lt}
 use lib.ListN.{length, get_or-eq_default}
 use lib.IntN.{ℤ}
-use lib.Dec.{ltb, leb}
+use lib.Dec.{ltb}
 use borrow.Author.Tests.{eq-eqb, lt-ltb, le-ltb, ltb-false, not-true}
 use Rattle.laws.specs.Tests.{Test, passed, failed, verdict}
 use Rattle.laws.proofs.First.{first-before, first-is, first-none}
@@ -17,7 +17,7 @@ use Rattle.std.specs.List.{position, position_or_len}
 use Rattle.std.proofs.lemmas.List.Quantifiers.{position-Some}
 use Rattle.std.proofs.lemmas.List.Sums.{fails_before_first}
 use Rattle.std.proofs.Common.{Option, Some, None, Result, Ok, Err, ◌⊎◌, inl, inr}
-use Rattle.laws.proofs.Verdicts.{passed-failed, verdict-none, verdict-next, verdict-stops, verdict-passed, verdict-parts, verdict-before, verdict-after, test-yes, test-no, test-passed, Numbered, OfNumber, test-number, verdict-number}
+use Rattle.laws.proofs.Verdicts.{verdict-none, verdict-next, verdict-stops, verdict-passed, verdict-parts, verdict-before, verdict-after, test-yes, test-no, test-passed, Numbered, OfNumber, test-number, verdict-number}
 use Rattle.text.specs.Ranges.{size_accepted, side_accepted, first_bad, all_long, size_test, length_test, side_test, height_test}
 use Rattle.text.proofs.Accepted.{size-passes, size-passed, area-few, rows-fail, columns-fail, AllLong, lengths-pass, lengths-fail, lengths-passed, side-is, side-passed, side-passes, side-fails}
 use Rattle.settings.specs.declared.Settings.{Settings}
@@ -31,7 +31,7 @@ use Rattle.terrain.specs.Given.{first_broken, first_ring, code_test, ring_test}
 use Rattle.terrain.specs.declared.Source.{Source}
 use Rattle.terrain.specs.declared.Source.TheVariants.{Own, Given}
 use Rattle.factor.specs.Farms.{Farms, one, two, farm_at, Marked, mark_places, second_places, first_mark, mark_test, settings_tests, mark_tests, farm_tests}
-use Rattle.factor.specs.Answers.{Grids, places_of, tests, judged, answer_of, answer, refused_grids, found, early_tests, first_tests, Judges, JudgesFarms, JudgesRest, told, accepts}
+use Rattle.factor.specs.Answers.{Grids, places_of, tests, judged, answer_of, answer, refused_grids, early_tests, first_tests, Judges, JudgesFarms, JudgesRest, told, accepts}
 use Rattle.factor.specs.declared.tests.FarmRules.{FarmRules}
 use Rattle.factor.specs.Inner.{places_with, settings_found, shared_tests, JudgesGround}
 use Rattle.text.specs.Faults.{number_of, fault_of}
@@ -343,8 +343,8 @@ module _ (first : Rules) (second : Settings) (marks : List ℕ) where
   rest-refuses fault place f =
       record { verdict-is = sym f; rules-are = (λ rules q. absurd (let z : ◌≡◌ {A = Result FarmRules Refusal} (Err (record { fault = fault; place = place })) (Ok rules) = q in cc)) }
 
-  pub rest-settings : {f : Refusal} → Err f ≡ settings_found 3 (judged_of second) → JudgesRest first second marks (Err f)
-  rest-settings {f} q = go (judged_of second) refl q
+  pub rest-found : {f : Refusal} → Err f ≡ settings_found 3 (judged_of second) → JudgesRest first second marks (Err f)
+  rest-found {f} q = go (judged_of second) refl q
     where
       go : (j : Result Rules Bad) → judged_of second ≡ j → Err f ≡ settings_found 3 j → JudgesRest first second marks (Err f)
       go (Ok rules) e q = absurd (let z : ◌≡◌ {A = Result Rules Refusal} (Err f) (Ok rules) = q in cc)
@@ -363,15 +363,15 @@ module _ (first : Rules) (second : Settings) (marks : List ℕ) where
     rest-left : rest ≡ verdict (mark_test (length marks) marks ∷ [])
     rest-left = verdict-next _ (ap second_places (judged-passed second accepted).0)
 
-    pub rest-marks : {x : ℕ} → position (ltb 1) marks ≡ Some x → JudgesRest first second marks (Err (record { fault = Mark; place = x }))
+    pub rest-marked : {x : ℕ} → position (ltb 1) marks ≡ Some x → JudgesRest first second marks (Err (record { fault = Mark; place = x }))
     unfolding mark_test
-    rest-marks {x} p =
+    rest-marked {x} p =
         let m = marked-at marks p in
         rest-refuses Mark x (rest-left ∙ verdict-stops [] (rw (sym m.0) (test-no 19 x (ap not (lt-ltb x (length marks) m.1)))))
 
-    pub rest-sound : position (ltb 1) marks ≡ None → JudgesRest first second marks (Ok (record { first = first; second = rules }))
+    pub rest-passed : position (ltb 1) marks ≡ None → JudgesRest first second marks (Ok (record { first = first; second = rules }))
     unfolding mark_test
-    rest-sound p =
+    rest-passed p =
         let h = marked-none marks p in
         let passes = test-yes 19 (first_mark (length marks) marks) (ap not (le-ltb (first_mark (length marks) marks) (length marks) (omega (arith, h)))) in
         record { verdict-is = sym (rest-left ∙ verdict-next [] passes ∙ verdict-none); rules-are = same (judged-passed second accepted).1 }

@@ -7,6 +7,7 @@ pub mod Percents
 pub mod Steepnesses
 pub mod Lengths
 pub mod Judging
+pub mod Judgements
 pub mod GivenBack
 pub mod Answers
 pub mod Apart

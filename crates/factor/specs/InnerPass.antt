@@ -2,18 +2,17 @@
 use Rattle.std.specs.Prelude.{◌≡◌, cond, List, ℕ, ◌+◌, ◌*◌, ◌≤◌, ◌<◌, max, ltb, eqb, length, get_or, set, Option, Some, None}
 use Rattle.std.specs.Borrow.{Bor}
 use Rattle.std.specs.Int.Count.{count_trailing_zeros}
-use Rattle.settings.specs.declared.Formula.{Formula}
 use Rattle.settings.specs.declared.Rules.{Rules}
 use Rattle.terrain.specs.Filled.{top}
 use Rattle.terrain.specs.InnerCells.{Beside, beside_of}
 use Rattle.terrain.specs.Falls.{falls_of}
 use Rattle.terrain.specs.InnerTrail.{Directed}
 use Rattle.terrain.specs.Downhill.{Downhill}
-use Rattle.factor.specs.Farms.{of_farm}
 use Rattle.factor.specs.Channel.{is_channel}
 use Rattle.factor.specs.Cell.{factor_of}
 use Rattle.factor.specs.Inflow.{start_length}
 use Rattle.factor.specs.Inner.{greatest_fall, steepest, greatest_length, steepness_of, final_length, left_by, brought_by}
+use Rattle.factor.specs.declared.pass.Farm.{Farm}
 use Rattle.factor.specs.declared.pass.Terms.{Terms}
 
 -- the farm that the cell x names; farm 0 where there are no marks
@@ -26,42 +25,39 @@ abbrev pub Marking : Option (Bor (List ℕ)) → ℕ → Type 0
 Marking None x = Unit {0}
 Marking (Some marks) x = x < length marks.now
 
--- each of the n cells has a place in the marks, and names farm 0 or 1
-pub record Naming (n : ℕ) (marks : Option (Bor (List ℕ))) : Type 0 where
-  pub within : (x : ℕ) → x < n → Marking marks x
-  pub few : (x : ℕ) → farm_by marks x < 2
+-- each of the n cells has a place in the marks
+abbrev pub Naming : ℕ → Option (Bor (List ℕ)) → Type 0
+Naming n marks = (x : ℕ) → x < n → Marking marks x
 
--- the terms hold an accepted cell side
-pub record Sided (terms : Terms) : Type 0 where
-  pub side-some : 1 ≤ terms.side
-  pub side-small : terms.side ≤ 100000
+-- what the cells of a farm are measured by
+abbrev pub farm_in : Terms → ℕ → Farm
+farm_in terms farm = cond (eqb farm 0) terms.first terms.second
 
--- the formula of a farm
-abbrev pub formula_in : Terms → ℕ → Formula
-formula_in terms farm = cond (eqb farm 0) terms.first terms.second
+-- an accepted cell side
+pub record Sided (side : ℕ) : Type 0 where
+  pub side-some : 1 ≤ side
+  pub side-small : side ≤ 100000
 
--- terms and table hold a farm's rules: what its cutoffs leave, squared, and its formula
-pub record Ruled (rules : Rules) (terms : Terms) (lefts : List ℕ) (farm : ℕ) : Type 0 where
-  pub farm-in : farm < 2
-  pub sided : Sided terms
-  pub high_is : get_or lefts farm 0 ≡ left_by rules.high
-  pub low-is : get_or lefts (2 + farm) 0 ≡ left_by rules.low
-  pub formula-is : formula_in terms farm ≡ rules.formula
+-- a farm holds its rules: what the cutoffs leave, squared, and the formula
+pub record Ruled (rules : Rules) (farm : Farm) : Type 0 where
+  pub high_is : farm.high ≡ left_by rules.high
+  pub low-is : farm.low ≡ left_by rules.low
+  pub formula-is : farm.formula ≡ rules.formula
 
--- the counts up to the largest that are above a farm's bound are those of its channels
-pub record Bounds (first second : Rules) (largest : ℕ) (bounds : List ℕ) : Type 0 where
-  pub tells : (farm c : ℕ) → farm < 2 → c ≤ largest → ltb (get_or bounds farm 0) c ≡ is_channel (of_farm first second farm).threshold largest c
+-- and the counts up to the largest that are above its bound are those of its channels
+pub record Farmed (rules : Rules) (largest : ℕ) (farm : Farm) : Type 0 where
+  pub ruled : Ruled rules farm
+  pub tells : (c : ℕ) → c ≤ largest → ltb farm.most c ≡ is_channel rules.threshold largest c
 
 -- ---- a cell's length and LS
 
 -- the length of the cell x, by what is gathered there
-abbrev pub length_now : List ℕ → ℕ → List ℕ → List ℕ → List ℕ → ℕ → ℕ
-length_now bounds farm dir count lengths x = final_length (ltb (get_or bounds farm 0) (get_or count x 0)) (start_length (get_or dir x 0)) (get_or lengths x 0)
+abbrev pub length_now : Farm → List ℕ → List ℕ → List ℕ → ℕ → ℕ
+length_now farm dir count lengths x = final_length (ltb farm.most (get_or count x 0)) (start_length (get_or dir x 0)) (get_or lengths x 0)
 
--- the cell x of a farm has a place in every grid, a small fall and a small gathered amount
-pub record Settling (terms : Terms) (farm : ℕ) (dir count lengths factors : List ℕ) (x : ℕ) : Type 0 where
-  pub farm-in : farm < 2
-  pub sided : Sided terms
+-- the cell x has a place in every grid, a small fall and a small gathered amount
+pub record Settling (side : ℕ) (dir count lengths factors : List ℕ) (x : ℕ) : Type 0 where
+  pub sided : Sided side
   pub dir-in : x < length dir
   pub count-in : x < length count
   pub lengths-in : x < length lengths
@@ -72,17 +68,18 @@ pub record Settling (terms : Terms) (farm : ℕ) (dir count lengths factors : Li
   pub gathered-small : get_or lengths x 0 ≤ greatest_length
 
 -- its length and its LS are there
-pub record Settled (terms : Terms) (bounds : List ℕ) (farm : ℕ) (dir count lengths factors : List ℕ) (x len : ℕ) (lengths' factors' : List ℕ) : Type 0 where
-  pub length-is : len ≡ length_now bounds farm dir count lengths x
+pub record Settled (side : ℕ) (farm : Farm) (dir count lengths factors : List ℕ) (x len : ℕ) (lengths' factors' : List ℕ) : Type 0 where
+  pub length-is : len ≡ length_now farm dir count lengths x
   pub lengths-are : lengths' ≡ set lengths x len
-  pub factors-are : factors' ≡ set factors x (factor_of (formula_in terms farm) terms.side (steepness_of (get_or factors x 0)) len)
+  pub factors-are : factors' ≡ set factors x (factor_of farm.formula side (steepness_of (get_or factors x 0)) len)
 
 -- ---- what a cell hands on
 
 -- the cell y of a farm has a place in every grid, a small fall, and an inflow of small steepness p and length
-pub record Receiving (terms : Terms) (lefts : List ℕ) (farm : ℕ) (dir lengths factors : List ℕ) (y p len : ℕ) : Type 0 where
+pub record Receiving (side : ℕ) (farm : Farm) (dir lengths factors : List ℕ) (y p len : ℕ) : Type 0 where
   pub rules : Rules
-  pub ruled : Ruled rules terms lefts farm
+  pub ruled : Ruled rules farm
+  pub sided : Sided side
   pub dir-in : y < length dir
   pub lengths-in : y < length lengths
   pub factors-in : y < length factors
@@ -93,9 +90,9 @@ pub record Receiving (terms : Terms) (lefts : List ℕ) (farm : ℕ) (dir length
   pub length-small : len ≤ greatest_length
 
 -- the lengths once its inflow, whose neighbour k it is, has handed on to it
-abbrev pub lengths_with : Terms → Rules → List ℕ → List ℕ → List ℕ → ℕ → ℕ → ℕ → ℕ → List ℕ
-lengths_with terms rules dir lengths factors y k p len =
-    set lengths y (max (get_or lengths y 0) (brought_by terms.side rules k p (steepness_of (get_or factors y 0)) (start_length (get_or dir y 0)) len + 1))
+abbrev pub lengths_with : ℕ → Rules → List ℕ → List ℕ → List ℕ → ℕ → ℕ → ℕ → ℕ → List ℕ
+lengths_with side rules dir lengths factors y k p len =
+    set lengths y (max (get_or lengths y 0) (brought_by side rules k p (steepness_of (get_or factors y 0)) (start_length (get_or dir y 0)) len + 1))
 
 -- ---- the turn of one cell
 
@@ -108,10 +105,10 @@ abbrev pub beside_at : Terms → List ℕ → ℕ → ℕ
 beside_at terms dir x = beside_of terms.columns x (bearing_at dir x)
 
 -- the cell x, and the cell that it points at, have the rules of their farms, small falls and gathered amounts, and places in every grid
-pub record Turning (terms : Terms) (lefts : List ℕ) (farm : ℕ → ℕ) (dir count lengths factors : List ℕ) (x : ℕ) : Type 0 where
-  pub settling : Settling terms (farm x) dir count lengths factors x
+pub record Turning (terms : Terms) (farm : ℕ → Farm) (dir count lengths factors : List ℕ) (x : ℕ) : Type 0 where
+  pub settling : Settling terms.side dir count lengths factors x
   pub rules : Rules
-  pub next-ruled : Ruled rules terms lefts (farm (beside_at terms dir x))
+  pub next-ruled : Ruled rules (farm (beside_at terms dir x))
   pub beside-room : bearing_at dir x < 8 → Beside terms.columns x (bearing_at dir x)
   pub next-other : bearing_at dir x < 8 → beside_at terms dir x ≡ x → ⊥
   pub next-dir : bearing_at dir x < 8 → beside_at terms dir x < length dir
@@ -119,10 +116,10 @@ pub record Turning (terms : Terms) (lefts : List ℕ) (farm : ℕ → ℕ) (dir 
   pub next-factors : bearing_at dir x < 8 → beside_at terms dir x < length factors
   pub next_small : bearing_at dir x < 8 → get_or factors (beside_at terms dir x) 0 ≤ greatest_fall
 
-module _ (terms : Terms) (lefts bounds : List ℕ) (farm : ℕ → ℕ) (dir count lengths factors : List ℕ) (x : ℕ) where
+module _ (terms : Terms) (farm : ℕ → Farm) (dir count lengths factors : List ℕ) (x : ℕ) where
   -- the length of the cell x, and its amount for the cell y by these rules, by the lists at its turn
   abbrev pub length_then : ℕ
-  length_then = length_now bounds (farm x) dir count lengths x
+  length_then = length_now (farm x) dir count lengths x
 
   abbrev pub amount_then : Rules → ℕ → ℕ
   amount_then rules y =
@@ -134,9 +131,9 @@ module _ (terms : Terms) (lefts bounds : List ℕ) (farm : ℕ → ℕ) (dir cou
 
   -- the lists after its turn
   pub record Turned (lengths' factors' : List ℕ) : Type 0 where
-    pub factors-are : factors' ≡ set factors x (factor_of (formula_in terms (farm x)) terms.side (steepness_of (get_or factors x 0)) length_then)
+    pub factors-are : factors' ≡ set factors x (factor_of (farm x).formula terms.side (steepness_of (get_or factors x 0)) length_then)
     pub leaves : 8 ≤ bearing_at dir x → lengths' ≡ set lengths x length_then
-    pub hands_on : (rules : Rules) → Ruled rules terms lefts (farm (beside_at terms dir x)) → bearing_at dir x < 8 →
+    pub hands_on : (rules : Rules) → Ruled rules (farm (beside_at terms dir x)) → bearing_at dir x < 8 →
         lengths' ≡ lengths_next rules (beside_at terms dir x)
 
 -- ---- the pass

@@ -53,6 +53,8 @@ fn is_sine(side: u32, q: u64, u: usize) -> bool
     sine_reaches(side, q, u) & !sine_reaches(side, q, u + 1)
 }
 
+// The two look-ups are alike: one for both would need a trait with the laws of either test, and be longer than the two.
+//
 // L in hundredths, for a class of slopes and a length in mm: the slot's guess or the next t, if one of them is right.
 pub(crate) fn length_factor(class: usize, mm: u32, lists: &Lists, guesses: &mut Guesses) -> usize
     requires { Looked class mm lists.now }

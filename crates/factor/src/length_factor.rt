@@ -14,7 +14,8 @@ pub(crate) fn length_reaches(class: usize, mm: u32, lists: &Lists, t: usize) -> 
     lists[WIDTH * class + t] <= mm
 }
 
-// L in hundredths, for a class of slopes and a length in mm, by halves.
+// L in hundredths, for a class of slopes and a length in mm, by halves. `sine_by_halves` goes alike: one search for both would take the
+// test as a closure and the laws of its answers, and be longer than the two.
 pub(crate) fn length_factor_by_halves(class: usize, mm: u32, lists: &Lists) -> usize
     requires { Looked class mm lists.now }
     ensures { result ≡ length_factor (class + 2) mm }

@@ -3,7 +3,7 @@
 //
 // The grid of lengths holds what is gathered until a cell's turn comes: one more than the greatest amount brought, 0 for none. The
 // grid of factors holds the cells' falls until then, and NoData's LS, which is NoData's fall too.
-ghost use Rattle.std.specs.Prelude.{◌≡◌, List, [], ◌∷◌, length, get_or, ltb, ℕ, ◌*◌, ◌≤◌, ◌<◌};
+ghost use Rattle.std.specs.Prelude.{◌≡◌, List, length, get_or, ltb, ℕ, ◌*◌, ◌≤◌, ◌<◌};
 ghost use Rattle.terrain.specs.InnerCells.{Beside, beside_of};
 ghost use Rattle.terrain.specs.Cells.{Shifts};
 ghost use Rattle.settings.specs.declared.Rules.{Rules};
@@ -12,7 +12,7 @@ ghost use Rattle.factor.specs.Inflow.{cutoff_for};
 ghost use Rattle.factor.specs.Length.{lengths_of};
 ghost use Rattle.factor.specs.Grid.{factors_of};
 ghost use Rattle.factor.specs.Inner.{steepest, greatest_length, steepness_of, final_length, left_by, brought_by, Sloping, Listed};
-ghost use Rattle.factor.specs.InnerPass.{farm_by, Marking, Naming, formula_in, Ruled, Bounds, Settling, Settled, Receiving, lengths_with, Turning, Turned, Measuring};
+ghost use Rattle.factor.specs.InnerPass.{farm_by, farm_in, Marking, Naming, Sided, Ruled, Farmed, Settling, Settled, Receiving, lengths_with, Turning, Turned, Measuring};
 
 use crate::cell::factor_of;
 use crate::channel::{channel_bound, largest};
@@ -22,33 +22,60 @@ use crate::slope::{Slope, steepness_of};
 use crate::tests::FarmRules;
 use crate::thresholds;
 use crate::thresholds::Lists;
-use settings::Formula;
+use settings::{Formula, Rules};
 
-// What lengths and LS are measured by: the columns of the map, its cell side in cm, and the steepness formula of farm 0 and of farm 1.
-//
-// Beside it stand two tables, made once for a map, which each cell reads at its farm: the `lefts`, what the high cutoffs of farm 0 and of
-// farm 1 leave, squared, then their low ones; and the `bounds`, the greatest count of each farm that is no channel's. Each cell names its
-// farm in the `marks`; without marks all are of farm 0.
+// What the cells of a farm are measured by: what its high and its low cutoff leave, squared, the greatest count that is no channel's, and its
+// steepness formula.
 #[derive(Clone, Copy)]
-pub(crate) struct Terms {
-    columns: usize,
-    side: u32,
-    first: Formula,
-    second: Formula,
+pub(crate) struct Farm {
+    high: u64,
+    low: u64,
+    most: u64,
+    formula: Formula,
 }
 
-// The farm that the cell x names.
-fn farm_of(marks: Option<&[u8]>, x: usize) -> usize
-    requires { Marking marks x }
-    ensures { result ≡ farm_by marks.entry x }
-{
-    match marks {
-        Some(marks) => usize::from(marks[x]),
-        None => 0,
+impl Farm {
+    // By the farm's rules and the largest flow count of the map.
+    fn new(rules: Rules, largest: u32) -> Farm
+        ensures { Farmed rules largest result }
+    {
+        Farm {
+            high: left_by(rules.high),
+            low: left_by(rules.low),
+            most: channel_bound(rules.threshold, largest),
+            formula: rules.formula,
+        }
     }
 }
 
-// The length of a cell of this count, from where it would start and what is gathered there. Counts above `most` are those of channels.
+// What lengths and LS are measured by: the columns of the map, its cell side in cm, and farm 0 and farm 1.
+#[derive(Drop)]
+pub(crate) struct Terms {
+    columns: usize,
+    side: u32,
+    first: Farm,
+    second: Farm,
+}
+
+// The farm that the cell x names; farm 0 without marks.
+fn farm_of(terms: &Terms, marks: Option<&[u8]>, x: usize) -> Farm
+    requires { Marking marks x }
+    ensures { result ≡ farm_in terms.now (farm_by marks.entry x) }
+{
+    match marks {
+        None => terms.first,
+        Some(marks) => {
+            if marks[x] == 0 {
+                terms.first
+            } else {
+                terms.second
+            }
+        }
+    }
+}
+
+// The length of a cell of this count, from where it would start and what is gathered there. Counts above `most` are those of channels. An
+// Option of what is gathered has no place in the lent grid, so 0 stands for none there.
 fn final_length(most: u64, count: u32, start: u64, gathered: u64) -> u64
     ensures { result ≡ final_length (ltb most count) start gathered }
 {
@@ -67,53 +94,29 @@ fn beside(columns: usize, shifts: &[usize; 8], x: usize, k: usize) -> usize
 }
 
 // What is left, squared, by the cutoff that a cell of this farm and of steepness q uses for its inflows.
-fn left_for(terms: Terms, lefts: &[u64; 4], farm: usize, q: u64) -> u64
-    requires { Sloping terms.side q × (farm < 2) }
-    ensures { (rules : Rules) → Ruled rules terms lefts.now farm → result ≡ left_by (cutoff_for rules.low rules.high terms.side q) }
+fn left_for(side: u32, farm: Farm, q: u64) -> u64
+    requires { Sloping side q }
+    ensures { (rules : Rules) → Ruled rules farm → result ≡ left_by (cutoff_for rules.low rules.high side q) }
 {
-    let slope = Slope {
-        side: terms.side,
-        q,
-    };
-    if slope.is_at_least(5) {
-        return lefts[farm];
+    if (Slope { side, q }).is_at_least(5) {
+        return farm.high;
     }
-    lefts[2 + farm]
+    farm.low
 }
 
 // What an inflow of steepness p and this length brings to its neighbour k, a cell of this farm and of steepness q whose length would start with `start`.
-fn brought(
-    terms: Terms,
-    lefts: &[u64; 4],
-    farm: usize,
-    k: usize,
-    p: u64,
-    q: u64,
-    start: u64,
-    length: u64,
-) -> u64
-    requires { (p ≤ steepest) × (q ≤ steepest) × (length ≤ greatest_length) × ((rules : Rules) × Ruled rules terms lefts.now farm) }
-    ensures { (rules : Rules) → Ruled rules terms lefts.now farm → result ≡ brought_by terms.side rules k p q start length }
+fn brought(side: u32, farm: Farm, k: usize, p: u64, q: u64, start: u64, length: u64) -> u64
+    requires { Sided side × (p ≤ steepest) × (q ≤ steepest) × (length ≤ greatest_length) × ((rules : Rules) × Ruled rules farm) }
+    ensures { (rules : Rules) → Ruled rules farm → result ≡ brought_by side rules k p q start length }
 {
-    let left = left_for(terms, lefts, farm, q);
+    let left = left_for(side, farm, q);
     amount_of(left, q, p, start, step_over(k), length)
-}
-
-// The steepness formula of a farm.
-fn formula_in(terms: Terms, farm: usize) -> Formula
-    ensures { result ≡ formula_in terms farm }
-{
-    if farm == 0 {
-        return terms.first;
-    }
-    terms.second
 }
 
 // Stores the length and the LS of the cell x of this farm and fall, of steepness q, whose inflows have handed on; gives the length.
 fn settle(
-    terms: Terms,
-    bounds: &[u64; 2],
-    farm: usize,
+    side: u32,
+    farm: Farm,
     direction: &[u8],
     count: &[u32],
     lengths: &mut [u64],
@@ -124,28 +127,21 @@ fn settle(
     lists: &Lists,
     guesses: &mut Guesses,
 ) -> u64
-    requires { Settling terms farm direction.now count.now lengths.old factors.old x
+    requires { Settling side direction.now count.now lengths.old factors.old x
         × (fall ≡ get_or factors.old x 0) × (q ≡ steepness_of (get_or factors.old x 0)) × Listed lists.now }
-    ensures { Settled terms bounds.now farm direction.now count.now lengths.old factors.old x result
+    ensures { Settled side farm direction.now count.now lengths.old factors.old x result
         lengths.new factors.new }
 {
-    let length = final_length(
-        bounds[farm],
-        count[x],
-        start_length(direction[x]),
-        lengths[x],
-    );
+    let length = final_length(farm.most, count[x], start_length(direction[x]), lengths[x]);
     lengths[x] = length;
-    let formula = formula_in(terms, farm);
-    factors[x] = factor_of(formula, terms.side, q, length, fall, lists, guesses);
+    factors[x] = factor_of(farm.formula, side, q, length, fall, lists, guesses);
     length
 }
 
 // Hands on to the cell y of this farm, the neighbour k of an inflow of steepness p and this length.
 fn hand_on(
-    terms: Terms,
-    lefts: &[u64; 4],
-    farm: usize,
+    side: u32,
+    farm: Farm,
     direction: &[u8],
     lengths: &mut [u64],
     factors: &[u32],
@@ -154,13 +150,12 @@ fn hand_on(
     p: u64,
     length: u64,
 )
-    requires { Receiving terms lefts.now farm direction.now lengths.old factors.now y p length }
-    ensures { (rules : Rules) → Ruled rules terms lefts.now farm →
-        lengths.new ≡ lengths_with terms rules direction.now lengths.old factors.now y k p length }
+    requires { Receiving side farm direction.now lengths.old factors.now y p length }
+    ensures { (rules : Rules) → Ruled rules farm →
+        lengths.new ≡ lengths_with side rules direction.now lengths.old factors.now y k p length }
 {
     let amount = brought(
-        terms,
-        lefts,
+        side,
         farm,
         k,
         p,
@@ -173,9 +168,7 @@ fn hand_on(
 
 // The turn of the cell x.
 fn turn(
-    terms: Terms,
-    lefts: &[u64; 4],
-    bounds: &[u64; 2],
+    terms: &Terms,
     marks: Option<&[u8]>,
     direction: &[u8],
     count: &[u32],
@@ -186,18 +179,16 @@ fn turn(
     lists: &Lists,
     guesses: &mut Guesses,
 )
-    requires { Turning terms lefts.now (farm_by marks) direction.now count.now lengths.old factors.old x
-        × Listed lists.now × Shifts terms.columns shifts.now × Naming (length direction.now) marks }
-    ensures { Turned terms lefts.now bounds.now (farm_by marks.entry)
-        direction.now count.now lengths.old factors.old x
+    requires { Turning terms.now (λ y. farm_in terms.now (farm_by marks y)) direction.now count.now lengths.old factors.old x
+        × Listed lists.now × Shifts terms.now.columns shifts.now × Naming (length direction.now) marks }
+    ensures { Turned terms.now (λ y. farm_in terms.now (farm_by marks.entry y)) direction.now count.now lengths.old factors.old x
         lengths.new factors.new }
 {
     let fall = factors[x];
     let p = steepness_of(fall);
     let length = settle(
-        terms,
-        bounds,
-        farm_of(marks, x),
+        terms.side,
+        farm_of(terms, marks, x),
         direction,
         count,
         lengths,
@@ -214,9 +205,8 @@ fn turn(
     }
     let y = beside(terms.columns, shifts, x, k);
     hand_on(
-        terms,
-        lefts,
-        farm_of(marks, y),
+        terms.side,
+        farm_of(terms, marks, y),
         direction,
         lengths,
         factors,
@@ -225,28 +215,6 @@ fn turn(
         p,
         length,
     );
-}
-
-// What the cutoffs of two farms leave, squared: the high ones, then the low ones.
-fn lefts_of(rules: FarmRules) -> [u64; 4]
-    ensures { result ≡ left_by rules.first.high ∷ left_by rules.second.high ∷ left_by rules.first.low ∷ left_by rules.second.low ∷ [] }
-{
-    [
-        left_by(rules.first.high),
-        left_by(rules.second.high),
-        left_by(rules.first.low),
-        left_by(rules.second.low),
-    ]
-}
-
-// The greatest count of each of two farms that is no channel's, by the largest flow count of the map.
-fn bounds_of(rules: FarmRules, largest: u32) -> [u64; 2]
-    ensures { Bounds rules.first rules.second largest result }
-{
-    [
-        channel_bound(rules.first.threshold, largest),
-        channel_bound(rules.second.threshold, largest),
-    ]
 }
 
 // The length and the LS of every cell by the rules of the farm that it names, from the falls in `factors`, along the order of the valid
@@ -274,23 +242,20 @@ pub(crate) fn measure(
         × (factors.new
         ≡ factors_of rows columns side (λ x. of_farm rules.first rules.second (farm_by marks.entry x)) lv direction.now lengths.new) }
 {
+    let most = largest(count);
     let terms = Terms {
         columns,
         side,
-        first: rules.first.formula,
-        second: rules.second.formula,
+        first: Farm::new(rules.first, most),
+        second: Farm::new(rules.second, most),
     };
-    let lefts = lefts_of(rules);
-    let bounds = bounds_of(rules, largest(count));
     let shifts = terrain::shifts_of(columns);
     let lists = thresholds::all();
     let mut guesses: Guesses = [0; 7708];
     lengths.fill(0);
     for place in 0..places {
         turn(
-            terms,
-            &lefts,
-            &bounds,
+            &terms,
             marks,
             direction,
             count,

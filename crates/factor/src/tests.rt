@@ -15,7 +15,7 @@ pub struct FarmRules {
     pub second: Rules,
 }
 
-// Whether every lent slice, and the marks where there are some, have one place per cell.
+// Whether every lent slice, and the marks where there are some, have one place per cell. C lends each slice by itself.
 fn are_long(
     cells: usize,
     marks: Option<usize>,

@@ -6,7 +6,7 @@ use Prim.Native.Nat.{ℕ, ◌+◌, ◌*◌, ◌≤◌, ◌<◌}
 use native.Mathlib.Nat.{le_refl, le_of_eq, le_antisymm}
 use native.Mathlib.Decide.{dec_lt}
 use native.Mathlib.Omega.{arith}
-use borrow.Author.Tests.{eq-eqb, ne_eqb, eqb-true, not-false, lt-ltb, le-ltb}
+use borrow.Author.Tests.{eq-eqb, ne_eqb, eqb-true, not-false, lt-ltb, le-ltb, ltb-true}
 use borrow.Author.Count.{below_more}
 use lib.Dec.{eqb, ltb}
 use lib.IntN.{ℤ}
@@ -77,26 +77,49 @@ module _ (v : ℕ) (floats : List ℕ) where
 -- ---- what follows the header
 
 module _ (h : Header) (lent : List ℤ) (floats : List ℕ) where
-  module _ (l : length lent ≡ h.rows * h.columns) (b : length floats ≡ 4 * length lent) where
-    abbrev v : ℕ
-    v = nearest_float h.no_data
+  pub body-unlike : (length lent ≡ h.rows * h.columns → ⊥) → record { answer = refusal 2 0; heights = lent } ≡ body_answer h lent floats
+  unfolding body
+  body-unlike e = rw (ne_eqb (length lent) (h.rows * h.columns) e) refl
 
-    pub body-fault : (m p : ℕ) → refused m p ≡ judged v floats (length lent) → record { answer = refusal m p; heights = lent } ≡ body_answer h lent floats
-    unfolding body cells
-    body-fault m p e = go (ltb (first_fault v floats (length lent)) (length lent)) refl e
-      where
-        go : (t : Bool) → ltb (first_fault v floats (length lent)) (length lent) ≡ t
-            → refused m p ≡ cond t (refused (fault_of v (bits_at floats (first_fault v floats (length lent)))) (first_fault v floats (length lent))) (got (tt {0}) 0)
-            → record { answer = refusal m p; heights = lent } ≡ body_answer h lent floats
-        go true q r = rw (eq-eqb (length lent) (h.rows * h.columns) l, eq-eqb (length floats) (4 * length lent) b, q) cc
-        go false q r = absurd cc
+  module _ (l : length lent ≡ h.rows * h.columns) where
+    pub body_bytes : (length floats ≡ 4 * length lent → ⊥) → record { answer = refusal 14 0; heights = lent } ≡ body_answer h lent floats
+    unfolding body
+    body_bytes e = rw (eq-eqb (length lent) (h.rows * h.columns) l, ne_eqb (length floats) (4 * length lent) e) refl
 
-    pub body-on : got tt 0 ≡ judged v floats (length lent)
-        → record { answer = accepted h; heights = tab (length lent) (λ y. height_of v (bits_at floats y)) } ≡ body_answer h lent floats
-    unfolding body cells
-    body-on e =
-        let t = le-ltb (first_fault v floats (length lent)) (length lent) (le_of_eq (sym (judged-good v floats (length lent) e))) in
-        rw (eq-eqb (length lent) (h.rows * h.columns) l, eq-eqb (length floats) (4 * length lent) b, t) refl
+    module _ (b : length floats ≡ 4 * length lent) (v : ℕ) (n : v ≡ nearest_float h.no_data) (x : ℕ) (f : x ≡ first_fault v floats (length lent)) where
+      pub body-fault : x < length lent → record { answer = refusal (fault_of v (bits_at floats x)) x; heights = lent } ≡ body_answer h lent floats
+      unfolding body cells
+      body-fault t =
+          rw (eq-eqb (length lent) (h.rows * h.columns) l, eq-eqb (length floats) (4 * length lent) b, sym n, sym f, lt-ltb x (length lent) t) refl
+
+      pub body-on : length lent ≤ x
+          → record { answer = accepted h; heights = tab (length lent) (λ y. height_of v (bits_at floats y)) } ≡ body_answer h lent floats
+      unfolding body cells
+      body-on t =
+          rw (eq-eqb (length lent) (h.rows * h.columns) l, eq-eqb (length floats) (4 * length lent) b, sym n, sym f, le-ltb x (length lent) t) refl
+
+-- the same by what the judge of the cells answers
+module _ (h : Header) (lent : List ℤ) (floats : List ℕ) (l : length lent ≡ h.rows * h.columns) (b : length floats ≡ 4 * length lent) where
+  abbrev v : ℕ
+  v = nearest_float h.no_data
+
+  abbrev x : ℕ
+  x = first_fault v floats (length lent)
+
+  pub body-judged : (m p : ℕ) → refused m p ≡ judged v floats (length lent) → record { answer = refusal m p; heights = lent } ≡ body_answer h lent floats
+  body-judged m p e = go (ltb x (length lent)) refl e
+    where
+      go : (t : Bool) → ltb x (length lent) ≡ t → refused m p ≡ cond t (refused (fault_of v (bits_at floats x)) x) (got (tt {0}) 0)
+          → record { answer = refusal m p; heights = lent } ≡ body_answer h lent floats
+      go true q r =
+          let n : m ≡ fault_of v (bits_at floats x) = cc in
+          let f : p ≡ x = cc in
+          rw (n, f) (body-fault h lent floats l b v refl x refl (ltb-true x (length lent) q))
+      go false q r = absurd cc
+
+  pub body-good : got tt 0 ≡ judged v floats (length lent)
+      → record { answer = accepted h; heights = tab (length lent) (λ y. height_of v (bits_at floats y)) } ≡ body_answer h lent floats
+  body-good e = body-on h lent floats l b v refl x refl (le_of_eq (sym (judged-good v floats (length lent) e)))
 
 -- ---- the whole of a call
 

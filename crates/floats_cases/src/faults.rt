@@ -12,21 +12,21 @@ pub(crate) fn run(rt: &impl Print) -> io::Result<()> {
 fn out_of_range(rt: &impl Print) -> io::Result<()> {
     row(
         rt,
-        b"the float past the greatest in range",
+        "the float past the greatest in range",
         b"\x00\x00\x80\x3f\
         \x06\xa0\x0c\x46\
         \x00\x00\x80\x3f",
     )?;
     row(
         rt,
-        b"the float past the least in range",
+        "the float past the least in range",
         b"\x00\x00\x80\x3f\
         \x00\x00\x80\x3f\
         \xa4\x00\xfa\xc3",
     )?;
     row(
         rt,
-        b"the greatest float of all",
+        "the greatest float of all",
         b"\xff\xff\x7f\x7f\
         \x00\x00\x80\x3f\
         \x00\x00\x80\x3f",
@@ -36,14 +36,14 @@ fn out_of_range(rt: &impl Print) -> io::Result<()> {
 fn not_numbers(rt: &impl Print) -> io::Result<()> {
     row(
         rt,
-        b"NaN 7fc00000",
+        "NaN 7fc00000",
         b"\x00\x00\xc0\x7f\
         \x00\x00\x80\x3f\
         \x00\x00\x80\x3f",
     )?;
     row(
         rt,
-        b"NaN ffffffff",
+        "NaN ffffffff",
         b"\x00\x00\x80\x3f\
         \x00\x00\x80\x3f\
         \xff\xff\xff\xff",
@@ -53,14 +53,14 @@ fn not_numbers(rt: &impl Print) -> io::Result<()> {
 fn infinite(rt: &impl Print) -> io::Result<()> {
     row(
         rt,
-        b"plus infinity",
+        "plus infinity",
         b"\x00\x00\x80\x3f\
         \x00\x00\x80\x7f\
         \x00\x00\x80\x3f",
     )?;
     row(
         rt,
-        b"minus infinity",
+        "minus infinity",
         b"\x00\x00\x80\x3f\
         \x00\x00\x80\x3f\
         \x00\x00\x80\xff",
@@ -70,14 +70,14 @@ fn infinite(rt: &impl Print) -> io::Result<()> {
 fn of_two(rt: &impl Print) -> io::Result<()> {
     row(
         rt,
-        b"NaN before the float past the greatest in range",
+        "NaN before the float past the greatest in range",
         b"\x00\x00\x80\x3f\
         \x00\x00\xc0\x7f\
         \x06\xa0\x0c\x46",
     )?;
     row(
         rt,
-        b"the float past the greatest in range before NaN",
+        "the float past the greatest in range before NaN",
         b"\x00\x00\x80\x3f\
         \x06\xa0\x0c\x46\
         \x00\x00\xc0\x7f",

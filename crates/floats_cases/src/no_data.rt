@@ -12,21 +12,21 @@ pub(crate) fn run(rt: &impl Print) -> io::Result<()> {
 fn absent(rt: &impl Print) -> io::Result<()> {
     row(
         rt,
-        b"-9999, 1 and -9999",
+        "-9999, 1 and -9999",
         b"\x00\x3c\x1c\xc6\
         \x00\x00\x80\x3f\
         \x00\x3c\x1c\xc6",
     )?;
     row(
         rt,
-        b"-9999 and the float below it",
+        "-9999 and the float below it",
         b"\x00\x3c\x1c\xc6\
         \x01\x3c\x1c\xc6\
         \x00\x00\x80\x3f",
     )?;
     row(
         rt,
-        b"-9999 twice and the float above it",
+        "-9999 twice and the float above it",
         b"\x00\x3c\x1c\xc6\
         \x00\x3c\x1c\xc6\
         \xff\x3b\x1c\xc6",
@@ -36,7 +36,7 @@ fn absent(rt: &impl Print) -> io::Result<()> {
 fn halfway(rt: &impl Print) -> io::Result<()> {
     case(
         rt,
-        b"NoData number 16777217; 1 and 16777216",
+        "NoData number 16777217; 1 and 16777216",
         b"ncols 2 nrows 1 xllcorner 0 yllcorner 0 cellsize 10\nnodata_value 16777217\n",
         2,
         b"\x00\x00\x80\x3f\
@@ -44,7 +44,7 @@ fn halfway(rt: &impl Print) -> io::Result<()> {
     )?;
     case(
         rt,
-        b"NoData number 16777217; 1 and 16777218",
+        "NoData number 16777217; 1 and 16777218",
         b"ncols 2 nrows 1 xllcorner 0 yllcorner 0 cellsize 10\nnodata_value 16777217\n",
         2,
         b"\x00\x00\x80\x3f\
@@ -52,7 +52,7 @@ fn halfway(rt: &impl Print) -> io::Result<()> {
     )?;
     case(
         rt,
-        b"NoData number 16777219; 1 and 16777220",
+        "NoData number 16777219; 1 and 16777220",
         b"ncols 2 nrows 1 xllcorner 0 yllcorner 0 cellsize 10\nnodata_value 16777219\n",
         2,
         b"\x00\x00\x80\x3f\
@@ -63,7 +63,7 @@ fn halfway(rt: &impl Print) -> io::Result<()> {
 fn in_range(rt: &impl Print) -> io::Result<()> {
     case(
         rt,
-        b"NoData number 0; 0, -0 and the least denormal",
+        "NoData number 0; 0, -0 and the least denormal",
         b"ncols 3 nrows 1 xllcorner 0 yllcorner 0 cellsize 10\nnodata_value 0\n",
         3,
         b"\x00\x00\x00\x00\
@@ -72,7 +72,7 @@ fn in_range(rt: &impl Print) -> io::Result<()> {
     )?;
     case(
         rt,
-        b"NoData number 0.01; the float nearest it, the next one, and minus the first",
+        "NoData number 0.01; the float nearest it, the next one, and minus the first",
         b"ncols 3 nrows 1 xllcorner 0 yllcorner 0 cellsize 10\nnodata_value 0.01\n",
         3,
         b"\x0a\xd7\x23\x3c\
@@ -84,14 +84,14 @@ fn in_range(rt: &impl Print) -> io::Result<()> {
 fn greatest(rt: &impl Print) -> io::Result<()> {
     case(
         rt,
-        b"NoData number 999999999.99; 1000000000",
+        "NoData number 999999999.99; 1000000000",
         b"ncols 1 nrows 1 xllcorner 0 yllcorner 0 cellsize 10\nnodata_value 999999999.99\n",
         1,
         b"\x28\x6b\x6e\x4e",
     )?;
     case(
         rt,
-        b"NoData number -999999999.99; -1000000000 and -9999",
+        "NoData number -999999999.99; -1000000000 and -9999",
         b"ncols 2 nrows 1 xllcorner 0 yllcorner 0 cellsize 10\nnodata_value -999999999.99\n",
         2,
         b"\x28\x6b\x6e\xce\

@@ -13,7 +13,7 @@ pub(crate) fn run(rt: &impl Print) -> io::Result<()> {
 fn bytes(rt: &impl Print) -> io::Result<()> {
     case(
         rt,
-        b"a byte too few",
+        "a byte too few",
         b"ncols 2 nrows 1 xllcorner 0 yllcorner 0 cellsize 10\n",
         2,
         b"\x00\x00\x80\x3f\
@@ -21,7 +21,7 @@ fn bytes(rt: &impl Print) -> io::Result<()> {
     )?;
     case(
         rt,
-        b"a byte too many, before NaN",
+        "a byte too many, before NaN",
         b"ncols 2 nrows 1 xllcorner 0 yllcorner 0 cellsize 10\n",
         2,
         b"\x00\x00\xc0\x7f\
@@ -33,14 +33,14 @@ fn bytes(rt: &impl Print) -> io::Result<()> {
 fn lent(rt: &impl Print) -> io::Result<()> {
     case(
         rt,
-        b"one height lent, before no bytes",
+        "one height lent, before no bytes",
         b"ncols 2 nrows 1 xllcorner 0 yllcorner 0 cellsize 10\n",
         1,
         b"",
     )?;
     case(
         rt,
-        b"three heights lent",
+        "three heights lent",
         b"ncols 2 nrows 1 xllcorner 0 yllcorner 0 cellsize 10\n",
         3,
         b"\x00\x00\x80\x3f\
@@ -51,7 +51,7 @@ fn lent(rt: &impl Print) -> io::Result<()> {
 fn after_header(rt: &impl Print) -> io::Result<()> {
     case(
         rt,
-        b"a height after the header, before one height lent",
+        "a height after the header, before one height lent",
         b"ncols 2 nrows 1 xllcorner 0 yllcorner 0 cellsize 10\n1 2\n",
         1,
         b"\x00\x00\x80\x3f\
@@ -59,7 +59,7 @@ fn after_header(rt: &impl Print) -> io::Result<()> {
     )?;
     case(
         rt,
-        b"a word after the NoData number, before no bytes",
+        "a word after the NoData number, before no bytes",
         b"ncols 2 nrows 1 xllcorner 0 yllcorner 0 cellsize 10\nnodata_value -9999 x\n",
         2,
         b"",
@@ -69,7 +69,7 @@ fn after_header(rt: &impl Print) -> io::Result<()> {
 fn in_header(rt: &impl Print) -> io::Result<()> {
     case(
         rt,
-        b"side 12,5, before a word after the header",
+        "side 12,5, before a word after the header",
         b"ncols 2 nrows 1 xllcorner 0 yllcorner 0 cellsize 12,5\n1\n",
         2,
         b"\x00\x00\x80\x3f\
@@ -77,7 +77,7 @@ fn in_header(rt: &impl Print) -> io::Result<()> {
     )?;
     case(
         rt,
-        b"NoData number -9999x, before no heights lent",
+        "NoData number -9999x, before no heights lent",
         b"ncols 2 nrows 1 xllcorner 0 yllcorner 0 cellsize 10\nnodata_value -9999x\n",
         0,
         b"\x00\x00\x80\x3f\

@@ -12,14 +12,14 @@ pub(crate) fn run(rt: &impl Print) -> io::Result<()> {
 fn small(rt: &impl Print) -> io::Result<()> {
     row(
         rt,
-        b"0, -0 and 1",
+        "0, -0 and 1",
         b"\x00\x00\x00\x00\
         \x00\x00\x00\x80\
         \x00\x00\x80\x3f",
     )?;
     row(
         rt,
-        b"the least denormal, the greatest, and minus the greatest",
+        "the least denormal, the greatest, and minus the greatest",
         b"\x01\x00\x00\x00\
         \xff\xff\x7f\x00\
         \xff\xff\x7f\x80",
@@ -29,14 +29,14 @@ fn small(rt: &impl Print) -> io::Result<()> {
 fn halves(rt: &impl Print) -> io::Result<()> {
     row(
         rt,
-        b"the floats nearest 0.005, 0.015 and 0.025, none of them halfway",
+        "the floats nearest 0.005, 0.015 and 0.025, none of them halfway",
         b"\x0a\xd7\xa3\x3b\
         \x8f\xc2\x75\x3c\
         \xcd\xcc\xcc\x3c",
     )?;
     row(
         rt,
-        b"0.125, 0.375 and -0.125, halfway",
+        "0.125, 0.375 and -0.125, halfway",
         b"\x00\x00\x00\x3e\
         \x00\x00\xc0\x3e\
         \x00\x00\x00\xbe",
@@ -46,7 +46,7 @@ fn halves(rt: &impl Print) -> io::Result<()> {
 fn ends(rt: &impl Print) -> io::Result<()> {
     row(
         rt,
-        b"the float nearest 9000.004, the greatest in range and the least",
+        "the float nearest 9000.004, the greatest in range and the least",
         b"\x04\xa0\x0c\x46\
         \x05\xa0\x0c\x46\
         \xa3\x00\xfa\xc3",
@@ -56,14 +56,14 @@ fn ends(rt: &impl Print) -> io::Result<()> {
 fn order(rt: &impl Print) -> io::Result<()> {
     row(
         rt,
-        b"1, its bytes the other way round, and 100",
+        "1, its bytes the other way round, and 100",
         b"\x00\x00\x80\x3f\
         \x3f\x80\x00\x00\
         \x00\x00\xc8\x42",
     )?;
     case(
         rt,
-        b"2 by 2; 1 and 2 in the north, 3 and 4 in the south",
+        "2 by 2; 1 and 2 in the north, 3 and 4 in the south",
         b"ncols 2 nrows 2 xllcorner 0 yllcorner 0 cellsize 2.5\n",
         4,
         b"\x00\x00\x80\x3f\

@@ -2,14 +2,13 @@
 // and after those of the floats the lent heights.
 ghost use Rattle.std.specs.Prelude.{◌≤◌};
 
-use output::{write, write_answer, write_heights};
 use std::io;
 
 // What every lent height is beforehand, so that an untouched grid shows.
 const MARK: i32 = 7;
 
 // Three cells in a row, with the NoData number absent.
-pub(crate) fn row(rt: &impl Print, name: &[u8], floats: &[u8]) -> io::Result<()> {
+pub(crate) fn row(rt: &impl Print, name: &str, floats: &[u8]) -> io::Result<()> {
     case(
         rt,
         name,
@@ -22,24 +21,17 @@ pub(crate) fn row(rt: &impl Print, name: &[u8], floats: &[u8]) -> io::Result<()>
 // One case, with so many lent heights.
 pub(crate) fn case(
     rt: &impl Print,
-    name: &[u8],
+    name: &str,
     header: &[u8],
-    lent: usize,
+    cells: usize,
     floats: &[u8],
 ) -> io::Result<()>
-    requires { lent ≤ 4 }
+    requires { cells ≤ 4 }
 {
-    let mut heights = [MARK; 4];
-    write(rt, name)?;
-    answers(rt, header, floats, &mut heights[0..lent])
-}
-
-fn answers(rt: &impl Print, header: &[u8], floats: &[u8], heights: &mut [i32]) -> io::Result<()> {
-    write(rt, b"\nheader")?;
-    write_answer(rt, text::read_lone_header(header))?;
-    write(rt, b"\nfloats")?;
-    write_answer(rt, floats::read_floats(header, floats, heights))?;
-    write(rt, b":")?;
-    write_heights(rt, heights)?;
-    write(rt, b"\n")
+    let mut lent = [MARK; 4];
+    let heights = &mut lent[..cells];
+    let alone = text::read_lone_header(header);
+    let read = floats::read_floats(header, floats, heights);
+    println!(rt; "{name}")?;
+    output::write_answers(rt, alone, "floats", read, heights)
 }

@@ -6,6 +6,7 @@ use Prim.Native.Nat.{ℕ, ◌≤◌, ◌<◌}
 use native.Mathlib.Omega.{arith}
 use native.Mathlib.Decide.{dec_lt}
 use lib.Dec.{leb, eqb}
+use Rattle.std.specs.Prelude.{None, Some}
 use borrow.Author.Tests.{le-leb, lt-leb}
 use Rattle.laws.specs.Tests.{Test, passed, failed, verdict}
 use Rattle.laws.proofs.Verdicts.{test-yes, test-no, verdict-none, verdict-next, verdict-stops, verdict-before, verdict-after, OfNumber, test-number, verdict-number}
@@ -39,39 +40,41 @@ one_number P n four = verdict-number P (formula_test 7 n) [] (formula-number P 7
 -- ---- the formulas of two farms, by the place of the first number that is none
 
 module _ (n m : ℕ) where
-  pub place-first : 1 < n → formula_place n m ≡ 7
+  pub place-first : 1 < n → formula_place n m ≡ Some 7
   unfolding formula_place
   place-first h = rw (lt-leb n 1 h)
 
-  pub place-second : n ≤ 1 → 1 < m → formula_place n m ≡ 8
+  pub place-second : n ≤ 1 → 1 < m → formula_place n m ≡ Some 8
   unfolding formula_place
   place-second h l = rw (le-leb n 1 h, lt-leb m 1 l)
 
-  pub place_none : n ≤ 1 → m ≤ 1 → formula_place n m ≡ 0
+  pub place_none : n ≤ 1 → m ≤ 1 → formula_place n m ≡ None
   unfolding formula_place
   place_none h l = rw (le-leb n 1 h, le-leb m 1 l)
 
-  pub two-passes : formula_place n m < 1 → verdict (two_formulas n m) ≡ passed
+  pub two-passes : formula_place n m ≡ None → verdict (two_formulas n m) ≡ passed
   two-passes e =
       elim (dec_lt 1 n) [
-        | yes h ↦ absurd (omega (arith, place-first h))
+        | yes h ↦ absurd (let q : Some 7 ≡ None = sym (place-first h) ∙ e in cc)
         | no f ↦
             elim (dec_lt 1 m) [
-              | yes l ↦ absurd (omega (arith, place-second (omega arith) l))
+              | yes l ↦ absurd (let q : Some 8 ≡ None = sym (place-second (omega arith) l) ∙ e in cc)
               | no g ↦ verdict-next (formula_test 8 m ∷ []) (formula-passes 7 n (omega arith)) ∙ verdict-next [] (formula-passes 8 m (omega arith))
                   ∙ verdict-none
             ]
       ]
 
-  pub two-fails : 1 ≤ formula_place n m → verdict (two_formulas n m) ≡ failed 4 (formula_place n m)
-  two-fails e =
+  pub two-fails : {place : ℕ} → formula_place n m ≡ Some place → verdict (two_formulas n m) ≡ failed 4 place
+  two-fails {place} e =
       elim (dec_lt 1 n) [
-        | yes h ↦ verdict-stops (formula_test 8 m ∷ []) (formula-fails 7 n h) ∙ sym (ap (failed 4) (place-first h))
+        | yes h ↦ (let q : Some 7 ≡ Some place = sym (place-first h) ∙ e in
+            let at : 7 ≡ place = cc in verdict-stops (formula_test 8 m ∷ []) (formula-fails 7 n h) ∙ ap (failed 4) at)
         | no f ↦
             elim (dec_lt 1 m) [
-              | yes l ↦ verdict-next (formula_test 8 m ∷ []) (formula-passes 7 n (omega arith)) ∙ verdict-stops [] (formula-fails 8 m l)
-                  ∙ sym (ap (failed 4) (place-second (omega arith) l))
-              | no g ↦ absurd (omega (arith, place_none (omega arith) (omega arith)))
+              | yes l ↦ (let q : Some 8 ≡ Some place = sym (place-second (omega arith) l) ∙ e in
+                  let at : 8 ≡ place = cc in verdict-next (formula_test 8 m ∷ []) (formula-passes 7 n (omega arith)) ∙ verdict-stops [] (formula-fails 8 m l)
+                  ∙ ap (failed 4) at)
+              | no g ↦ absurd (let q : None ≡ Some place = sym (place_none (omega arith) (omega arith)) ∙ e in cc)
             ]
       ]
 

@@ -2,9 +2,9 @@
 -- numbers stand for. Assumes
 -- nothing.
 use mathlib.Core.Path.{◌≡◌, refl, sym, ap, ap₂, subst, ◌∙◌}
-use mathlib.Core.Bool.{Bool, true, false, cond, true≢false}
-use mathlib.Core.List.{List, [], ◌∷◌, ◌++◌}
-use Prim.Native.Nat.{ℕ, ◌*◌, ◌≤◌, ◌<◌}
+use mathlib.Core.Bool.{Bool, true, false, cond}
+use mathlib.Core.List.{List, ◌∷◌, ◌++◌}
+use Prim.Native.Nat.{ℕ, ◌*◌, ◌≤◌}
 use native.Mathlib.Omega.{arith}
 use lib.IntN.{ℤ}
 use lib.Dec.{eqb}
@@ -12,24 +12,26 @@ use Rattle.laws.specs.Tests.{Test, passed, failed, verdict}
 use Rattle.laws.proofs.Verdicts.{OfNumber}
 use Rattle.text.specs.declared.Refusal.{Refusal}
 use Rattle.text.specs.Ranges.{height_test}
-use Rattle.settings.specs.declared.Settings.{Settings}
 use Rattle.terrain.specs.Filled.{filled_levels}
 use Rattle.terrain.specs.Drainage.{Totals}
 use Rattle.terrain.specs.Answers.{source_tests, directions_by}
 use Rattle.terrain.specs.declared.Source.{Source}
-use Rattle.factor.specs.Farms.{Farms, one, two, mark_tests}
-use Rattle.factor.specs.Answers.{Grids, tests, judged, answer_of, grids_of, answer, after, found, found_in, early_tests, first_tests, Judges, JudgesFarms, Numbers, told, accepts}
-use Rattle.factor.specs.declared.Answer.{Answer}
-use Rattle.factor.specs.declared.Answer.TheVariants.{Refused}
-use Rattle.factor.specs.declared.tests.Judgement.{Judgement}
-use Rattle.factor.specs.declared.tests.Judgement.TheVariants.{Sound, Unsound}
-use Rattle.factor.specs.declared.tests.FarmJudgement.{FarmJudgement}
-use Rattle.factor.specs.declared.tests.FarmJudgement.TheVariants as farm
+use Rattle.settings.specs.declared.Settings.{Settings}
+use Rattle.factor.specs.Farms.{Farms, two, mark_tests}
+use Rattle.factor.specs.declared.tests.FarmRules.{FarmRules}
+use Rattle.factor.specs.Answers.{Grids, tests, judged, answer_of, grids_of, answer, after, found, early_tests, first_tests, JudgesFarms, Numbers, told, accepts}
+use Rattle.std.specs.Prelude.{Some, Result, Ok, Err}
+use Rattle.std.specs.Result.{result_err}
+use Rattle.text.specs.Faults.{number_of, fault_of}
+use Rattle.text.specs.declared.faults.Fault.{Fault}
+use Rattle.text.specs.declared.faults.Fault.TheVariants.{Setting}
+use Rattle.text.proofs.FaultNumbers.{back-fault}
+use Rattle.terrain.specs.declared.Summary.{Summary}
 use Rattle.factor.proofs.Judging.{answer-some, first-kept, early-number, marks-number, later-number, joined_number, is-numbered}
-use Rattle.fullsize.specs.Crossing.{one_formula, two_formulas}
+use Rattle.fullsize.specs.Crossing.{two_formulas}
 use Rattle.fullsize.specs.Mapping.{judged_by, answer_by, after_by}
-use Rattle.fullsize.specs.InnerMapping.{before_marks, without_formula, formula_place, refusal_before}
-use Rattle.fullsize.proofs.Formulas.{NotOfMarks, OfMarks, no-tests, formulas-pass, formulas-fail, one-fails, two-fails}
+use Rattle.fullsize.specs.InnerMapping.{before_marks, formula_place, refusal_before}
+use Rattle.fullsize.proofs.Formulas.{NotOfMarks, OfMarks, formulas-pass, formulas-fail, two-fails}
 
 module _ (rows cols side : ℕ) (farms : Farms) (formulas : List Test) (source : Source) (elevation : List ℤ) (g : Grids) where
   abbrev early : List Test
@@ -55,7 +57,7 @@ module _ (rows cols side : ℕ) (farms : Farms) (formulas : List Test) (source :
     unfolding judged tests judged_by
     judged-is = ap (λ (l : List Test). verdict (l ++ rest)) first-are ∙ formulas-pass early formulas marks rest h
 
-    pub answer-is : {a : Answer} → a ≡ answer rows cols side farms source elevation g → a ≡ answer_by rows cols side farms formulas source elevation g
+    pub answer-is : {a : Result Summary Refusal} → a ≡ answer rows cols side farms source elevation g → a ≡ answer_by rows cols side farms formulas source elevation g
     unfolding answer answer_by
     answer-is e = e ∙ ap (answer_of rows cols elevation dir) judged-is
 
@@ -102,7 +104,7 @@ module _ (rows cols side : ℕ) (farms : Farms) (formulas : List Test) (source :
       (joined_number (λ n. 1 ≤ n) marks rest (marks-number (λ n. 1 ≤ n) (rows * cols) farms (omega arith))
       (later-number rows cols side farms elevation g (λ n. 1 ≤ n) (omega arith) (omega arith) (omega arith) source)))
 
-  module _ (f : (P : ℕ → Type 0) → P 4 → OfNumber P (verdict formulas)) {n : Numbers} {a : Answer} (e : n ≡ told a)
+  module _ (f : (P : ℕ → Type 0) → P 4 → OfNumber P (verdict formulas)) {n : Numbers} {a : Result Summary Refusal} (e : n ≡ told a)
       (p : a ≡ answer_by rows cols side farms formulas source elevation g) (z : n.number ≡ 0) where
     accepted : accepts (answer_by rows cols side farms formulas source elevation g) ≡ true
     unfolding answer_by
@@ -118,63 +120,45 @@ module _ (rows cols side : ℕ) (farms : Farms) (formulas : List Test) (source :
     pub totals-of : {direction count : List ℕ} → Totals rows cols elevation direction count (told a).valids → Totals rows cols elevation direction count n.valids
     totals-of {direction} {count} t = subst (Totals rows cols elevation direction count) (sym (ap (λ (x : Numbers). x.valids) e)) t
 
--- ---- one farm without a formula
+-- ---- without a formula: a refusal that was found before it, or its own
 
-module _ (rows cols side : ℕ) (settings : Settings) (formula : ℕ) (source : Source) (elevation : List ℤ) (g : Grids) (h : 1 < formula) {j : Judgement}
-    (judges : Judges rows cols side settings elevation g j) where
-  -- 19 is no refusal of one farm's tests
-  one-unmarked : OfNumber NotOfMarks (found j)
-  one-unmarked =
-      subst (OfNumber NotOfMarks) (sym (judges.verdict-is ∙ ap verdict (first-are rows cols side (one settings) (one_formula formula) source elevation g)))
-      (joined_number NotOfMarks (early_tests rows cols side (one settings) elevation g) []
-      (early-number rows cols side (one settings) elevation g NotOfMarks refl refl refl refl) no-tests)
+module _ (rows cols : ℕ) (elevation : List ℤ) (dir : List ℕ) (place : ℕ) where
+  none-told : {A : Type 0} (k : Result A Refusal) → Err (refusal_before place (result_err k)) ≡ answer_of rows cols elevation dir (before_marks place (found k))
+  unfolding answer_of fault_of
+  none-told (Ok a) = refl
+  none-told (Err f) = go (eqb (number_of f.fault) 19)
+    where
+      go : (b : Bool) →
+          Err (cond b (record { fault = Setting; place = place }) f) ≡ answer_of rows cols elevation dir (cond b (failed 4 place) (failed (number_of f.fault) f.place))
+      go true = refl
+      go false = ap (λ (k : Fault). Err (record { fault = k; place = f.place })) (sym (back-fault f.fault))
 
-  one_told : (k : Judgement) → OfNumber NotOfMarks (found k) → without_formula k ≡ answer_of rows cols elevation
-      (directions_by source rows cols elevation g.direction) (before_marks 7 (found k))
-  unfolding answer_of
-  one_told (Sound rules) q = refl
-  one_told (Unsound f) q = sym (ap (λ (b : Bool). answer_of rows cols elevation (directions_by source rows cols elevation g.direction)
-      (cond b (failed 4 7) (failed f.number f.place))) q)
+module _ (rows cols side : ℕ) (farms : Farms) (formulas : List Test) (source : Source) (elevation : List ℤ) (g : Grids) {place : ℕ}
+    (h : verdict formulas ≡ failed 4 place) {A : Type 0} (j : Result A Refusal) (e : found j ≡ verdict (first_tests rows cols side farms elevation g)) where
+  pub without-answers : {f : Refusal} → f ≡ refusal_before place (result_err j) → Err f ≡ answer_by rows cols side farms formulas source elevation g
+  without-answers p =
+      ap Err p ∙ none-told rows cols elevation (directions_by source rows cols elevation g.direction) place j
+      ∙ none_answers rows cols side farms formulas source elevation g h e
 
-  pub one-answers : {a : Answer} → a ≡ without_formula j → a ≡ answer_by rows cols side (one settings) (one_formula formula) source elevation g
-  one-answers e = e ∙ one_told j one-unmarked ∙ none_answers rows cols side (one settings) (one_formula formula) source elevation g (one-fails formula h)
-      judges.verdict-is
-
--- it is no acceptance
-pub none-accepted : {a : Answer} (j : Judgement) → a ≡ without_formula j → accepts a ≡ true → ⊥
-none-accepted (Unsound f) e z = true≢false (sym z ∙ ap accepts e)
-none-accepted (Sound rules) e z = true≢false (sym z ∙ ap accepts e)
+  pub without-leaves : g ≡ after_by rows cols side farms formulas source elevation g
+  without-leaves = none-leaves rows cols side farms formulas source elevation g h e
 
 -- ---- two farms, one of them without a formula
 
-module _ (rows cols side : ℕ) (first second : Settings) (marks : List ℕ) (n m : ℕ) (source : Source) (elevation : List ℤ) (g : Grids)
-    (h : 1 ≤ formula_place n m) {j : FarmJudgement} (judges : JudgesFarms rows cols side first second marks elevation g j) where
-  two-told : (k : FarmJudgement) → Refused (refusal_before (formula_place n m) k) ≡ answer_of rows cols elevation
-      (directions_by source rows cols elevation g.direction) (before_marks (formula_place n m) (found_in k))
-  unfolding answer_of
-  two-told (farm.Sound a b) = refl
-  two-told (farm.Unsound f) = go (eqb f.number 19)
-    where
-      go : (b : Bool) →
-          Refused (cond b (record { number = 4; place = formula_place n m }) f)
-          ≡ answer_of rows cols elevation (directions_by source rows cols elevation g.direction)
-          (cond b (failed 4 (formula_place n m)) (failed f.number f.place))
-      go true = refl
-      go false = refl
-
-  pub two-answers : {f : Refusal} → f ≡ refusal_before (formula_place n m) j → Refused f ≡ answer_by rows cols side (two first second marks)
+module _ (rows cols side : ℕ) (first second : Settings) (marks : List ℕ) (n m : ℕ) (source : Source) (elevation : List ℤ) (g : Grids) {place : ℕ}
+    (h : formula_place n m ≡ Some place) {j : Result FarmRules Refusal} (judges : JudgesFarms rows cols side first second marks elevation g j) where
+  pub two-answers : {f : Refusal} → f ≡ refusal_before place (result_err j) → Err f ≡ answer_by rows cols side (two first second marks)
       (two_formulas n m) source elevation g
   two-answers e =
-      ap Refused e ∙ two-told j
-      ∙ none_answers rows cols side (two first second marks) (two_formulas n m) source elevation g (two-fails n m h) judges.verdict-is
+      without-answers rows cols side (two first second marks) (two_formulas n m) source elevation g (two-fails n m h) j judges.verdict-is e
 
   pub two-leaves : g ≡ after_by rows cols side (two first second marks) (two_formulas n m) source elevation g
-  two-leaves = none-leaves rows cols side (two first second marks) (two_formulas n m) source elevation g (two-fails n m h) judges.verdict-is
+  two-leaves = without-leaves rows cols side (two first second marks) (two_formulas n m) source elevation g (two-fails n m h) j judges.verdict-is
 
 -- ---- the numbers that are handed out
 
 module _ (rows cols side : ℕ) (formulas : List Test) (elevation : List ℤ) (g : Grids) {s t : Farms} {p q : Source} (same : s ≡ t) (alike : p ≡ q) where
-  pub answers_of : {n : Numbers} {a : Answer} → n ≡ told a → a ≡ answer_by rows cols side s formulas p elevation g →
+  pub answers_of : {n : Numbers} {a : Result Summary Refusal} → n ≡ told a → a ≡ answer_by rows cols side s formulas p elevation g →
       n ≡ told (answer_by rows cols side t formulas q elevation g)
   answers_of e h = e ∙ ap told (h ∙ ap₂ (λ (x : Farms) (y : Source). answer_by rows cols side x formulas y elevation g) same alike)
 

@@ -11,7 +11,8 @@ use Rattle.settings.specs.declared.Channel.TheVariants.{Percentage, Cells, NoCha
 use Rattle.settings.specs.declared.Formula.{Formula}
 use Rattle.settings.specs.declared.Formula.TheVariants.{Older, Newer}
 use Rattle.settings.specs.declared.Settings.{Settings}
-use Rattle.settings.specs.declared.Judged.TheVariants.{Refused}
+use Rattle.std.specs.Prelude.{Err}
+use Rattle.settings.specs.declared.Setting.TheVariants as setting
 use Rattle.settings.proofs.Cutoffs.{judged-channel}
 use Rattle.fullsize.specs.Crossing.{Numbers, no_rule, channel_of, formula_of, settings_of, numbers_with, formula_number, numbers_of}
 
@@ -47,7 +48,7 @@ other-rule kind cells percentage h = rw (ne_eqb kind 0 (λ e. omega arith), ne_e
 
 -- beside accepted cutoffs, any other kind is what is wrong: the third setting
 pub other-refused : (low high : Float) (kind cells : ℕ) (percentage : Float) (formula : ℕ) → whole_of 100 100 low ≤ 100 → whole_of 100 100 high ≤ 100 →
-    2 < kind → judged_of (settings_of low high kind cells percentage formula) ≡ Refused 3
+    2 < kind → judged_of (settings_of low high kind cells percentage formula) ≡ Err setting.Channel
 unfolding settings_of
 other-refused low high kind cells percentage formula l h k =
     sym (judged-channel (settings_of low high kind cells percentage formula) refl l refl h (threshold_of no_rule)

@@ -1,28 +1,26 @@
 -- RULES 12.4: a report as fourteen numbers, and the calls of the report with settings as numbers. Assumes nothing.
-use Rattle.std.specs.Prelude.{List, [], ◌∷◌, ◌++◌, cond, ℕ, get_or, eqb}
+use Rattle.std.specs.Prelude.{List, [], ◌∷◌, ◌++◌, cond, ℕ, get_or, eqb, Option, None, Some, Result, Ok, Err}
 use Rattle.laws.specs.Slices.{Lent}
 use Rattle.laws.specs.Tests.{Test, verdict}
 use Rattle.report.specs.declared.Greatest.{Greatest}
-use Rattle.report.specs.declared.Greatest.TheVariants.{Nothing, Found}
 use Rattle.report.specs.declared.Report.{Report}
-use Rattle.report.specs.declared.Answer.{Answer}
-use Rattle.report.specs.declared.Answer.TheVariants.{Accepted, Refused}
-use Rattle.report.specs.declared.Reported.{Reported}
+use Rattle.text.specs.Faults.{number_of}
+use Rattle.text.specs.declared.Refusal.{Refusal}
 use Rattle.factor.specs.Farms.{mark_tests}
 use Rattle.report.specs.Maps.{Map, cells_of}
-use Rattle.report.specs.Reports.{report_of}
+use Rattle.report.specs.Reports.{found, report_of}
 use Rattle.report.specs.Joins.{joined}
-use Rattle.report.specs.Answers.{early_tests, fit_test, outcome_of}
+use Rattle.report.specs.Answers.{Reported, early_tests, fit_test, outcome_of}
 
 -- ---- a report as numbers
 
 -- whether there is a greatest, then the LS, its map and its cell
-unfoldable pub greatest_from : ℕ → ℕ → ℕ → ℕ → Greatest
-greatest_from some factor map cell = cond (eqb some 0) Nothing (Found factor map cell)
+unfoldable pub greatest_from : ℕ → ℕ → ℕ → ℕ → Option Greatest
+greatest_from some factor map cell = cond (eqb some 0) None (found factor map cell)
 
-unfoldable pub greatest_numbers : Greatest → List ℕ
-greatest_numbers Nothing = 0 ∷ 0 ∷ 0 ∷ 0 ∷ []
-greatest_numbers (Found factor map cell) = 1 ∷ factor ∷ map ∷ cell ∷ []
+unfoldable pub greatest_numbers : Option Greatest → List ℕ
+greatest_numbers None = 0 ∷ 0 ∷ 0 ∷ 0 ∷ []
+greatest_numbers (Some g) = 1 ∷ g.factor ∷ g.map ∷ g.cell ∷ []
 
 -- the report that fourteen numbers stand for
 unfoldable pub report_from : List ℕ → Report
@@ -60,10 +58,10 @@ abbrev pub reporting : ℕ → ℕ → List ℕ → Reporting
 reporting number place numbers = record { number = number; place = place; numbers = numbers }
 
 -- accepted, the next report's numbers; refused, those that were given, whatever they are
-unfoldable pub reporting_of : List ℕ → Answer → Report → Reporting
+unfoldable pub reporting_of : List ℕ → Result (Unit {0}) Refusal → Report → Reporting
 unfolding numbers_from
-reporting_of given Accepted report = reporting 0 0 (numbers_from report)
-reporting_of given (Refused f) report = reporting f.number f.place given
+reporting_of given (Ok done) report = reporting 0 0 (numbers_from report)
+reporting_of given (Err f) report = reporting (number_of f.fault) f.place given
 
 abbrev pub reporting_for : List ℕ → Reported → Reporting
 reporting_for given r = reporting_of given r.answer r.report

@@ -2,36 +2,33 @@
 // the percentage, of which the kind says which one counts, and the steepness formula (0 older, 1 newer). Whether directions are given.
 ghost use Rattle.std.specs.Prelude.{◌≡◌};
 ghost use Rattle.fullsize.specs.Crossing.{numbers_of, channel_of, formula_of, formula_number, settings_of, source_of};
-ghost use Rattle.fullsize.specs.InnerMapping.{formula_place};
+ghost use Rattle.fullsize.specs.InnerMapping.{formula_place, refusal_before};
 ghost use Rattle.fullsize.specs.Lent.{numbers_after};
 
 use factor::Source;
 use settings::{Channel, Formula, Settings};
+use text::{Fault, Refusal};
 
 // The channel rule of a kind; any other kind gives a percentage that the map call refuses.
 fn channel_of(kind: u32, cells: u32, percentage: f64) -> Channel
     ensures { result ≡ channel_of kind cells percentage }
 {
-    if kind == 0 {
-        return Channel::NoChannel;
+    match kind {
+        0 => Channel::NoChannel,
+        1 => Channel::Cells(cells),
+        2 => Channel::Percentage(percentage),
+        _ => Channel::Percentage(101.0),
     }
-    if kind == 1 {
-        return Channel::Cells(cells);
-    }
-    if kind == 2 {
-        return Channel::Percentage(percentage);
-    }
-    Channel::Percentage(101.0)
 }
 
 // The formula of a number; what is above 1 is judged before it is used.
 fn formula_of(number: u32) -> Formula
     ensures { result ≡ formula_of number }
 {
-    if number == 0 {
-        return Formula::Older;
+    match number {
+        0 => Formula::Older,
+        _ => Formula::Newer,
     }
-    Formula::Newer
 }
 
 fn formula_number(formula: Formula) -> u32
@@ -43,27 +40,37 @@ fn formula_number(formula: Formula) -> u32
     }
 }
 
-// The place of the first of two numbers that is no formula; 0 where both are one.
-pub(crate) fn formula_place(formula: u32, second: u32) -> usize
+// The place of the first of two numbers that is no formula.
+pub(crate) fn formula_place(formula: u32, second: u32) -> Option<usize>
     ensures { result ≡ formula_place formula second }
 {
     if 1 < formula {
-        return 7;
+        return Some(7);
     }
     if 1 < second {
-        return 8;
+        return Some(8);
     }
-    0
+    None
+}
+
+// The refusal where a number is no formula: one that the tests found before it, or its own at this place. 19 comes after it.
+pub(crate) fn refusal_before(place: usize, found: Option<Refusal>) -> Refusal
+    ensures { result ≡ refusal_before place found }
+{
+    match found {
+        Some(refusal) if refusal.fault != Fault::Mark => refusal,
+        _ => Refusal {
+            fault: Fault::Setting,
+            place,
+        },
+    }
 }
 
 // Whose directions a map takes.
 pub(crate) fn source_of(given: bool) -> Source
     ensures { result ≡ source_of given }
 {
-    if given {
-        return Source::Given;
-    }
-    Source::Own
+    if given { Source::Given } else { Source::Own }
 }
 
 pub(crate) fn settings_of(
@@ -76,13 +83,11 @@ pub(crate) fn settings_of(
 ) -> Settings
     ensures { result ≡ settings_of low high kind cells percentage formula }
 {
-    let channel = channel_of(kind, cells, percentage);
-    let chosen = formula_of(formula);
     Settings {
-        low: low,
-        high: high,
-        channel: channel,
-        formula: chosen,
+        low,
+        high,
+        channel: channel_of(kind, cells, percentage),
+        formula: formula_of(formula),
     }
 }
 
@@ -98,12 +103,10 @@ pub(crate) fn hand_out(
 )
     ensures { numbers_after low high kind cells percentage formula ≡ numbers_of settings }
 {
-    let chosen = settings.formula;
-    *formula = formula_number(chosen);
+    *formula = formula_number(settings.formula);
     *low = settings.low;
     *high = settings.high;
-    let channel = settings.channel;
-    match channel {
+    match settings.channel {
         Channel::NoChannel => {
             *kind = 0;
             *cells = 0;

@@ -5,40 +5,16 @@ ghost use Rattle.terrain.specs.Drainage.{Trails, Totals, Surface};
 ghost use Rattle.factor.specs.Farms.{two};
 ghost use Rattle.factor.specs.Answers.{told, accepts, lent_before, lent_after};
 ghost use Rattle.report.specs.Maps.{map_of};
+ghost use Rattle.report.specs.Answers.{outcome};
 ghost use Rattle.fullsize.specs.Crossing.{two_formulas};
 ghost use Rattle.fullsize.specs.Mapping.{answer_by, after_by};
 ghost use Rattle.fullsize.specs.Reporting.{added_by};
-ghost use Rattle.fullsize.specs.InnerMapping.{refusal_before};
 
-use crate::crossing::formula_place;
-use factor::{Answer, FarmJudgement, Source};
-use report::{Report, Reported};
+use crate::crossing::{formula_place, refusal_before};
+use factor::{Source, Summary};
+use report::Report;
 use settings::Settings;
 use text::Refusal;
-
-// The refusal where a number is no formula: one that the tests found before it, or its own at this place. 19 comes after it.
-fn refusal_before(place: usize, judgement: FarmJudgement) -> Refusal
-    ensures { result ≡ refusal_before place judgement }
-{
-    match judgement {
-        FarmJudgement::Unsound(refusal) => {
-            if refusal.number == 19 {
-                return Refusal {
-                    number: 4,
-                    place: place,
-                };
-            }
-            refusal
-        }
-        FarmJudgement::Sound {
-            first: _,
-            second: _,
-        } => Refusal {
-            number: 4,
-            place: place,
-        },
-    }
-}
 
 // Maps a ground for two farms into the lent grids, by the settings of each and the numbers of their formulas.
 pub(crate) fn map(
@@ -58,7 +34,7 @@ pub(crate) fn map(
     lengths: &mut [u64],
     factors: &mut [u32],
     workspace: &mut [u32],
-) -> Answer
+) -> Result<Summary, Refusal>
     ensures answers { result ≡ answer_by rows columns side (two first second marks.now) (two_formulas formula formula1) source elevation.now
         (lent_before filled direction count lengths factors workspace) }
     ensures leaves { lent_after filled direction count lengths factors workspace
@@ -69,13 +45,12 @@ pub(crate) fn map(
         Totals rows columns elevation.now direction.new count.new (told result).valids }
     ensures surface { accepts result ≡ true → Surface rows columns elevation.now filled.new }
 {
-    let place = formula_place(formula, formula1);
-    if 0 < place {
-        let judgement = factor::judge_farms(
+    if let Some(place) = formula_place(formula, formula1) {
+        let judged = factor::judge_farms(
             rows, columns, side, first, second, marks, elevation, filled, direction, count,
             lengths, factors, workspace,
         );
-        return Answer::Refused(refusal_before(place, judgement));
+        return Err(refusal_before(place, judged.err()));
     }
     factor::map_farms(
         rows, columns, side, first, second, marks, source, elevation, filled, direction, count,
@@ -85,7 +60,7 @@ pub(crate) fn map(
 
 // Adds a map of two farms to a report, by the settings of each and the numbers of their formulas. A refusal leaves the report.
 pub(crate) fn add(
-    report: Report,
+    report: &mut Report,
     rows: usize,
     columns: usize,
     first: Settings,
@@ -95,18 +70,13 @@ pub(crate) fn add(
     marks: &[u8],
     count: &[u32],
     factors: &[u32],
-) -> Reported
-    ensures { result ≡ added_by report (map_of rows columns (two first second marks.now) count.now factors.now)
+) -> Result<(), Refusal>
+    ensures { outcome result report.new ≡ added_by report.old (map_of rows columns (two first second marks.now) count.now factors.now)
         (two_formulas formula formula1) }
 {
-    let place = formula_place(formula, formula1);
-    if 0 < place {
-        let judgement = report::judge_farms(rows, columns, first, second, marks, count, factors);
-        let refusal = refusal_before(place, judgement);
-        return Reported {
-            answer: report::Answer::Refused(refusal),
-            report,
-        };
+    if let Some(place) = formula_place(formula, formula1) {
+        let judged = report::judge_farms(rows, columns, first, second, marks, count, factors);
+        return Err(refusal_before(place, judged.err()));
     }
     report::add_farms(report, rows, columns, first, second, marks, count, factors)
 }

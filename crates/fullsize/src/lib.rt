@@ -2,7 +2,8 @@
 //
 // Each call hands on what it is lent and gives the number of the refusal, 0 where the input is accepted; the place and the other
 // numbers go to single numbers that are lent too. The promise of each call is that of the call it wraps, for every input. No call has a
-// `requires`: a caller owes only what no call can see, that each pointer with its length is memory of its own.
+// `requires`: a caller owes only what no call can see, that each pointer with its length is memory of its own. Each list of parameters is
+// C's: numbers and lent memory, no structs.
 #![tactic(auto)]
 
 mod answers;
@@ -51,11 +52,10 @@ pub extern "C" fn lsmap_read_header(
     ensures answers { reading_after result place rows columns side no_data ≡ header_answer text.now }
     ensures corners { corners_after x_first x_length y_first y_length ≡ corners_answer text.now }
 {
-    let read = text::read_header(text);
-    let answer = read.answer;
-    let corners = read.corners;
-    answers::hand_out_corners(corners, x_first, x_length, y_first, y_length);
-    answers::hand_out_reading(answer, place, rows, columns, side, no_data)
+    let answer = text::read_header(text);
+    answers::hand_out_corners(answer, x_first, x_length, y_first, y_length);
+    let header = answer.map(|head| head.header);
+    answers::hand_out_reading(header, place, rows, columns, side, no_data)
 }
 
 // Reads the whole text into the lent heights: `text::read_grid`.
@@ -317,8 +317,7 @@ pub extern "C" fn lsmap_room(rows: usize, columns: usize) -> usize
 pub extern "C" fn lsmap_report_empty(report: &mut [u64; 14])
     ensures { report.new ≡ numbers_from (report_of []) }
 {
-    let none = Report::empty();
-    reports::hand_out(none, report)
+    reports::hand_out(Report::empty(), report)
 }
 
 // Adds a map to a report: `report::add`, with the settings of the six numbers.
@@ -342,9 +341,9 @@ pub extern "C" fn lsmap_report_add(
         (map_of rows columns (one (settings_of low high kind cells percentage formula)) count.now factors.now) (one_formula formula)) }
 {
     let settings = crossing::settings_of(low, high, kind, cells, percentage, formula);
-    let before = reports::report_of(report);
-    let reported = reports::add(before, rows, columns, settings, formula, count, factors);
-    reports::hand_out_reported(reported, report, place)
+    let mut total = reports::report_of(report);
+    let answer = reports::add(&mut total, rows, columns, settings, formula, count, factors);
+    reports::hand_out_answer(answer, total, report, place)
 }
 
 // Adds a map of two farms to the report: `report::add_farms`, with each farm's settings as six numbers and a mark for each cell.
@@ -378,11 +377,11 @@ pub extern "C" fn lsmap_report_add_farms(
 {
     let settings = crossing::settings_of(low, high, kind, cells, percentage, formula);
     let second = crossing::settings_of(low1, high1, kind1, cells1, percentage1, formula1);
-    let before = reports::report_of(report);
-    let reported = farms::add(
-        before, rows, columns, settings, second, formula, formula1, marks, count, factors,
+    let mut total = reports::report_of(report);
+    let answer = farms::add(
+        &mut total, rows, columns, settings, second, formula, formula1, marks, count, factors,
     );
-    reports::hand_out_reported(reported, report, place)
+    reports::hand_out_answer(answer, total, report, place)
 }
 
 // Joins a second report to a first: `report::join`.
@@ -395,8 +394,8 @@ pub extern "C" fn lsmap_report_join(
     ensures { reporting_after result place report
         ≡ reporting_for report.old (after_join (report_from report.old) (report_from other.now)) }
 {
-    let before = reports::report_of(report);
-    let after = reports::report_of(other);
-    let reported = report::join(before, after);
-    reports::hand_out_reported(reported, report, place)
+    let mut joined = reports::report_of(report);
+    let later = reports::report_of(other);
+    let answer = report::join(&mut joined, later);
+    reports::hand_out_answer(answer, joined, report, place)
 }

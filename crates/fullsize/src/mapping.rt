@@ -6,24 +6,11 @@ ghost use Rattle.factor.specs.Answers.{told, accepts, lent_before, lent_after};
 ghost use Rattle.factor.specs.Farms.{one};
 ghost use Rattle.fullsize.specs.Crossing.{one_formula};
 ghost use Rattle.fullsize.specs.Mapping.{answer_by, after_by};
-ghost use Rattle.fullsize.specs.InnerMapping.{without_formula};
 
-use factor::{Answer, Judgement, Source};
+use crate::crossing::refusal_before;
+use factor::{Source, Summary};
 use settings::Settings;
 use text::Refusal;
-
-// The answer where there is no formula: the refusal that comes before, or the formula's own.
-fn without_formula(judgement: Judgement) -> Answer
-    ensures { result ≡ without_formula judgement }
-{
-    match judgement {
-        Judgement::Unsound(refusal) => Answer::Refused(refusal),
-        Judgement::Sound(_) => Answer::Refused(Refusal {
-            number: 4,
-            place: 7,
-        }),
-    }
-}
 
 // Maps a ground into the lent grids, by settings, the number of their formula, and whose directions it takes.
 pub(crate) fn map(
@@ -40,7 +27,7 @@ pub(crate) fn map(
     lengths: &mut [u64],
     factors: &mut [u32],
     workspace: &mut [u32],
-) -> Answer
+) -> Result<Summary, Refusal>
     ensures answers { result ≡ answer_by rows columns side (one settings) (one_formula formula) source elevation.now
         (lent_before filled direction count lengths factors workspace) }
     ensures leaves { lent_after filled direction count lengths factors workspace
@@ -52,11 +39,11 @@ pub(crate) fn map(
     ensures surface { accepts result ≡ true → Surface rows columns elevation.now filled.new }
 {
     if 1 < formula {
-        let judgement = factor::judge(
+        let judged = factor::judge(
             rows, columns, side, settings, elevation, filled, direction, count, lengths, factors,
             workspace,
         );
-        return without_formula(judgement);
+        return Err(refusal_before(7, judged.err()));
     }
     factor::map(
         rows, columns, side, settings, source, elevation, filled, direction, count, lengths,

@@ -3,29 +3,29 @@
 ghost use Rattle.std.specs.Prelude.{◌≡◌};
 ghost use Rattle.factor.specs.Farms.{one};
 ghost use Rattle.report.specs.Maps.{map_of};
+ghost use Rattle.report.specs.Answers.{outcome};
 ghost use Rattle.fullsize.specs.Crossing.{one_formula};
-ghost use Rattle.fullsize.specs.Reporting.{greatest_from, greatest_numbers, report_from, numbers_from, reporting_for, reporting_after, added_by};
-ghost use Rattle.fullsize.specs.InnerMapping.{without_formula_for};
+ghost use Rattle.fullsize.specs.Reporting.{greatest_from, greatest_numbers, report_from, numbers_from, reporting_of, reporting_after, added_by};
 
-use report::{Answer, Greatest, Judgement, Report, Reported};
+use crate::crossing::refusal_before;
+use report::{Greatest, Report};
 use settings::Settings;
 use text::Refusal;
 
 // The greatest of four numbers; the first says whether there is one.
-fn greatest_of(some: u64, factor: u64, map: u64, cell: u64) -> Greatest
+fn greatest_of(some: u64, factor: u64, map: u64, cell: u64) -> Option<Greatest>
     ensures { result ≡ greatest_from some factor map cell }
 {
     if some == 0 {
-        return Greatest::Nothing;
+        return None;
     }
-    Greatest::Found { factor, map, cell }
+    Some(Greatest { factor, map, cell })
 }
 
 // The report of fourteen numbers.
 pub(crate) fn report_of(numbers: &[u64; 14]) -> Report
     ensures { result ≡ report_from numbers.now }
 {
-    let greatest = greatest_of(numbers[10], numbers[11], numbers[12], numbers[13]);
     Report {
         maps: numbers[0],
         valid: numbers[1],
@@ -37,17 +37,17 @@ pub(crate) fn report_of(numbers: &[u64; 14]) -> Report
         from1: numbers[7],
         from5: numbers[8],
         from10: numbers[9],
-        greatest,
+        greatest: greatest_of(numbers[10], numbers[11], numbers[12], numbers[13]),
     }
 }
 
 // The four numbers of a greatest.
-fn greatest_numbers(greatest: Greatest) -> [u64; 4]
+fn greatest_numbers(greatest: Option<Greatest>) -> [u64; 4]
     ensures { result ≡ greatest_numbers greatest }
 {
     match greatest {
-        Greatest::Nothing => [0, 0, 0, 0],
-        Greatest::Found { factor, map, cell } => [1, factor, map, cell],
+        None => [0, 0, 0, 0],
+        Some(greatest) => [1, greatest.factor, greatest.map, greatest.cell],
     }
 }
 
@@ -55,8 +55,7 @@ fn greatest_numbers(greatest: Greatest) -> [u64; 4]
 pub(crate) fn hand_out(report: Report, numbers: &mut [u64; 14])
     ensures { numbers.new ≡ numbers_from report }
 {
-    let greatest = report.greatest;
-    let last = greatest_numbers(greatest);
+    let last = greatest_numbers(report.greatest);
     *numbers = [
         report.maps,
         report.valid,
@@ -75,63 +74,43 @@ pub(crate) fn hand_out(report: Report, numbers: &mut [u64; 14])
     ];
 }
 
-// Hands out the answer of a call with its report; a refusal leaves the numbers as they were.
-pub(crate) fn hand_out_reported(
-    reported: Reported,
+// Hands out the answer of a call and the report afterwards; a refusal leaves the numbers as they were.
+pub(crate) fn hand_out_answer(
+    answer: Result<(), Refusal>,
+    report: Report,
     numbers: &mut [u64; 14],
     place: &mut usize,
 ) -> u32
-    ensures { reporting_after result place numbers ≡ reporting_for numbers.old reported }
+    ensures { reporting_after result place numbers ≡ reporting_of numbers.old answer report }
 {
-    let answer = reported.answer;
     match answer {
-        Answer::Accepted => {
+        Ok(()) => {
             *place = 0;
-            let report = reported.report;
             hand_out(report, numbers);
             0
         }
-        Answer::Refused(refusal) => {
+        Err(refusal) => {
             *place = refusal.place;
-            refusal.number
+            refusal.fault.number()
         }
-    }
-}
-
-// The answer where there is no formula: the refusal that comes before, or the formula's own. The report stays.
-fn without_formula(judgement: Judgement, report: Report) -> Reported
-    ensures { result ≡ without_formula_for judgement report }
-{
-    match judgement {
-        Judgement::Unsound(refusal) => Reported {
-            answer: Answer::Refused(refusal),
-            report,
-        },
-        Judgement::Sound(_) => Reported {
-            answer: Answer::Refused(Refusal {
-                number: 4,
-                place: 7,
-            }),
-            report,
-        },
     }
 }
 
 // Adds a map to a report, by settings and the number of their formula.
 pub(crate) fn add(
-    report: Report,
+    report: &mut Report,
     rows: usize,
     columns: usize,
     settings: Settings,
     formula: u32,
     count: &[u32],
     factors: &[u32],
-) -> Reported
-    ensures { result ≡ added_by report (map_of rows columns (one settings) count.now factors.now) (one_formula formula) }
+) -> Result<(), Refusal>
+    ensures { outcome result report.new ≡ added_by report.old (map_of rows columns (one settings) count.now factors.now) (one_formula formula) }
 {
     if 1 < formula {
-        let judgement = report::judge(rows, columns, settings, count, factors);
-        return without_formula(judgement, report);
+        let judged = report::judge(rows, columns, settings, count, factors);
+        return Err(refusal_before(7, judged.err()));
     }
     report::add(report, rows, columns, settings, count, factors)
 }

@@ -12,7 +12,7 @@ use lib.Dec.{ltb}
 use borrow.Author.Tests.{ltb-true, ltb-false, lt-ltb, le-ltb}
 use borrow.Author.Count.{below_more}
 use Rattle.laws.specs.Lists.{total}
-use Rattle.laws.specs.Settle.{Lowering, start_of, round_of, settle_of, settled_of, relaxed_of, Still, due_of, Kept, Rule, Eased, Sweeping, Settling}
+use Rattle.laws.specs.Settle.{Lowering, start_of, round_of, settle_of, settled_of, relaxed_of, Still, Kept, Rule, Eased, Sweeping, Settling}
 use Rattle.laws.proofs.Tests.{two}
 use Rattle.laws.proofs.Lists.{length-tab, get_or-tab, get_or-tab-past, in_list, total-set, total-same}
 
@@ -176,7 +176,3 @@ module _ (w : Lowering) (P : ℕ → ℕ → Type 0) where
 
     pub settling-more : (l m : List ℕ) (r : Bool) → Kept w P l → Sweeping w P l m (length l) r → Settling w P m r
     settling-more l m r k s = record { kept = s.eased.kept k; still = (λ e x v. s.still e x (omega (arith, k.long, rule.within x v))) }
-
-    pub settling-less : (l m : List ℕ) (r again : Bool) → again ≡ true → Sweeping w P l m (length l) r → total m + due_of r < total l + due_of again
-    settling-less l m true again q s = omega (arith, s.fell refl, ap due_of q)
-    settling-less l m false again q s = omega (arith, s.same refl, ap due_of q)

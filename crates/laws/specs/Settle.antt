@@ -36,11 +36,6 @@ relaxed_of w l x = cond (ltb (w.offer l x) (get_or l x 0)) (set l x (w.offer l x
 abbrev pub Still : Lowering → List ℕ → Type 0
 Still w l = (x : ℕ) → w.active x ≡ true → get_or l x 0 ≤ w.offer l x
 
--- 1 if another sweep is due
-abbrev pub due_of : Bool → ℕ
-due_of true = 1
-due_of false = 0
-
 -- ---- the states on the way; P x v says that by the rules the cell x can stand at v
 
 -- what every list on the way has

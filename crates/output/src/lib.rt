@@ -1,36 +1,36 @@
-// Writes bytes, numbers and answers to standard output, for the programs that run stored cases. What is written no contract can say.
-// Each call hands up the error of the first write that fails.
+// Writes what the calls that read a text answer to standard output, for the programs that run stored cases. What is written no contract
+// can say.
 #![tactic(auto)]
 
-use std::io;
+use std::{fmt, io};
 use text::{Header, Refusal};
 
-pub fn write(rt: &impl Print, bytes: &[u8]) -> io::Result<()> {
-    rt.write_all(bytes)
-}
+// Number, place, rows, columns, side and NoData number, zeros where there is none.
+#[derive(Drop)]
+struct Answer(Result<Header, Refusal>);
 
-// A blank and a number.
-pub fn write_natural(rt: &impl Print, n: u64) -> io::Result<()> {
-    print!(rt; " {n}")
-}
-
-// A blank and a height in cm.
-pub fn write_height(rt: &impl Print, height: i32) -> io::Result<()> {
-    print!(rt; " {height}")
-}
-
-// What a call that reads a text answers: number, place, rows, columns, side and NoData number.
-pub fn write_answer(rt: &impl Print, answer: Result<Header, Refusal>) -> io::Result<()> {
-    match answer {
-        Ok(h) => print!(rt; " 0 0 {} {} {} {}", h.rows, h.columns, h.side, h.no_data),
-        Err(r) => print!(rt; " {} {} 0 0 0 0", r.fault.number(), r.place),
+impl fmt::Display for Answer {
+    fn fmt<W: fmt::Write>(&self, f: &mut fmt::Formatter<W>) -> fmt::Result {
+        match self.0 {
+            Ok(h) => write!(f, "0 0 {} {} {} {}", h.rows, h.columns, h.side, h.no_data),
+            Err(r) => write!(f, "{} {} 0 0 0 0", r.fault.number(), r.place),
+        }
     }
 }
 
-// The heights one after the other.
-pub fn write_heights(rt: &impl Print, heights: &[i32]) -> io::Result<()> {
+// The answer of the call that reads the header, then that of the call that reads the cells, its name before it and the lent heights
+// behind. Hands up the error of the first write that fails.
+pub fn write_answers(
+    rt: &impl Print,
+    header: Result<Header, Refusal>,
+    call: &str,
+    cells: Result<Header, Refusal>,
+    heights: &[i32],
+) -> io::Result<()> {
+    println!(rt; "header {}", Answer(header))?;
+    print!(rt; "{call} {}:", Answer(cells))?;
     for height in heights {
-        write_height(rt, *height)?;
+        print!(rt; " {height}")?;
     }
-    Ok(())
+    println!(rt)
 }

@@ -2,9 +2,9 @@
 use mathlib.Core.Path.{◌≡◌, refl, ap}
 use mathlib.Core.List.{List}
 use Prim.Native.Nat.{ℕ}
+use Rattle.std.proofs.Common.{Ok}
 use Rattle.settings.specs.declared.Threshold.TheVariants.{Share}
 use Rattle.settings.specs.declared.Formula.TheVariants.{Older}
-use Rattle.settings.specs.declared.Judged.TheVariants.{Accepted}
 use Rattle.settings.specs.Settings.{judged_of, default_settings}
 use Rattle.sheet.specs.Sheet.{sheet_of}
 use Rattle.programs.specs.Settings.{job_settings, former_default}
@@ -24,6 +24,6 @@ pub job-prints-former : (text : List ℕ) → sheet_of text job_settings ≡ she
 job-prints-former text = ap (sheet_of text) job-is-former
 
 -- the settings are accepted, and mean 50 percent, 50 percent, 10 tenths of a percent and the older formula
-pub job-means : judged_of job_settings ≡ Accepted (record { low = 50; high = 50; threshold = Share 10; formula = Older })
+pub job-means : judged_of job_settings ≡ Ok (record { low = 50; high = 50; threshold = Share 10; formula = Older })
 unfolding judged_of job_settings default_settings
 job-means = refl

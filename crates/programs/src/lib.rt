@@ -1,23 +1,32 @@
-// What the printer and the job share, the sheet of standard input; and the job's settings. RULES 9.3.
+// What the printer and the job share, the sheet of standard input; and the settings of both. RULES 9.3.
 #![tactic(auto)]
 
 ghost use Rattle.std.specs.Prelude.{◌≡◌};
-ghost use Rattle.programs.specs.Settings.{job_settings};
+ghost use Rattle.programs.specs.Settings.{job_settings, printer_settings};
 
-use settings::{Formula, Settings};
+use settings::{Channel, Formula, Settings};
 use std::io;
 
-// The job's settings: cutoffs 0.5, channels by the library's default, and the older steepness formula.
+// The printer's settings: cutoffs 0.5, no channels, and the older steepness formula.
+pub fn printer_settings() -> Settings
+    ensures { result ≡ printer_settings }
+{
+    Settings {
+        low: 0.5,
+        high: 0.5,
+        channel: Channel::NoChannel,
+        formula: Formula::Older,
+    }
+}
+
+// The job's settings: the printer's, but for channels by the library's default.
 pub fn job_settings() -> Settings
     ensures { result ≡ job_settings }
 {
     let default = Settings::default();
-    let channel = default.channel;
     Settings {
-        low: 0.5,
-        high: 0.5,
-        channel: channel,
-        formula: Formula::Older,
+        channel: default.channel,
+        ..printer_settings()
     }
 }
 

@@ -5,22 +5,22 @@ use mathlib.Core.List.{List, [], ◌∷◌, ◌++◌}
 use mathlib.Core.Bool.{true, false}
 use Prim.Native.Nat.{ℕ}
 use native.Mathlib.Omega.{arith}
+use Rattle.std.specs.Prelude.{Ok, Err}
 use Rattle.laws.specs.Tests.{Test, passed, failed, verdict}
 use Rattle.laws.proofs.Verdicts.{test-yes, test-no, verdict-next, verdict-stops, verdict-before, verdict-after, verdict-none}
+use Rattle.text.specs.Faults.{fault_of}
 use Rattle.report.specs.Maps.{Map}
 use Rattle.report.specs.Reports.{report_of}
 use Rattle.report.specs.Joins.{joined, fits}
-use Rattle.report.specs.Answers.{map_tests, fit_test, outcome_of, after_join, after_add}
-use Rattle.report.specs.declared.Answer.TheVariants.{Accepted, Refused}
+use Rattle.report.specs.Answers.{Reported, map_tests, fit_test, outcome, outcome_of, after_join, after_add}
 use Rattle.report.specs.declared.Report.{Report}
-use Rattle.report.specs.declared.Reported.{Reported}
 use Rattle.report.proofs.Lists.{report-append}
 
 abbrev pub accepted : Report → Reported
-accepted report = record { answer = Accepted; report = report }
+accepted report = outcome (Ok tt) report
 
 abbrev pub refused : ℕ → ℕ → Report → Reported
-refused number place report = record { answer = Refused (record { number = number; place = place }); report = report }
+refused number place report = outcome (Err (record { fault = fault_of number; place = place })) report
 
 -- ---- by the verdict
 
@@ -33,7 +33,7 @@ unfolding outcome_of
 outcome-accepted report next e = ap (outcome_of report next) e
 
 -- an outcome that is accepted is the next report
-outcome-next : (report next : Report) (t : Test) → (outcome_of report next t).answer ≡ Accepted → (outcome_of report next t).report ≡ next
+outcome-next : (report next : Report) (t : Test) → (outcome_of report next t).answer ≡ Ok tt → (outcome_of report next t).report ≡ next
 unfolding outcome_of
 outcome-next report next passed e = refl
 outcome-next report next (failed n p) e = absurd (let z : ◌≡◌ {A = ℕ} 0 1 = cc in omega arith)
@@ -79,7 +79,7 @@ module _ (l : List Map) (m : Map) where
     add-list-full f = add-joins (report_of l) m e ∙ join-lists-full l (m ∷ []) f
 
   -- whenever the map is accepted
-  pub add-accepted : (after_add (report_of l) m).answer ≡ Accepted → (after_add (report_of l) m).report ≡ report_of (l ++ (m ∷ []))
+  pub add-accepted : (after_add (report_of l) m).answer ≡ Ok tt → (after_add (report_of l) m).report ≡ report_of (l ++ (m ∷ []))
   unfolding after_add
   add-accepted e =
       let next = joined (report_of l) (report_of (m ∷ [])) in

@@ -1,13 +1,14 @@
 -- Laws of what the loops over the cells of a map count. Assumes nothing.
-use mathlib.Core.Path.{◌≡◌, refl, sym, ap, ap₂, subst, ◌∙◌}
+use mathlib.Core.Path.{◌≡◌, refl, sym, ap, ap₂, ◌∙◌}
 use mathlib.Core.List.{List}
 use mathlib.Core.Bool.{Bool, true, false, not, ◌&&◌}
 use mathlib.Core.Logic.{◌⊎◌, inl, inr, ⊎_elim}
 use Prim.Native.Nat.{ℕ, zero, suc, ◌+◌, ◌*◌, ◌≤◌, ◌<◌}
 use native.Mathlib.Omega.{arith}
 use native.Mathlib.Decide.{dec_lt, ℕ_discrete}
-use lib.ListN.{get_or}
+use lib.ListN.{length, get_or}
 use lib.Dec.{ltb, leb}
+use mir.Val.{bool_byte}
 use borrow.Author.Tests.{lt-ltb, le-ltb, le-leb, lt-leb, eq-eqb, ne_eqb}
 use Rattle.laws.specs.Sums.{sum_to, when}
 use Rattle.laws.proofs.Sums.{sum-none, sum_more, sum_ones, sum-ext, sum-add, when-under, when-yes, when-no}
@@ -17,7 +18,8 @@ use Rattle.factor.specs.Grid.{no_data_factor}
 use Rattle.report.specs.Maps.{is_factor, is_zero, is_long, is_between, is_from}
 use Rattle.report.specs.Reports.{rank_of}
 use Rattle.report.specs.declared.classes.Counts.{Counts}
-use Rattle.report.specs.InnerCells.{count_to, factors_to, all_to, below, is_no_data, is_wet, Numbers32, CountIn, Counted}
+use Rattle.report.specs.InnerCells.{count_to, factors_to, all_to, below, is_no_data, is_wet, Numbers32, Block, Counted, Few}
+use Rattle.report.proofs.InnerSpans.{sum-after}
 
 -- ---- counts, cell by cell
 
@@ -34,43 +36,53 @@ module _ (test : ℕ → Bool) (l : List ℕ) where
   unfolding count_to
   count-few n = sum_ones n (λ x. when (test (get_or l x 0)) 1) (λ x h. when-under (test (get_or l x 0)) 1)
 
-  -- a count in a block, one cell more
-  pub count-step : (a x c r : ℕ) → CountIn test l a x c → r ≡ c + when (test (get_or l x 0)) 1 → CountIn test l a (x + 1) r
-  count-step a x c r h e = omega (arith, count-more x)
+  -- the cells of a block after those before it
+  pub count-block : {block : List ℕ} {from : ℕ} → Block l from block →
+      count_to test l (from + length block) ≡ count_to test l from + count_to test block (length block)
+  unfolding count_to
+  count-block {block} {from} b =
+      sum-after from (length block) (λ x. when (test (get_or l x 0)) 1)
+      ∙ ap (λ (n : ℕ). sum_to from (λ x. when (test (get_or l x 0)) 1) + n)
+      (sum-ext (length block) (λ x. when (test (get_or l (from + x) 0)) 1) (λ x. when (test (get_or block x 0)) 1)
+      (λ x h. ap (λ (v : ℕ). when (test v) 1) (sym (b.same x h))))
 
--- an empty block
+-- a test as a number
+pub bit : (b : Bool) → bool_byte b ≡ when b 1
+unfolding when
+bit true = refl
+bit false = refl
+
+pub when-bit : (b : Bool) → bool_byte b ≤ 1
+when-bit true = omega arith
+when-bit false = omega arith
+
+-- no cells
 abbrev pub no_counts : Counts
 no_counts = record { zero = 0; under1 = 0; under5 = 0; under10 = 0; known = 0; no_data = 0; lower = 0 }
 
-pub counted_none : (l : List ℕ) (a given : ℕ) → Counted l a a given no_counts
-counted_none l a given =
+pub counted_none : (l : List ℕ) (given : ℕ) → Counted l 0 given no_counts
+counted_none l given =
     record {
-      zero = omega arith;
-      under1 = omega arith;
-      under5 = omega arith;
-      under10 = omega arith;
-      known = omega arith;
-      no-data = omega arith;
-      lower = omega arith;
+      zero = sym (count_none (below 1) l);
+      under1 = sym (count_none (below 100000) l);
+      under5 = sym (count_none (below 500000) l);
+      under10 = sym (count_none (below 1000000) l);
+      known = sym (count_none (below too_long) l);
+      no-data = sym (count_none is_no_data l);
+      lower = sym (count_none (below given) l);
     }
 
--- no count is above the number of cells so far
-abbrev pub Few : Counts → ℕ → Type 0
-Few r n = (r.zero ≤ n) × (r.under1 ≤ n) × (r.under5 ≤ n) × (r.under10 ≤ n) × (r.known ≤ n) × (r.no_data ≤ n) × (r.lower ≤ n)
-
-pub counted-few : {l : List ℕ} {a x given : ℕ} {r : Counts} → Counted l a x given r → Few r x
-counted-few {l} {a} {x} {given} c = (
-  omega (arith, count-few (below 1) l x, c.zero),
-  omega (arith, count-few (below 100000) l x, c.under1),
-  omega (arith, count-few (below 500000) l x, c.under5),
-  omega (arith, count-few (below 1000000) l x, c.under10),
-  omega (arith, count-few (below too_long) l x, c.known),
-  omega (arith, count-few is_no_data l x, c.no-data),
-  omega (arith, count-few (below given) l x, c.lower),
-)
-
-pub counted-at : {l : List ℕ} {a x e given : ℕ} {r : Counts} → x ≡ e → Counted l a x given r → Counted l a e given r
-counted-at {l} {a} {x} {e} {given} {r} q h = subst (λ (n : ℕ). Counted l a n given r) q h
+pub counted-few : {l : List ℕ} {n given : ℕ} {r : Counts} → Counted l n given r → Few r n
+counted-few {l} {n} {given} c =
+    record {
+      zero = omega (arith, count-few (below 1) l n, c.zero);
+      under1 = omega (arith, count-few (below 100000) l n, c.under1);
+      under5 = omega (arith, count-few (below 500000) l n, c.under5);
+      under10 = omega (arith, count-few (below 1000000) l n, c.under10);
+      known = omega (arith, count-few (below too_long) l n, c.known);
+      no-data = omega (arith, count-few is_no_data l n, c.no-data);
+      lower = omega (arith, count-few (below given) l n, c.lower);
+    }
 
 -- tests that agree on the list
 pub count-ext : (p q : ℕ → Bool) (l : List ℕ) (n : ℕ) → ((x : ℕ) → x < n → p (get_or l x 0) ≡ q (get_or l x 0)) → count_to p l n ≡ count_to q l n
@@ -229,6 +241,13 @@ all_none l = sum-none (λ x. get_or l x 0)
 pub all_more : (l : List ℕ) (n : ℕ) → all_to l (n + 1) ≡ all_to l n + get_or l n 0
 unfolding all_to
 all_more l n = sum_more n (λ x. get_or l x 0)
+
+pub all-block : {l block : List ℕ} {from : ℕ} → Block l from block → all_to l (from + length block) ≡ all_to l from + all_to block (length block)
+unfolding all_to
+all-block {l} {block} {from} b =
+    sum-after from (length block) (λ x. get_or l x 0)
+    ∙ ap (λ (n : ℕ). sum_to from (λ x. get_or l x 0) + n)
+    (sum-ext (length block) (λ x. get_or l (from + x) 0) (λ x. get_or block x 0) (λ x h. sym (b.same x h)))
 
 -- ---- counts that are not 0
 

@@ -1,5 +1,5 @@
 -- Laws of the channel rule, as the code bounds it. Assumes nothing.
-use mathlib.Core.Path.{◌≡◌, sym, ap, ◌∙◌}
+use mathlib.Core.Path.{◌≡◌, refl, sym, ap, ◌∙◌}
 use mathlib.Core.List.{List, [], ◌∷◌}
 use mathlib.Core.Bool.{Bool}
 use Prim.Native.Nat.{ℕ, zero, suc, ◌+◌, ◌≤◌, ◌<◌, min}
@@ -31,6 +31,11 @@ module _ (test : ℕ → Bool) where
   pub cells-few : (n : ℕ) → cells_to test n ≤ n
   unfolding cells_to
   cells-few n = sum_ones n (λ x. when (test x) 1) (λ x h. when-under (test x) 1)
+
+-- the counts above one bound, by cell and by count
+pub cells-count : (b : ℕ) (count : List ℕ) → cells_to (λ x. ltb b (get_or count x 0)) (length count) ≡ count_to (above b) count (length count)
+unfolding cells_to count_to
+cells-count b count = refl
 
 -- the largest count stands for itself
 pub bounding-largest : (t : Threshold) (count : List ℕ) {r : ℕ} → r ≡ largest_of (length count) count → Bounding t count r

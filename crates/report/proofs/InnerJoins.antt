@@ -1,128 +1,106 @@
--- Laws of a join, as the code makes it: sums that fit, and the greatest that is kept. Assumes nothing.
-use mathlib.Core.Path.{◌≡◌, refl, sym, ap, ap₂, ◌∙◌}
+-- Laws of a join, as the code makes it: whether every number fits 64 bits. Assumes nothing.
+use mathlib.Core.Path.{◌≡◌, refl, ap, ap₂}
 use mathlib.Core.List.{List, [], ◌∷◌}
-use mathlib.Core.Bool.{Bool, true, false, cond, ◌&&◌}
-use Prim.Native.Nat.{ℕ, ◌+◌, ◌-◌, ◌^◌, ◌≤◌, ◌<◌}
+use mathlib.Core.Logic.{⊎_elim}
+use mathlib.Core.Bool.{true, ◌&&◌}
+use Prim.Native.Nat.{ℕ, ◌+◌, ◌^◌, ◌≤◌, ◌<◌}
+use borrow.Author.Tests.{lt-ltb, le-ltb, ltb-true}
 use native.Mathlib.Omega.{arith}
-use native.Mathlib.Decide.{dec_lt}
-use lib.Dec.{leb}
-use borrow.Author.Tests.{lt-ltb, le-ltb, le-leb, lt-leb, ltb-true}
-use Rattle.laws.proofs.Tests.{and_both, and-false-left, and-false-right}
-use Rattle.report.specs.Joins.{kept_of, joined, fits64, totals_of, all_fit, map_fits, fits}
+use Rattle.std.specs.Prelude.{Option, None, Some, SomeIff}
+use Rattle.laws.proofs.Tests.{two, and_both}
+use Rattle.report.specs.Joins.{counted_on, kept_of, joined, totals_of, all_fit, map_fits, fits}
 use Rattle.report.specs.Answers.{after_join}
-use Rattle.report.specs.InnerJoins.{fitted}
+use Rattle.report.specs.InnerJoins.{MapFits, JoinFits}
 use Rattle.report.specs.declared.Greatest.{Greatest}
-use Rattle.report.specs.declared.Greatest.TheVariants.{Nothing, Found}
 use Rattle.report.specs.declared.Report.{Report}
-use Rattle.report.specs.declared.joins.Kept.TheVariants.{Fitting, TooMany}
 use Rattle.report.proofs.Additions.{accepted, refused, join-fits, join-full}
-
--- ---- sums
-
-pub sum_fits : (a b : ℕ) → b < 18446744073709551616 → leb a (18446744073709551615 - b) ≡ fits64 (a + b)
-sum_fits a b h =
-    elim (dec_lt (a + b) (2 ^ 64)) [
-      | yes k ↦ le-leb a (18446744073709551615 - b) (omega arith) ∙ sym (lt-ltb (a + b) (2 ^ 64) k)
-      | no d ↦ lt-leb a (18446744073709551615 - b) (omega arith) ∙ sym (le-ltb (a + b) (2 ^ 64) (omega arith))
-    ]
-
--- the tests as `a & b & c` joins them
-abbrev pub fit_on : Bool → List ℕ → Bool
-fit_on b [] = b
-fit_on b (n ∷ l) = fit_on (b && fits64 n) l
-
-fit-with : (b : Bool) (l : List ℕ) → fit_on b l ≡ (b && all_fit l)
-unfolding all_fit
-fit-with true [] = refl
-fit-with false [] = refl
-fit-with true (n ∷ l) = fit-with (fits64 n) l
-fit-with false (n ∷ l) = fit-with false l
-
-pub fit_all : (l : List ℕ) → fit_on true l ≡ all_fit l
-fit_all l = fit-with true l
 
 -- every number fits, one by one
 abbrev pub AllFit : List ℕ → Type 0
 AllFit [] = Unit
-AllFit (n ∷ l) = (n < 18446744073709551616) × AllFit l
+AllFit (n ∷ l) = (n < 2 ^ 64) × AllFit l
 
-pub all-fit : (l : List ℕ) → all_fit l ≡ true → AllFit l
+all-fit : (l : List ℕ) → all_fit l ≡ true → AllFit l
 unfolding all_fit
 all-fit [] e = tt
-all-fit (n ∷ l) e = let w = and_both (fits64 n) (all_fit l) e in (ltb-true n (2 ^ 64) w.0, all-fit l w.1)
+all-fit (n ∷ l) e = let w = and_both _ _ e in (ltb-true n (2 ^ 64) w.0, all-fit l w.1)
 
--- ---- the greatest
+fit-all : (l : List ℕ) → AllFit l → all_fit l ≡ true
+unfolding all_fit
+fit-all [] h = refl
+fit-all (n ∷ l) h = ap₂ ◌&&◌ (lt-ltb n (2 ^ 64) h.0) (fit-all l h.1)
 
-pub fitted-yes : (g : Greatest) → map_fits g ≡ true → fitted g ≡ Fitting g
-unfolding fitted
-fitted-yes g e = ap (λ (b : Bool). cond b (Fitting g) TooMany) e
-
-pub fitted-no : (g : Greatest) → map_fits g ≡ false → fitted g ≡ TooMany
-unfolding fitted
-fitted-no g e = ap (λ (b : Bool). cond b (Fitting g) TooMany) e
-
-pub found-fits : (v i x : ℕ) → i < 18446744073709551616 → fitted (Found v i x) ≡ Fitting (Found v i x)
+map-fit : (g : Option Greatest) → map_fits g ≡ true → MapFits g
 unfolding map_fits
-found-fits v i x h = fitted-yes (Found v i x) (lt-ltb i (2 ^ 64) h)
+map-fit None e = tt
+map-fit (Some g) e = ltb-true g.map (2 ^ 64) e
+
+fit-map : (g : Option Greatest) → MapFits g → map_fits g ≡ true
+unfolding map_fits
+fit-map None h = refl
+fit-map (Some g) h = lt-ltb g.map (2 ^ 64) h
 
 -- the cases of what is kept, as the code finds them
-module _ (maps w j y : ℕ) where
-  pub keeps-first : {v i x : ℕ} {second : Greatest} → second ≡ Found v i x → v ≤ w → Found w j y ≡ kept_of maps (Found w j y) second
-  unfolding kept_of
-  keeps-first {v} e h = rw (e, le-ltb w v h)
-
-  pub keeps-second : {v i x : ℕ} {second : Greatest} → second ≡ Found v i x → w < v → Found v (maps + i) x ≡ kept_of maps (Found w j y) second
-  unfolding kept_of
-  keeps-second {v} e h = rw (e, lt-ltb w v h)
-
-  pub keeps-only : {second : Greatest} → second ≡ Nothing → Found w j y ≡ kept_of maps (Found w j y) second
-  unfolding kept_of
-  keeps-only e = rw e
-
-pub keeps-new : (maps : ℕ) {v i x : ℕ} {first second : Greatest} → first ≡ Nothing → second ≡ Found v i x → Found v (maps + i) x ≡ kept_of maps first second
+pub keeps-first : (maps : ℕ) (g h : Greatest) → h.factor ≤ g.factor → kept_of maps (Some g) (Some h) ≡ Some g
 unfolding kept_of
-keeps-new maps d e = rw (d, e)
+keeps-first maps g h k = rw (le-ltb g.factor h.factor k)
 
-pub keeps-none : (maps : ℕ) {first second : Greatest} → first ≡ Nothing → second ≡ Nothing → Fitting Nothing ≡ fitted (kept_of maps first second)
-unfolding kept_of fitted map_fits
-keeps-none maps d e = rw (d, e)
+pub keeps-only : (maps : ℕ) (g : Greatest) → kept_of maps (Some g) None ≡ Some g
+unfolding kept_of
+keeps-only maps g = refl
 
--- ---- the whole of a join
+pub keeps-second : (maps : ℕ) (g h : Greatest) → g.factor < h.factor → kept_of maps (Some g) (Some h) ≡ Some (counted_on maps h)
+unfolding kept_of
+keeps-second maps g h k = rw (lt-ltb g.factor h.factor k)
 
-fitted-is : (g h : Greatest) → Fitting h ≡ fitted g → (map_fits g ≡ true) × (h ≡ g)
-unfolding fitted
-fitted-is g h e = go (map_fits g) e
+pub keeps-new : (maps : ℕ) (h : Greatest) → kept_of maps None (Some h) ≡ Some (counted_on maps h)
+unfolding kept_of
+keeps-new maps h = refl
+
+-- after no maps
+pub after-none : (g : Greatest) → counted_on 0 g ≡ g
+after-none g = let e : 0 + g.map ≡ g.map = omega arith in ap (λ (m : ℕ). counted m) e
   where
-    go : (b : Bool) → Fitting h ≡ cond b (Fitting g) TooMany → (b ≡ true) × (h ≡ g)
-    go true q = (refl, cc)
-    go false q = absurd (let z : ◌≡◌ {A = ℕ} 0 1 = cc in omega arith)
+    counted : ℕ → Greatest
+    counted m = record { factor = g.factor; map = m; cell = g.cell }
 
-fitted-not : (g : Greatest) → TooMany ≡ fitted g → map_fits g ≡ false
-unfolding fitted
-fitted-not g e = go (map_fits g) e
-  where
-    go : (b : Bool) → TooMany ≡ cond b (Fitting g) TooMany → b ≡ false
-    go true q = absurd (let z : ◌≡◌ {A = ℕ} 0 1 = cc in omega arith)
-    go false q = refl
+-- what is kept is answered, if its map fits
+pub some-kept : {k : Option Greatest} {g h : Greatest} → k ≡ Some g → g.map < 2 ^ 64 → h ≡ g → MapFits k × (Some h ≡ k)
+some-kept e m q = rw e (m, ap Some q)
+
+pub none-kept : {r : Option (Option Greatest)} {k : Option Greatest} {g : Greatest} → r ≡ None → k ≡ Some g → (g.map < 2 ^ 64 → ⊥) → SomeIff r (MapFits k) k
+none-kept n e m = rw (n, e) m
 
 module _ (a b : Report) where
-  abbrev kept : Greatest
-  kept = kept_of a.maps a.greatest b.greatest
-
-  -- the greatest's map does not fit
-  pub join-map : TooMany ≡ fitted kept → refused 16 0 a ≡ after_join a b
+  joins-fit : fits (joined a b) ≡ true → JoinFits a b
   unfolding fits joined
-  join-map e = sym (join-full a b (sym (and-false-right (all_fit (totals_of (joined a b))) (map_fits kept) (fitted-not kept e))))
+  joins-fit e =
+      let w = and_both _ _ e in
+      let f : AllFit (totals_of (joined a b)) = all-fit (totals_of (joined a b)) w.0 in
+      record {
+        maps = f.0;
+        valid = f.1.0;
+        channel = f.1.1.0;
+        zero = f.1.1.1.0;
+        long = f.1.1.1.1.0;
+        sum = f.1.1.1.1.1.0;
+        under1 = f.1.1.1.1.1.1.0;
+        from1 = f.1.1.1.1.1.1.1.0;
+        from5 = f.1.1.1.1.1.1.1.1.0;
+        from10 = f.1.1.1.1.1.1.1.1.1.0;
+        greatest = map-fit (kept_of a.maps a.greatest b.greatest) w.1;
+      }
 
-  -- a total does not
-  pub join-total : all_fit (totals_of (joined a b)) ≡ false → refused 16 0 a ≡ after_join a b
+  fit-joins : JoinFits a b → fits (joined a b) ≡ true
   unfolding fits joined
-  join-total e = sym (join-full a b (sym (and-false-left (all_fit (totals_of (joined a b))) (map_fits kept) e)))
+  fit-joins h =
+      ap₂ ◌&&◌
+      (fit-all (totals_of (joined a b))
+      (h.maps, (h.valid, (h.channel, (h.zero, (h.long, (h.sum, (h.under1, (h.from1, (h.from5, (h.from10, tt)))))))))))
+      (fit-map (kept_of a.maps a.greatest b.greatest) h.greatest)
 
-  -- all do
-  pub join-accepts : {g : Greatest} → Fitting g ≡ fitted kept → all_fit (totals_of (joined a b)) ≡ true → accepted (joined a b) ≡ after_join a b
-  unfolding fits joined
-  join-accepts {g} e t = sym (join-fits a b (ap₂ ◌&&◌ t (fitted-is kept g e).0))
+  pub join-accepts : JoinFits a b → after_join a b ≡ accepted (joined a b)
+  join-accepts h = join-fits a b (fit-joins h)
 
-  pub join_kept : {g : Greatest} → Fitting g ≡ fitted kept → g ≡ kept
-  join_kept {g} e = (fitted-is kept g e).1
+  pub join-refuses : (JoinFits a b → ⊥) → after_join a b ≡ refused 16 0 a
+  join-refuses h = ⊎_elim (λ e. absurd (h (joins-fit e))) (λ e. join-full a b e) (two (fits (joined a b)))

@@ -1,121 +1,121 @@
 -- Laws of the tests of a map: what each decides where those before it are passed. Assumes nothing.
-use mathlib.Core.Path.{◌≡◌, refl, sym, ap, ap₂, ◌∙◌}
-use mathlib.Core.Bool.{true, false, ◌&&◌}
+use mathlib.Core.Path.{◌≡◌, refl, sym, ap, ◌∙◌}
+use mathlib.Core.Bool.{true, false}
 use mathlib.Core.List.{List, [], ◌∷◌, ◌++◌}
 use Prim.Native.Nat.{ℕ, ◌*◌}
-use lib.Dec.{eqb}
 use lib.ListN.{length}
-use borrow.Author.Tests.{eq-eqb, ne_eqb}
-use Rattle.laws.specs.Tests.{Test, failed, verdict}
-use Rattle.laws.proofs.Tests.{and-false-left, and-false-right}
-use Rattle.laws.proofs.Verdicts.{passed-failed, verdict-none, verdict-next, verdict-stops}
+use Rattle.std.specs.Prelude.{Result, Ok, Err}
+use Rattle.laws.specs.Tests.{passed, failed, verdict}
+use Rattle.laws.proofs.Verdicts.{passed-failed, test-passed, verdict-none, verdict-next, verdict-stops, verdict-passed, verdict-before, verdict-after}
+use Rattle.text.specs.Faults.{number_of}
 use Rattle.text.specs.Ranges.{size_accepted, all_long, length_test}
 use Rattle.text.proofs.Accepted.{size-passes, rows-fail, columns-fail, lengths-pass, lengths-fail, lengths-passed}
+use Rattle.text.specs.declared.faults.Fault.TheVariants as fault
+use Rattle.text.specs.declared.Refusal.{Refusal}
+use Rattle.text.specs.declared.faults.Fault.{Fault}
+use Rattle.text.proofs.FaultNumbers.{back-fault}
 use Rattle.settings.specs.declared.Settings.{Settings}
 use Rattle.settings.specs.declared.Rules.{Rules}
-use Rattle.settings.specs.declared.Judged.TheVariants.{Accepted, Refused}
-use Rattle.settings.specs.Settings.{judged_of, settings_test}
+use Rattle.settings.specs.declared.Setting.{Setting}
+use Rattle.settings.specs.Settings.{rules_of, judged_of, place_of, settings_test}
 use Rattle.settings.proofs.Verdicts.{judged-passed, judged-failed}
-use Rattle.factor.specs.Farms.{one, two, mark_places, second_places, mark_test, farm_tests}
-use Rattle.factor.specs.Answers.{found_in, JudgesRest}
-use Rattle.factor.specs.declared.tests.FarmJudgement.{FarmJudgement}
+use Rattle.factor.specs.Farms.{two, mark_places, second_places, mark_test, farm_tests}
+use Rattle.factor.specs.Answers.{found, JudgesRest}
+use Rattle.factor.specs.declared.tests.FarmRules.{FarmRules}
 use Rattle.report.specs.Maps.{Map, map_of, cells_of}
-use Rattle.report.specs.Answers.{early_tests, map_tests, unsound_with, judgement_for, judgement_of, JudgesFarms}
-use Rattle.report.specs.declared.tests.Judgement.TheVariants.{Sound}
+use Rattle.report.specs.Answers.{early_tests, map_tests, judgement_for, judgement_of, JudgesFarms}
+use Rattle.report.specs.InnerTests.{shape_tests, settings_found}
+
+abbrev lengths_of : Map → List ℕ
+lengths_of m = mark_places m.farms ++ (length m.count ∷ length m.factors ∷ [])
 
 module _ (m : Map) where
-  abbrev lengths : List ℕ
-  lengths = mark_places m.farms ++ (length m.count ∷ length m.factors ∷ [])
-
-  abbrev long : Test
-  long = length_test (cells_of m) lengths
-
-  abbrev chosen : List Test
-  chosen = farm_tests (cells_of m) m.farms
-
-  pub rows-fails : size_accepted m.rows ≡ false → verdict (map_tests m) ≡ failed 1 0
+  tests-are : map_tests m ≡ shape_tests m.rows m.columns (lengths_of m) ++ farm_tests (cells_of m) m.farms
   unfolding map_tests early_tests
-  rows-fails e = verdict-stops (long ∷ chosen) (rows-fail m.rows m.columns e)
+  tests-are = refl
 
-  pub columns-fails : size_accepted m.columns ≡ false → verdict (map_tests m) ≡ failed 1 0
-  unfolding map_tests early_tests
-  columns-fails e = verdict-stops (long ∷ chosen) (columns-fail m.rows m.columns e)
+  pub shape-fails : {n p : ℕ} → failed n p ≡ verdict (shape_tests m.rows m.columns (mark_places m.farms ++ (length m.count ∷ length m.factors ∷ []))) →
+      failed n p ≡ verdict (map_tests m)
+  shape-fails e = sym (ap verdict tests-are ∙ verdict-before (shape_tests m.rows m.columns (lengths_of m)) (farm_tests (cells_of m) m.farms) (sym e))
 
-  module _ (r : size_accepted m.rows ≡ true) (c : size_accepted m.columns ≡ true) where
-    after-size : verdict (map_tests m) ≡ verdict (long ∷ chosen)
-    unfolding map_tests early_tests
-    after-size = verdict-next (long ∷ chosen) (size-passes m.rows m.columns r c)
+  pub shape-passes : passed ≡ verdict (shape_tests m.rows m.columns (mark_places m.farms ++ (length m.count ∷ length m.factors ∷ []))) →
+      verdict (map_tests m) ≡ verdict (farm_tests (cells_of m) m.farms)
+  shape-passes e = ap verdict tests-are ∙ verdict-after (shape_tests m.rows m.columns (lengths_of m)) (farm_tests (cells_of m) m.farms) (sym e)
 
-    pub long-fails : all_long (cells_of m) (mark_places m.farms ++ (length m.count ∷ length m.factors ∷ [])) ≡ false → verdict (map_tests m) ≡ failed 2 0
-    long-fails e = after-size ∙ verdict-stops chosen (lengths-fail (cells_of m) lengths e)
+-- ---- the shape
 
-    pub farms-left : all_long (cells_of m) (mark_places m.farms ++ (length m.count ∷ length m.factors ∷ [])) ≡ true →
-        verdict (map_tests m) ≡ verdict (farm_tests (cells_of m) m.farms)
-    farms-left e = after-size ∙ verdict-next chosen (lengths-pass (cells_of m) lengths e)
+module _ (rows columns : ℕ) (lengths : List ℕ) where
+  pub rows-refused : size_accepted rows ≡ false → failed 1 0 ≡ verdict (shape_tests rows columns lengths)
+  rows-refused e = sym (verdict-stops _ (rows-fail rows columns e))
+
+  pub columns-refused : size_accepted columns ≡ false → failed 1 0 ≡ verdict (shape_tests rows columns lengths)
+  columns-refused e = sym (verdict-stops _ (columns-fail rows columns e))
+
+  module _ (r : size_accepted rows ≡ true) (c : size_accepted columns ≡ true) where
+    pub long-refused : all_long (rows * columns) lengths ≡ false → failed 2 0 ≡ verdict (shape_tests rows columns lengths)
+    long-refused e = sym (verdict-next _ (size-passes rows columns r c) ∙ verdict-stops [] (lengths-fail (rows * columns) lengths e))
+
+    pub shape-sound : all_long (rows * columns) lengths ≡ true → passed ≡ verdict (shape_tests rows columns lengths)
+    shape-sound e = sym (verdict-next _ (size-passes rows columns r c) ∙ verdict-next [] (lengths-pass (rows * columns) lengths e) ∙ verdict-none)
+
+  -- the lists are long if they are passed
+  pub shape-long : passed ≡ verdict (shape_tests rows columns lengths) → all_long (rows * columns) lengths ≡ true
+  unfolding length_test
+  shape-long e = test-passed (all_long (rows * columns) lengths) 2 0 (verdict-passed _ _ (verdict-passed _ _ (sym e)).1).0
 
 -- ---- one farm
 
-module _ (rows columns : ℕ) (s : Settings) (count factors : List ℕ) where
-  abbrev given : Map
-  given = map_of rows columns (one s) count factors
+module _ (s : Settings) (m : Map) where
+  pub one-refused : {f : Refusal} → failed (number_of f.fault) f.place ≡ verdict (map_tests m) → Err f ≡ judgement_of s m
+  unfolding judgement_of judgement_for
+  one-refused {f} e =
+      sym (ap (λ (k : Fault). Err (record { fault = k; place = f.place })) (back-fault f.fault)) ∙ ap (judgement_for (rules_of s)) e
 
-  refuses : {n p : ℕ} → verdict (map_tests given) ≡ failed n p → unsound_with n p ≡ judgement_of s given
-  unfolding judgement_of
-  refuses e = sym (ap (judgement_for _) e)
+  pub one-judged : {r : Result Rules Refusal} → verdict (map_tests m) ≡ verdict (settings_test s ∷ []) → r ≡ settings_found (judged_of s) → r ≡ judgement_of s m
+  unfolding judgement_of judgement_for
+  one-judged {r} left e = e ∙ go (judged_of s) refl
+    where
+      go : (j : Result Rules Setting) → judged_of s ≡ j → settings_found j ≡ judgement_of s m
+      go (Ok rules) q =
+          let w = judged-passed s q in
+          ap Ok w.1 ∙ sym (ap (judgement_for (rules_of s)) (left ∙ verdict-next [] w.0 ∙ verdict-none))
+      go (Err bad) q = one-refused (sym (left ∙ verdict-stops [] (judged-failed s q)))
 
-  pub rows-refused : size_accepted rows ≡ false → unsound_with 1 0 ≡ judgement_of s (map_of rows columns (one s) count factors)
-  rows-refused e = refuses (rows-fails given e)
+-- what is found of one farm's settings: their rules, or the first that is bad
+pub found-rules : (s : Settings) {rules : Rules} → Ok rules ≡ settings_found (judged_of s) → judged_of s ≡ Ok rules
+found-rules s {rules} e = go (judged_of s) e
+  where
+    go : (j : Result Rules Setting) → Ok rules ≡ settings_found j → j ≡ Ok rules
+    go (Ok given) p = cc
+    go (Err bad) p = absurd (cc)
 
-  pub columns-refused : size_accepted columns ≡ false → unsound_with 1 0 ≡ judgement_of s (map_of rows columns (one s) count factors)
-  columns-refused e = refuses (columns-fails given e)
-
-  module _ (r : size_accepted rows ≡ true) (c : size_accepted columns ≡ true) where
-    pub count-refused : (length count ≡ rows * columns → ⊥) → unsound_with 2 0 ≡ judgement_of s (map_of rows columns (one s) count factors)
-    unfolding all_long
-    count-refused d =
-        refuses (long-fails given r c (sym (and-false-left (eqb (length count) (rows * columns)) (eqb (length factors) (rows * columns) && true)
-        (ne_eqb _ _ d))))
-
-    pub factors-refused : (length factors ≡ rows * columns → ⊥) → unsound_with 2 0 ≡ judgement_of s (map_of rows columns (one s) count factors)
-    unfolding all_long
-    factors-refused d =
-        refuses (long-fails given r c (sym (and-false-right (eqb (length count) (rows * columns)) (eqb (length factors) (rows * columns) && true)
-        (sym (and-false-left (eqb (length factors) (rows * columns)) true (ne_eqb _ _ d))))))
-
-    module _ (n : length count ≡ rows * columns) (k : length factors ≡ rows * columns) where
-      after-long : verdict (map_tests given) ≡ verdict (farm_tests (rows * columns) (one s))
-      unfolding all_long
-      after-long = farms-left given r c (ap₂ ◌&&◌ (eq-eqb _ _ n) (ap₂ ◌&&◌ (eq-eqb _ _ k) refl))
-
-      pub settings-refused : {place : ℕ} → judged_of s ≡ Refused place → unsound_with 4 place ≡ judgement_of s (map_of rows columns (one s) count factors)
-      settings-refused e = refuses (after-long ∙ verdict-stops [] (judged-failed s e))
-
-      pub map-sound : {rules : Rules} → judged_of s ≡ Accepted rules → Sound rules ≡ judgement_of s (map_of rows columns (one s) count factors)
-      unfolding judgement_of
-      map-sound e =
-          let w = judged-passed s e in
-          ap Sound w.1 ∙ sym (ap (judgement_for _) (after-long ∙ verdict-next [] w.0 ∙ verdict-none))
+pub found-bad : (s : Settings) {f : Refusal} → Err f ≡ settings_found (judged_of s) →
+    (bad : Setting) × (judged_of s ≡ Err bad) × (failed (number_of f.fault) f.place ≡ failed 4 (place_of bad))
+found-bad s {f} e = go (judged_of s) e
+  where
+    go : (j : Result Rules Setting) → Err f ≡ settings_found j → (bad : Setting) × (j ≡ Err bad) × (failed (number_of f.fault) f.place ≡ failed 4 (place_of bad))
+    go (Ok given) p = absurd (cc)
+    go (Err bad) p =
+        let same : f ≡ record { fault = fault.Setting; place = place_of bad } = cc in
+        (bad, refl, ap (λ (g : Refusal). failed (number_of g.fault) g.place) same)
 
 -- ---- two farms
 
 module _ (rows columns : ℕ) (first second : Settings) (marks count factors : List ℕ) where
-  abbrev shared : Map
-  shared = map_of rows columns (two first second marks) count factors
-
-  pub farms-refused : {r : FarmJudgement} {n p : ℕ} → found_in r ≡ failed n p → verdict
+  pub farms-refused : {r : Result FarmRules Refusal} {n p : ℕ} → found r ≡ failed n p → verdict
       (map_tests (map_of rows columns (two first second marks) count factors)) ≡ failed n p →
       JudgesFarms first second (map_of rows columns (two first second marks) count factors) r
-  farms-refused e f = record { verdict-is = e ∙ sym f; rules-are = (λ a b q. absurd (passed-failed (sym (ap found_in q) ∙ e))) }
+  farms-refused e f = record { verdict-is = e ∙ sym f; rules-are = (λ rules q. absurd (passed-failed (sym (ap found q) ∙ e))) }
 
   module _ (left : verdict (map_tests (map_of rows columns (two first second marks) count factors)) ≡ verdict
       (farm_tests (rows * columns) (two first second marks))) where
-    pub farms-settings : {j : FarmJudgement} {place : ℕ} → found_in j ≡ failed 4 place → judged_of first ≡ Refused place →
-        JudgesFarms first second (map_of rows columns (two first second marks) count factors) j
+    pub farms-settings : {r : Result FarmRules Refusal} {bad : Setting} → found r ≡ failed 4 (place_of bad) → judged_of first ≡ Err bad →
+        JudgesFarms first second (map_of rows columns (two first second marks) count factors) r
     farms-settings f e = farms-refused f (left ∙ verdict-stops _ (judged-failed first e))
 
-    pub farms-rest : {rules : Rules} {j : FarmJudgement} → all_long (rows * columns) (length marks ∷ length count ∷ length factors ∷ []) ≡ true →
-        judged_of first ≡ Accepted rules →
-        JudgesRest rules second marks j → JudgesFarms first second (map_of rows columns (two first second marks) count factors) j
+    pub farms-rest : {rules : Rules} {r : Result FarmRules Refusal} → all_long (rows * columns) (length marks ∷ length count ∷ length factors ∷ []) ≡ true →
+        judged_of first ≡ Ok rules →
+        JudgesRest rules second marks r → JudgesFarms first second (map_of rows columns (two first second marks) count factors) r
     farms-rest l e r =
         let w = judged-passed first e in
         let places = length marks ∷ length count ∷ length factors ∷ [] in
@@ -123,5 +123,5 @@ module _ (rows columns : ℕ) (first second : Settings) (marks count factors : L
         record {
           verdict-is = r.verdict-is ∙ ap (λ (m : ℕ). verdict (second_places (settings_test second) ∷ mark_test m marks ∷ [])) n
               ∙ sym (left ∙ verdict-next _ w.0);
-          rules-are = (λ a b q. let s = r.rules-are a b q in (s.0 ∙ w.1, s.1));
+          rules-are = (λ given q. let s = r.rules-are given q in (s.0 ∙ w.1, s.1));
         }

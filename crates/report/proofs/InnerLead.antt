@@ -1,21 +1,21 @@
 -- Laws of the lead: the highest rank so far, and a block in which the first cell that has it stands. Assumes nothing.
-use mathlib.Core.Path.{◌≡◌, sym, ◌∙◌}
+use mathlib.Core.Path.{◌≡◌, sym, ap, ◌∙◌}
 use mathlib.Core.List.{List}
 use Prim.Native.Nat.{ℕ, ◌+◌, ◌≤◌, ◌<◌, max}
 use native.Mathlib.Omega.{arith}
 use native.Mathlib.Decide.{dec_lt}
-use lib.ListN.{get_or}
+use lib.ListN.{length, get_or}
 use lib.Dec.{ltb}
 use borrow.Author.Tests.{lt-ltb, le-ltb}
-use Rattle.laws.specs.Sums.{when}
-use Rattle.laws.proofs.Sums.{greatest-none, greatest-more, greatest-ge, greatest-le, greatest-is}
+use Rattle.laws.specs.Sums.{greatest_to, when}
+use Rattle.laws.proofs.Sums.{sum-le, greatest-none, greatest-more, greatest-ext, greatest-ge, greatest-le, greatest-is}
 use Rattle.factor.specs.Cell.{too_long}
 use Rattle.report.specs.Reports.{rank_of}
 use Rattle.report.specs.InnerCells.{count_to, highest_to, Numbers32, Block, Counted, Leading}
 use Rattle.report.specs.declared.classes.Counts.{Counts}
 use Rattle.report.specs.declared.lead.Lead.{Lead}
 use Rattle.report.proofs.InnerCells.{rank-known, rank-none, rank-small, one-yes, one-no}
-use Rattle.report.proofs.InnerSpans.{span-le, span_same}
+use Rattle.report.proofs.InnerSpans.{span_same, greatest-after}
 
 -- ---- the highest rank
 
@@ -40,8 +40,14 @@ module _ (l : List ℕ) where
   unfolding highest_to
   highest-is n h = greatest-is n (λ y. rank_of (get_or l y 0)) h
 
-  highest-up : (a e : ℕ) → a ≤ e → highest_to l a ≤ highest_to l e
-  highest-up a e h = highest-le a (highest_to l e) (λ x k. highest-ge e x (omega arith))
+  pub highest-block : {block : List ℕ} {from : ℕ} → Block l from block →
+      highest_to l (from + length block) ≡ max (highest_to l from) (highest_to block (length block))
+  unfolding highest_to
+  highest-block {block} {from} b =
+      greatest-after from (length block) (λ x. rank_of (get_or l x 0))
+      ∙ ap (λ (n : ℕ). max (greatest_to from (λ x. rank_of (get_or l x 0))) n)
+      (greatest-ext (length block) (λ x. rank_of (get_or l (from + x) 0)) (λ x. rank_of (get_or block x 0))
+      (λ x h. ap rank_of (sym (b.same x h))))
 
 -- ---- a block that is counted
 
@@ -78,49 +84,50 @@ module _ (l : List ℕ) (small : Numbers32 l) where
   highest-small : (n : ℕ) → highest_to l n ≤ too_long
   highest-small n = highest-le l n too_long (λ x h. rank-small (get_or l x 0) (small x))
 
-  module _ (a e : ℕ) (t : Lead) (r : Counts) (block : Block l a e) (led : Leading l a t) (counted : Counted l a e t.rank r) where
-    quiet-counts : r.known ≤ r.lower → (x : ℕ) → a ≤ x → x < e → rank_of (get_or l x 0) ≤ t.rank
-    unfolding count_to
-    quiet-counts h x k j =
-        ranks-low t.rank x
-        (span_same (λ y. when (ltb (get_or l y 0) t.rank) 1) (λ y. when (ltb (get_or l y 0) too_long) 1) a e block.order
-        (λ y p q. below-known t.rank y (omega (arith, highest-small a, led.highest))) (omega (arith, counted.known, counted.lower)) x k j)
+module _ {l block : List ℕ} {from : ℕ} {t : Lead} {r : Counts} (small : Numbers32 block) (b : Block l from block) (led : Leading l from t)
+    (counted : Counted block (length block) t.rank r) where
+  quiet-counts : r.known ≤ r.lower → (x : ℕ) → x < length block → rank_of (get_or block x 0) ≤ t.rank
+  unfolding count_to
+  quiet-counts h x k =
+      ranks-low block small t.rank x
+      (span_same (length block) (λ y. when (ltb (get_or block y 0) t.rank) 1) (λ y. when (ltb (get_or block y 0) too_long) 1)
+      (λ y q. below-known block small t.rank y led.low) (omega (arith, counted.known, counted.lower)) x k)
 
-    counts-quiet : ((x : ℕ) → a ≤ x → x < e → rank_of (get_or l x 0) ≤ t.rank) → r.known ≤ r.lower
-    unfolding count_to
-    counts-quiet q =
-        let le = span-le (λ y. when (ltb (get_or l y 0) too_long) 1) (λ y. when (ltb (get_or l y 0) t.rank) 1) a e block.order
-        (λ y p j. low-ranks t.rank y (q y p j)) in
-        omega (arith, counted.known, counted.lower, le)
+  counts-quiet : ((x : ℕ) → x < length block → rank_of (get_or block x 0) ≤ t.rank) → r.known ≤ r.lower
+  unfolding count_to
+  counts-quiet q =
+      let le = sum-le (length block) (λ y. when (ltb (get_or block y 0) too_long) 1) (λ y. when (ltb (get_or block y 0) t.rank) 1)
+      (λ y j. low-ranks block small t.rank y (q y j)) in
+      omega (arith, counted.known, counted.lower, le)
 
-    -- the lead stays
-    pub lead-stays : r.known ≤ r.lower → Leading l e t
-    lead-stays h =
-        let up = highest-up l a e block.order in
-        let le = highest-le l e t.rank (λ x k. elim (dec_lt x a) [
-          | yes j ↦ omega (arith, highest-ge l a x j, led.highest)
-          | no d ↦ quiet-counts h x (omega arith) k
-        ]) in
-        record { highest = omega (arith, up, le, led.highest); inside = omega (arith, led.inside, block.order); before = led.before; within = led.within }
+  -- the lead stays
+  pub lead-stays : r.known ≤ r.lower → Leading l (from + length block) t
+  lead-stays h =
+      let le = highest-le block (length block) t.rank (quiet-counts h) in
+      record {
+        highest = omega (arith, highest-block l b, le, led.highest);
+        low = led.low;
+        inside = omega (arith, led.inside);
+        before = led.before;
+        within = (λ k. let w = led.within k in (w.0, w.1, omega (arith, w.2), w.3));
+      }
 
-    -- the block takes it
-    module _ (rank : ℕ) (made : max (highest_to l a) rank ≡ highest_to l e) (h : r.lower < r.known) where
-      higher : highest_to l a < rank
-      higher =
-          elim (dec_lt (highest_to l a) rank) [
-            | yes k ↦ k
-            | no d ↦ absurd (omega (arith, counts-quiet (λ x k j. omega (arith, highest-ge l e x j, led.highest))))
-          ]
+  -- the block takes it
+  module _ (rank : ℕ) (made : rank ≡ highest_to block (length block)) (h : r.lower < r.known) where
+    higher : highest_to l from < rank
+    higher =
+        elim (dec_lt (highest_to l from) rank) [
+          | yes k ↦ k
+          | no d ↦ absurd (omega (arith, counts-quiet (λ x k. omega (arith, highest-ge block (length block) x k, led.highest))))
+        ]
 
-      pub lead-moves : Leading l e (record { rank = rank; from = a; to = e })
-      lead-moves =
-          let is : rank ≡ highest_to l e = omega (arith, higher) in
-          record {
-            highest = is;
-            inside = omega arith;
-            before = (λ x k. omega (arith, highest-ge l a x k, higher));
-            within = (λ k. let w = highest-is l e (omega arith) in (w.0, stands w.0 w.2, w.1, w.2 ∙ sym is));
-          }
-        where
-          stands : (x : ℕ) → rank_of (get_or l x 0) ≡ highest_to l e → a ≤ x
-          stands x q = elim (dec_lt x a) [ yes k ↦ absurd (omega (arith, highest-ge l a x k, higher)) | no d ↦ omega arith ]
+    pub lead-moves : Leading l (from + length block) (record { rank = rank; from = from })
+    lead-moves =
+        record {
+          highest = omega (arith, highest-block l b, higher);
+          low = omega (arith, highest-small block small (length block));
+          inside = omega arith;
+          before = (λ x k. omega (arith, highest-ge l from x k, higher));
+          within = (λ k. let w = highest-is block (length block) (omega arith) in
+              (from + w.0, omega arith, omega (arith, w.1), ap rank_of (sym (b.same w.0 w.1)) ∙ w.2 ∙ sym made));
+        }

@@ -1,13 +1,19 @@
 -- Laws of the report of one map, as the code works it out. Assumes nothing.
 use mathlib.Core.Path.{◌≡◌, refl, sym, ap, ◌∙◌}
 use mathlib.Core.List.{List, [], ◌∷◌}
-use mathlib.Core.Bool.{Bool}
+use mathlib.Core.Bool.{Bool, true, false, cond}
 use mathlib.Core.Logic.{inr}
 use Prim.Native.Nat.{ℕ, ◌+◌, ◌-◌, ◌*◌, ◌≤◌, ◌<◌}
 use native.Mathlib.Omega.{arith}
 use native.Mathlib.Decide.{dec_lt}
-use lib.ListN.{get_or}
-use borrow.Author.Tests.{lt-ltb, le-ltb}
+use lib.ListN.{length, drop, get_or}
+use lib.Dec.{eqb}
+use Rattle.std.specs.Prelude.{Option, None, Some}
+use Rattle.std.specs.List.{position, position_or_len}
+use Rattle.std.proofs.lemmas.List.Sums.{fails_before_first}
+use Rattle.std.proofs.lemmas.List.{get_or-drop, length-drop}
+use Rattle.std.proofs.lemmas.List.Quantifiers.{position-Some}
+use borrow.Author.Tests.{lt-ltb, le-ltb, eq-eqb, eqb-true, eqb-false}
 use Rattle.laws.specs.Sums.{sum_to, when}
 use Rattle.laws.proofs.Sums.{when-yes, when-no}
 use Rattle.settings.specs.declared.Settings.{Settings}
@@ -17,10 +23,9 @@ use Rattle.factor.specs.Farms.{one, two, farm_at, of_farm, rules_in}
 use Rattle.factor.specs.Cell.{too_long}
 use Rattle.factor.specs.Channel.{is_channel, largest_of, channel_at}
 use Rattle.report.specs.Maps.{Map, map_of, cells_of, valid_at, channel_in, is_factor, is_zero, is_long, is_between, is_from, factor_at, factor_is}
-use Rattle.report.specs.Reports.{over, cells_with, sum_of, rank_of, greatest_of, report_of}
-use Rattle.report.specs.InnerCells.{count_to, cells_to, factors_to, below, is_wet, Numbers32, Leading, FirstIn, Tallied}
+use Rattle.report.specs.Reports.{found, over, cells_with, sum_of, rank_of, greatest_of, report_of}
+use Rattle.report.specs.InnerCells.{count_to, cells_to, factors_to, below, is_wet, Numbers32, Leading, Tallied}
 use Rattle.report.specs.declared.Greatest.{Greatest}
-use Rattle.report.specs.declared.Greatest.TheVariants.{Nothing, Found}
 use Rattle.report.specs.declared.lead.Lead.{Lead}
 use Rattle.report.specs.declared.tally.Tally.{Tally}
 use Rattle.report.proofs.InnerCells.{count-ext, count-split, under-is, between_split, from-split, zero_is}
@@ -29,6 +34,15 @@ use Rattle.report.proofs.Leaders.{rank_in, rank_at, rank-inside, rank-value, gre
 use Rattle.report.proofs.Lists.{over-one, sheet, report-same}
 
 -- ---- the greatest
+
+-- no place of a list passes a test that finds none
+position-None : (p : ℕ → Bool) (l : List ℕ) → position p l ≡ None → (x : ℕ) → x < length l → p (get_or l x 0) ≡ true → ⊥
+position-None p l e x h t =
+    let n = position_or_len p l in
+    elim (dec_lt n (length l)) [
+      | yes k ↦ absurd (let q : Some n ≡ None = sym (ap (λ (b : Bool). cond b (Some n) None) (lt-ltb n (length l) k)) ∙ e in cc)
+      | no d ↦ absurd (let f : false ≡ true = sym (fails_before_first p l x 0 (omega arith)) ∙ t in cc)
+    ]
 
 module _ (m : Map) (l : List ℕ) (n : ℕ) (same : m.factors ≡ l) (cells : cells_of m ≡ n) where
   -- the map's ranks are the list's
@@ -58,41 +72,57 @@ module _ (m : Map) (l : List ℕ) (n : ℕ) (same : m.factors ≡ l) (cells : ce
         ]
 
     -- no cell leads
-    pub lead-nothing : t.rank ≡ 0 → Nothing ≡ greatest_of (m ∷ [])
-    lead-nothing e = greatest-is-led (m ∷ []) Nothing (λ i x. omega (arith, rank-low i x))
+    pub lead-nothing : t.rank ≡ 0 → None ≡ greatest_of (m ∷ [])
+    lead-nothing e = greatest-is-led (m ∷ []) None (λ i x. omega (arith, rank-low i x))
 
-    -- the cell that the search finds leads
-    module _ (v c : ℕ) (rank : t.rank ≡ v + 1) (found : FirstIn l t.from t.to v c) where
-      abbrev some : (x : ℕ) × (t.from ≤ x) × (x < t.to) × (rank_of (get_or l x 0) ≡ t.rank)
+    module _ (v : ℕ) (rank : t.rank ≡ v + 1) where
+      abbrev some : (x : ℕ) × (t.from ≤ x) × (x < n) × (rank_of (get_or l x 0) ≡ t.rank)
       some = led.within (omega arith)
 
       value : get_or l some.0 0 ≡ v
       value = rank-value (get_or l some.0 0) v (some.3 ∙ rank)
 
-      early : c < t.to
-      early = elim (dec_lt some.0 c) [ yes k ↦ absurd (found.before some.0 some.1 k value) | no d ↦ omega (arith, some.2) ]
+      abbrev rest : List ℕ
+      rest = drop t.from l
 
-      cell-rank : rank_of (get_or l c 0) ≡ v + 1
-      cell-rank = ap rank_of (found.found early ∙ sym value) ∙ some.3 ∙ rank
+      here : (x : ℕ) → t.from ≤ x → get_or rest (x - t.from) 0 ≡ get_or l x 0
+      here x h = get_or-drop t.from l (x - t.from) 0 ∙ ap (λ (k : ℕ). get_or l k 0) (omega arith)
 
-      none_before : (y : ℕ) → rank_of (get_or l y 0) ≡ v + 1 → c ≤ y
-      none_before y e =
-          elim (dec_lt y c) [
-            | yes k ↦ elim (dec_lt y t.from) [
-              | yes b ↦ absurd (omega (arith, led.before y b))
-              | no d ↦ absurd (found.before y (omega arith) k (rank-value (get_or l y 0) v e))
+      -- the search from its place on finds one
+      pub lead-stands : length l ≡ n → position (λ w. eqb w v) rest ≡ None → ⊥
+      lead-stands e none =
+          position-None (λ w. eqb w v) rest none (some.0 - t.from) (omega (arith, length-drop t.from l, some.1, some.2))
+          (eq-eqb _ _ (here some.0 some.1 ∙ value))
+
+      -- and that leads
+      module _ (a : ℕ) (found_at : position (λ w. eqb w v) rest ≡ Some a) where
+        abbrev facts : (a < length rest) × (eqb (get_or rest a 0) v ≡ true) × ((k : ℕ) → k < a → eqb (get_or rest k 0) v ≡ false)
+        facts = position-Some (λ w. eqb w v) rest a 0 found_at
+
+        stands : get_or l (t.from + a) 0 ≡ v
+        stands = sym (get_or-drop t.from l a 0) ∙ eqb-true (get_or rest a 0) v facts.1
+
+        cell-rank : rank_of (get_or l (t.from + a) 0) ≡ v + 1
+        cell-rank = ap rank_of (stands ∙ sym value) ∙ some.3 ∙ rank
+
+        none_before : (y : ℕ) → rank_of (get_or l y 0) ≡ v + 1 → t.from + a ≤ y
+        none_before y e =
+            elim (dec_lt y (t.from + a)) [
+              | yes k ↦ elim (dec_lt y t.from) [
+                | yes b ↦ absurd (omega (arith, led.before y b))
+                | no d ↦ absurd (eqb-false _ _ (facts.2 (y - t.from) (omega arith)) (here y (omega arith) ∙ rank-value (get_or l y 0) v e))
+              ]
+              | no d ↦ omega arith
             ]
-            | no d ↦ omega arith
-          ]
 
-      pub lead-found : Found v 0 c ≡ greatest_of (m ∷ [])
-      lead-found =
-          greatest-is-led (m ∷ []) (Found v 0 c) (record {
-            has = rank_is c (omega (arith, early, led.inside)) ∙ cell-rank;
-            most = (λ i x. omega (arith, rank-low i x));
-            first = (λ i x e. let w = rank-in i x (omega arith) in
-                inr (sym w.0, none_before x (sym (rank_is x w.1) ∙ ap (λ (k : ℕ). rank_at (m ∷ []) k x) (sym w.0) ∙ e)));
-          })
+        pub lead-found : found v 0 (t.from + a) ≡ greatest_of (m ∷ [])
+        lead-found =
+            greatest-is-led (m ∷ []) (found v 0 (t.from + a)) (record {
+              has = rank_is (t.from + a) (omega (arith, none_before some.0 (some.3 ∙ rank), some.2)) ∙ cell-rank;
+              most = (λ i x. omega (arith, rank-low i x));
+              first = (λ i x e. let w = rank-in i x (omega arith) in
+                  inr (sym w.0, none_before x (sym (rank_is x w.1) ∙ ap (λ (k : ℕ). rank_at (m ∷ []) k x) (sym w.0) ∙ e)));
+            })
 
 -- ---- the classes as differences
 
@@ -140,7 +170,7 @@ module _ (m : Map) (n : ℕ) (cells : cells_of m ≡ n) where
   sum_is = sym (over-one m sum_of ∙ ap (λ (k : ℕ). sum_to k (λ x. when (is_factor (factor_at m x)) (factor_at m x))) cells)
 
   -- what the code puts together
-  pub single-is : (t : Tally) {valid channel long sum : ℕ} {greatest : Greatest} →
+  pub single-is : (t : Tally) {valid channel long sum : ℕ} {greatest : Option Greatest} →
       Numbers32 m.factors → Tallied m.factors n t →
       valid ≡ over (m ∷ []) (cells_with valid_at) → channel ≡ over (m ∷ []) (cells_with channel_in) →
       long ≡ count_to is_long m.factors n → sum ≡ factors_to m.factors n → greatest ≡ greatest_of (m ∷ []) →

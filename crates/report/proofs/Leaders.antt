@@ -10,6 +10,7 @@ use native.Mathlib.Omega.{arith}
 use native.Mathlib.Decide.{dec_lt}
 use lib.ListN.{length, get_or, length-map, get_or-eq_default}
 use lib.Dec.{ltb, eqb}
+use Rattle.std.specs.Prelude.{Option, None, Some}
 use borrow.Author.Tests.{ltb-true, lt-ltb, le-ltb, eqb-true, eq-eqb}
 use Rattle.laws.specs.First.{first_of, some_of}
 use Rattle.laws.specs.Sums.{when}
@@ -17,9 +18,8 @@ use Rattle.laws.proofs.First.{first_holds, first-le, some-yes}
 use Rattle.laws.proofs.Sums.{greatest-ge, greatest-is, when-yes, when-no}
 use Rattle.laws.proofs.Tests.{two, and_both}
 use Rattle.report.specs.Maps.{Map, cells_of, is_factor, factor_at}
-use Rattle.report.specs.Reports.{rank_of, highest_in, highest_of, has_factor, first_map, first_cell, found_with, greatest_of}
+use Rattle.report.specs.Reports.{found, rank_of, highest_in, highest_of, has_factor, first_map, first_cell, found_with, greatest_of}
 use Rattle.report.specs.declared.Greatest.{Greatest}
-use Rattle.report.specs.declared.Greatest.TheVariants.{Nothing, Found}
 
 -- one more than the LS of the cell x of a map, and of the map i of a list; 0 where there is none
 unfoldable pub rank_in : ℕ → Map → ℕ
@@ -35,27 +35,27 @@ pub record Leader (maps : List Map) (v i x : ℕ) : Type 0 where
   pub first : (j y : ℕ) → rank_at maps j y ≡ v + 1 → (i < j) ⊎ ((i ≡ j) × (x ≤ y))
 
 -- what a greatest says; none says that no cell has an LS
-abbrev pub Leads : List Map → Greatest → Type 0
-Leads maps Nothing = (i x : ℕ) → rank_at maps i x ≡ 0
-Leads maps (Found v i x) = Leader maps v i x
+abbrev pub Leads : List Map → Option Greatest → Type 0
+Leads maps None = (i x : ℕ) → rank_at maps i x ≡ 0
+Leads maps (Some g) = Leader maps g.factor g.map g.cell
 
 -- ---- only one greatest leads
 
-found-same : {v i x w j y : ℕ} → v ≡ w → i ≡ j → x ≡ y → Found v i x ≡ Found w j y
+found-same : {v i x w j y : ℕ} → v ≡ w → i ≡ j → x ≡ y → found v i x ≡ found w j y
 found-same p q r = cc
 
-leaders-same : {maps : List Map} {v i x w j y : ℕ} → Leader maps v i x → Leader maps w j y → Found v i x ≡ Found w j y
+leaders-same : {maps : List Map} {v i x w j y : ℕ} → Leader maps v i x → Leader maps w j y → found v i x ≡ found w j y
 leaders-same {maps} {v} {i} {x} {w} {j} {y} a b =
     let e : v ≡ w = omega (arith, a.has, b.has, a.most j y, b.most i x) in
     ⊎_elim (λ l. ⊎_elim (λ k. absurd (omega arith)) (λ k. absurd (omega arith)) (b.first i x (omega (arith, a.has))))
     (λ p. ⊎_elim (λ k. absurd (omega (arith, p.0))) (λ q. found-same e p.0 (omega (arith, p.1, q.1))) (b.first i x (omega (arith, a.has))))
     (a.first j y (omega (arith, b.has)))
 
-pub leads-unique : (maps : List Map) (a b : Greatest) → Leads maps a → Leads maps b → a ≡ b
-leads-unique maps Nothing Nothing p q = refl
-leads-unique maps Nothing (Found v i x) p q = absurd (omega (arith, p i x, q.has))
-leads-unique maps (Found v i x) Nothing p q = absurd (omega (arith, q i x, p.has))
-leads-unique maps (Found v i x) (Found w j y) p q = leaders-same p q
+pub leads-unique : (maps : List Map) (a b : Option Greatest) → Leads maps a → Leads maps b → a ≡ b
+leads-unique maps None None p q = refl
+leads-unique maps None (Some h) p q = absurd (omega (arith, p h.map h.cell, q.has))
+leads-unique maps (Some g) None p q = absurd (omega (arith, q g.map g.cell, p.has))
+leads-unique maps (Some g) (Some h) p q = leaders-same p q
 
 -- ---- the map i of a list
 
@@ -161,23 +161,23 @@ module _ (maps : List Map) where
         let p = passes r.0 r.1 (omega (arith, r.2)) in
         omega (arith, first-le (λ i. get_or (map has_cell maps) i false) (length maps) r.0 p.0 p.1, p.0)
 
-    abbrev found : MapAt maps (first_map v maps)
-    found = map_at maps (first_map v maps) map-in
+    abbrev first : MapAt maps (first_map v maps)
+    first = map_at maps (first_map v maps) map-in
 
-    found-has : has_cell found.at ≡ true
+    found-has : has_cell first.at ≡ true
     unfolding first_map
-    found-has = sym (found.tests has_cell) ∙ first_holds (λ i. get_or (map has_cell maps) i false) (length maps) map-in
+    found-has = sym (first.tests has_cell) ∙ first_holds (λ i. get_or (map has_cell maps) i false) (length maps) map-in
 
-    cell_in : first_cell v found.at < cells_of found.at
+    cell_in : first_cell v first.at < cells_of first.at
     unfolding first_cell some_of
-    cell_in = ltb-true (first_of (has_factor v found.at) (cells_of found.at)) (cells_of found.at) found-has
+    cell_in = ltb-true (first_of (has_factor v first.at) (cells_of first.at)) (cells_of first.at) found-has
 
-    cell-has : has_factor v found.at (first_cell v found.at) ≡ true
+    cell-has : has_factor v first.at (first_cell v first.at) ≡ true
     unfolding first_cell
-    cell-has = first_holds (has_factor v found.at) (cells_of found.at) cell_in
+    cell-has = first_holds (has_factor v first.at) (cells_of first.at) cell_in
 
     -- the first cell of the first map is no later than any that has the rank
-    earliest : (j y : ℕ) → rank_at maps j y ≡ v + 1 → (first_map v maps < j) ⊎ ((first_map v maps ≡ j) × (first_cell v found.at ≤ y))
+    earliest : (j y : ℕ) → rank_at maps j y ≡ v + 1 → (first_map v maps < j) ⊎ ((first_map v maps ≡ j) × (first_cell v first.at ≤ y))
     unfolding first_map first_cell rank_at
     earliest j y q =
         let p = passes j y q in
@@ -185,22 +185,22 @@ module _ (maps : List Map) where
         elim (dec_lt (first_map v maps) j) [
           | yes h ↦ inl h
           | no d ↦ (let s : first_map v maps ≡ j = omega arith in
-              let c = rank-has v found.at y (sym (found.numbers (rank_in y)) ∙ ap (λ (i : ℕ). rank_at maps i y) s ∙ q) in
-              inr (s, first-le (has_factor v found.at) (cells_of found.at) y c.0 c.1))
+              let c = rank-has v first.at y (sym (first.numbers (rank_in y)) ∙ ap (λ (i : ℕ). rank_at maps i y) s ∙ q) in
+              inr (s, first-le (has_factor v first.at) (cells_of first.at) y c.0 c.1))
         ]
 
-    leader-is : Leader maps v (first_map v maps) (first_cell v found.at)
+    leader-is : Leader maps v (first_map v maps) (first_cell v first.at)
     unfolding rank_at
     leader-is =
         record {
-          has = found.numbers (rank_in (first_cell v found.at)) ∙ has-rank v found.at (first_cell v found.at) cell_in cell-has;
+          has = first.numbers (rank_in (first_cell v first.at)) ∙ has-rank v first.at (first_cell v first.at) cell_in cell-has;
           most = (λ j y. omega (arith, ranks-under j y));
           first = earliest;
         }
 
     found-leads : Leads maps (found_with maps (suc v))
     unfolding found_with
-    found-leads = subst (λ (x : ℕ). Leader maps v (first_map v maps) x) (sym (found.numbers (first_cell v))) leader-is
+    found-leads = subst (λ (x : ℕ). Leader maps v (first_map v maps) x) (sym (first.numbers (first_cell v))) leader-is
 
   leads-at : (n : ℕ) → highest_of maps ≡ n → Leads maps (found_with maps n)
   unfolding found_with
@@ -212,5 +212,5 @@ module _ (maps : List Map) where
   greatest-leads = leads-at (highest_of maps) refl
 
   -- so whatever leads is the greatest
-  pub greatest-is-led : (g : Greatest) → Leads maps g → g ≡ greatest_of maps
+  pub greatest-is-led : (g : Option Greatest) → Leads maps g → g ≡ greatest_of maps
   greatest-is-led g p = leads-unique maps g (greatest_of maps) p greatest-leads

@@ -9,14 +9,14 @@ use native.Mathlib.Decide.{dec_lt}
 use lib.ListN.{length, get_or, length-map, length-append, get_or-append}
 use lib.Seq.{get_or-append-add}
 use lib.Dec.{ltb}
+use Rattle.std.specs.Prelude.{Option, None, Some}
 use borrow.Author.Tests.{ltb-true, ltb-false}
 use Rattle.laws.specs.Lists.{total}
 use Rattle.laws.proofs.Tests.{two}
 use Rattle.report.specs.Maps.{Map, valid_at, channel_in, is_zero, is_long, is_between, is_from, factor_is}
 use Rattle.report.specs.Reports.{over, cells_with, sum_of, greatest_of, report_of}
-use Rattle.report.specs.Joins.{kept_of, joined}
+use Rattle.report.specs.Joins.{counted_on, kept_of, joined}
 use Rattle.report.specs.declared.Greatest.{Greatest}
-use Rattle.report.specs.declared.Greatest.TheVariants.{Nothing, Found}
 use Rattle.report.specs.declared.Report.{Report}
 use Rattle.report.proofs.Leaders.{rank_in, rank_at, Leader, Leads, rank-inside, greatest-leads, greatest-is-led}
 
@@ -74,18 +74,18 @@ module _ (l k : List Map) where
             (rank-either j y));
       }
 
-  kept-leads : (a b : Greatest) → Leads l a → Leads k b → Leads (l ++ k) (kept_of (length l) a b)
+  kept-leads : (a b : Option Greatest) → Leads l a → Leads k b → Leads (l ++ k) (kept_of (length l) a b)
   unfolding kept_of
-  kept-leads Nothing Nothing p q = λ i x. ⊎_elim (λ r. r.1 ∙ p i x) (λ r. r.1 ∙ q (i - length l) x) (rank-either i x)
-  kept-leads (Found w j y) Nothing p q = keeps p (λ i x. omega (arith, q i x)) (rank-inside l j y (omega (arith, p.has)))
-  kept-leads Nothing (Found v i x) p q = takes q (λ j y. omega (arith, p j y))
-  kept-leads (Found w j y) (Found v i x) p q =
+  kept-leads None None p q = λ i x. ⊎_elim (λ r. r.1 ∙ p i x) (λ r. r.1 ∙ q (i - length l) x) (rank-either i x)
+  kept-leads (Some g) None p q = keeps p (λ i x. omega (arith, q i x)) (rank-inside l g.map g.cell (omega (arith, p.has)))
+  kept-leads None (Some h) p q = takes q (λ j y. omega (arith, p j y))
+  kept-leads (Some g) (Some h) p q =
       ⊎_elim
-      (λ t. subst (λ (b : Bool). Leads (l ++ k) (cond b (Found v (length l + i) x) (Found w j y))) (sym t)
-      (takes q (λ i' x'. omega (arith, p.most i' x', ltb-true w v t))))
-      (λ t. subst (λ (b : Bool). Leads (l ++ k) (cond b (Found v (length l + i) x) (Found w j y))) (sym t)
-      (keeps p (λ i' x'. omega (arith, q.most i' x', ltb-false w v t)) (rank-inside l j y (omega (arith, p.has)))))
-      (two (ltb w v))
+      (λ t. subst (λ (b : Bool). Leads (l ++ k) (cond b (Some (counted_on (length l) h)) (Some g))) (sym t)
+      (takes q (λ i x. omega (arith, p.most i x, ltb-true g.factor h.factor t))))
+      (λ t. subst (λ (b : Bool). Leads (l ++ k) (cond b (Some (counted_on (length l) h)) (Some g))) (sym t)
+      (keeps p (λ i x. omega (arith, q.most i x, ltb-false g.factor h.factor t)) (rank-inside l g.map g.cell (omega (arith, p.has)))))
+      (two (ltb g.factor h.factor))
 
   pub greatest-append : greatest_of (l ++ k) ≡ kept_of (length l) (greatest_of l) (greatest_of k)
   greatest-append =
@@ -96,7 +96,7 @@ module _ (l k : List Map) where
 -- ---- the report
 
 -- reports that are the same number by number
-abbrev pub sheet : ℕ → ℕ → ℕ → ℕ → ℕ → ℕ → ℕ → ℕ → ℕ → ℕ → Greatest → Report
+abbrev pub sheet : ℕ → ℕ → ℕ → ℕ → ℕ → ℕ → ℕ → ℕ → ℕ → ℕ → Option Greatest → Report
 sheet maps valid channel zeros long sum under1 from1 from5 from10 greatest =
     record {
       maps = maps;
@@ -112,7 +112,7 @@ sheet maps valid channel zeros long sum under1 from1 from5 from10 greatest =
       greatest = greatest;
     }
 
-pub report-same : {a b c d e f g h i j a' b' c' d' e' f' g' h' i' j' : ℕ} {k k' : Greatest} →
+pub report-same : {a b c d e f g h i j a' b' c' d' e' f' g' h' i' j' : ℕ} {k k' : Option Greatest} →
     a ≡ a' → b ≡ b' → c ≡ c' → d ≡ d' → e ≡ e' → f ≡ f' → g ≡ g' → h ≡ h' → i ≡ i' → j ≡ j' → k ≡ k' →
     sheet a b c d e f g h i j k ≡ sheet a' b' c' d' e' f' g' h' i' j' k'
 report-same q r s t u v w x y z o = cc
@@ -127,6 +127,6 @@ report-append l k =
     (over-append l k (cells_with (factor_is (is_between 500000 1000000)))) (over-append l k (cells_with (factor_is (is_from 1000000)))) (greatest-append l k)
 
 -- the report of no maps
-pub report-empty : report_of [] ≡ sheet 0 0 0 0 0 0 0 0 0 0 Nothing
+pub report-empty : report_of [] ≡ sheet 0 0 0 0 0 0 0 0 0 0 None
 unfolding report_of
 report-empty = refl

@@ -1,22 +1,19 @@
 -- RULES 12.4 and 12.5: what the calls of a report answer, and the report that they give back; the laws of Additions say what it is of a list. Assumes nothing.
-use Rattle.std.specs.Prelude.{List, [], ◌∷◌, ◌++◌, ℕ, ◌≡◌, length}
+use Rattle.std.specs.Prelude.{List, [], ◌∷◌, ◌++◌, ◌≡◌, length, Result, Ok, Err}
 use Rattle.laws.specs.Tests.{Test, passed, failed, test, verdict}
 use Rattle.text.specs.Ranges.{size_test, length_test}
 use Rattle.settings.specs.declared.Settings.{Settings}
 use Rattle.settings.specs.declared.Rules.{Rules}
 use Rattle.settings.specs.Settings.{rules_of, settings_test}
 use Rattle.factor.specs.Farms.{mark_places, settings_tests, mark_test, mark_tests}
-use Rattle.factor.specs.Answers.{found_in}
-use Rattle.factor.specs.declared.tests.FarmJudgement.{FarmJudgement}
-use Rattle.factor.specs.declared.tests.FarmJudgement.TheVariants as farm
+use Rattle.factor.specs.Answers.{found}
+use Rattle.factor.specs.declared.tests.FarmRules.{FarmRules}
 use Rattle.report.specs.Maps.{Map, cells_of}
 use Rattle.report.specs.Reports.{report_of}
 use Rattle.report.specs.Joins.{joined, fits}
-use Rattle.report.specs.declared.Answer.TheVariants.{Accepted, Refused}
+use Rattle.text.specs.declared.Refusal.{Refusal}
+use Rattle.text.specs.Faults.{fault_of}
 use Rattle.report.specs.declared.Report.{Report}
-use Rattle.report.specs.declared.Reported.{Reported}
-use Rattle.report.specs.declared.tests.Judgement.{Judgement}
-use Rattle.report.specs.declared.tests.Judgement.TheVariants.{Sound, Unsound}
 
 -- 1, 2 and 4 as the map call has them
 unfoldable pub early_tests : Map → List Test
@@ -36,10 +33,19 @@ unfoldable pub fit_test : Report → Test
 unfolding fits
 fit_test r = test (fits r) 16 0
 
+-- an answer with the report afterwards
+pub record Reported : Type 0 where
+  pub answer : Result (Unit {0}) Refusal
+  pub report : Report
+
+abbrev pub outcome : Result (Unit {0}) Refusal → Report → Reported
+outcome answer report = record { answer = answer; report = report }
+
 -- what a verdict makes of a report: the next one, or at a refusal the same
 unfoldable pub outcome_of : Report → Report → Test → Reported
-outcome_of report next passed = record { answer = Accepted; report = next }
-outcome_of report next (failed number place) = record { answer = Refused (record { number = number; place = place }); report = report }
+unfolding fault_of
+outcome_of report next passed = outcome (Ok tt) next
+outcome_of report next (failed number place) = outcome (Err (record { fault = fault_of number; place = place })) report
 
 -- the whole of a join
 unfoldable pub after_join : Report → Report → Reported
@@ -53,19 +59,17 @@ after_add report m = let next = joined report (report_of (m ∷ [])) in outcome_
 
 -- ---- the tests of a map by themselves
 
-abbrev pub unsound_with : ℕ → ℕ → Judgement
-unsound_with number place = Unsound (record { number = number; place = place })
-
 -- the rules that the settings mean, or the refusal that the verdict tells
-abbrev pub judgement_for : Rules → Test → Judgement
-judgement_for rules passed = Sound rules
-judgement_for rules (failed number place) = unsound_with number place
+unfoldable pub judgement_for : Rules → Test → Result Rules Refusal
+unfolding fault_of
+judgement_for rules passed = Ok rules
+judgement_for rules (failed number place) = Err (record { fault = fault_of number; place = place })
 
-unfoldable pub judgement_of : Settings → Map → Judgement
-unfolding rules_of map_tests verdict
+unfoldable pub judgement_of : Settings → Map → Result Rules Refusal
+unfolding rules_of map_tests verdict judgement_for
 judgement_of settings m = judgement_for (rules_of settings) (verdict (map_tests m))
 
 -- what is found of a map of two farms; the rules are those of their settings
-pub record JudgesFarms (first second : Settings) (m : Map) (r : FarmJudgement) : Type 0 where
-  pub verdict-is : found_in r ≡ verdict (map_tests m)
-  pub rules-are : (f s : Rules) → r ≡ farm.Sound f s → (f ≡ rules_of first) × (s ≡ rules_of second)
+pub record JudgesFarms (first second : Settings) (m : Map) (r : Result FarmRules Refusal) : Type 0 where
+  pub verdict-is : found r ≡ verdict (map_tests m)
+  pub rules-are : (rules : FarmRules) → r ≡ Ok rules → (rules.first ≡ rules_of first) × (rules.second ≡ rules_of second)

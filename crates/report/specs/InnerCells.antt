@@ -1,5 +1,5 @@
 -- What the loops over the cells of one map count: only inner functions cite this file. Assumes nothing.
-use Rattle.std.specs.Prelude.{◌≡◌, List, Bool, not, ℕ, ◌+◌, ◌≤◌, ◌<◌, length, get_or, ltb, eqb}
+use Rattle.std.specs.Prelude.{◌≡◌, List, Bool, not, ℕ, ◌+◌, ◌*◌, ◌≤◌, ◌<◌, length, get_or, ltb, eqb}
 use Rattle.laws.specs.Sums.{sum_to, greatest_to, when}
 use Rattle.settings.specs.declared.Threshold.{Threshold}
 use Rattle.factor.specs.Farms.{farm_at}
@@ -63,42 +63,56 @@ pub record Bounding (threshold : Threshold) (count : List ℕ) (r : ℕ) : Type 
 
 -- ---- LS, block by block
 
--- a block of cells
-pub record Block (l : List ℕ) (from to : ℕ) : Type 0 where
-  pub order : from ≤ to
-  pub inside : to ≤ length l
-  pub few : to ≤ 1048576
+-- a block of the list's numbers, from a place on
+pub record Block (l : List ℕ) (from : ℕ) (block : List ℕ) : Type 0 where
+  pub inside : from + length block ≤ length l
+  pub same : (x : ℕ) → x < length block → get_or block x 0 ≡ get_or l (from + x) 0
 
--- c of the numbers in a block pass the test
+-- how many of the first n numbers pass each test
+pub record Counted (l : List ℕ) (n given : ℕ) (r : Counts) : Type 0 where
+  pub zero : r.zero ≡ count_to (below 1) l n
+  pub under1 : r.under1 ≡ count_to (below 100000) l n
+  pub under5 : r.under5 ≡ count_to (below 500000) l n
+  pub under10 : r.under10 ≡ count_to (below 1000000) l n
+  pub known : r.known ≡ count_to (below too_long) l n
+  pub no-data : r.no_data ≡ count_to is_no_data l n
+  pub lower : r.lower ≡ count_to (below given) l n
+
+-- c of the numbers from one place to under another pass the test
 abbrev pub CountIn : (ℕ → Bool) → List ℕ → ℕ → ℕ → ℕ → Type 0
 CountIn test l from to c = count_to test l from + c ≡ count_to test l to
 
-pub record Counted (l : List ℕ) (from to given : ℕ) (r : Counts) : Type 0 where
+-- and how many of them pass each test
+pub record CountedIn (l : List ℕ) (from to : ℕ) (r : Counts) : Type 0 where
   pub zero : CountIn (below 1) l from to r.zero
   pub under1 : CountIn (below 100000) l from to r.under1
   pub under5 : CountIn (below 500000) l from to r.under5
   pub under10 : CountIn (below 1000000) l from to r.under10
   pub known : CountIn (below too_long) l from to r.known
   pub no-data : CountIn is_no_data l from to r.no_data
-  pub lower : CountIn (below given) l from to r.lower
+
+-- no count is above the number of cells
+pub record Few (r : Counts) (n : ℕ) : Type 0 where
+  pub zero : r.zero ≤ n
+  pub under1 : r.under1 ≤ n
+  pub under5 : r.under5 ≤ n
+  pub under10 : r.under10 ≤ n
+  pub known : r.known ≤ n
+  pub no-data : r.no_data ≤ n
+  pub lower : r.lower ≤ n
 
 -- the ranks of the first n numbers: the highest, and the first that has it
 unfoldable pub highest_to : List ℕ → ℕ → ℕ
 unfolding greatest_to rank_of
 highest_to l n = greatest_to n (λ x. rank_of (get_or l x 0))
 
--- of the first n numbers: the highest rank, and a block in which the first that has it stands
+-- of the first n numbers: the highest rank, and a place from which on the first that has it stands
 pub record Leading (l : List ℕ) (n : ℕ) (t : Lead) : Type 0 where
   pub highest : t.rank ≡ highest_to l n
-  pub inside : t.to ≤ n
+  pub low : t.rank ≤ too_long
+  pub inside : t.from ≤ n
   pub before : (x : ℕ) → x < t.from → rank_of (get_or l x 0) < t.rank
-  pub within : 0 < t.rank → (x : ℕ) × (t.from ≤ x) × (x < t.to) × (rank_of (get_or l x 0) ≡ t.rank)
-
--- r is the first place from one on at which v stands, if one before another has it
-pub record FirstIn (l : List ℕ) (from to v r : ℕ) : Type 0 where
-  pub start : from ≤ r
-  pub before : (x : ℕ) → from ≤ x → x < r → get_or l x 0 ≡ v → ⊥
-  pub found : r < to → get_or l r 0 ≡ v
+  pub within : 0 < t.rank → (x : ℕ) × (t.from ≤ x) × (x < n) × (rank_of (get_or l x 0) ≡ t.rank)
 
 -- the numbers that the first n cells give
 pub record Tallied (l : List ℕ) (n : ℕ) (t : Tally) : Type 0 where
@@ -110,3 +124,13 @@ pub record Tallied (l : List ℕ) (n : ℕ) (t : Tally) : Type 0 where
   pub no-data : t.no_data ≡ count_to is_no_data l n
   pub sum : t.sum ≡ all_to l n
   pub lead : Leading l n t.lead
+
+-- no count and no sum is above what that many cells can give
+pub record FewIn (t : Tally) (n : ℕ) : Type 0 where
+  pub zero : t.zero ≤ n
+  pub under1 : t.under1 ≤ n
+  pub under5 : t.under5 ≤ n
+  pub under10 : t.under10 ≤ n
+  pub known : t.known ≤ n
+  pub no-data : t.no_data ≤ n
+  pub sum : t.sum ≤ n * 4294967295

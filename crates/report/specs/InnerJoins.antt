@@ -1,19 +1,24 @@
--- What the functions of a join answer: only inner functions cite this file. Assumes nothing.
-use Rattle.std.specs.Prelude.{cond}
-use Rattle.report.specs.Joins.{map_fits}
+-- When two reports can be joined: only inner functions cite this file. Assumes nothing.
+use Rattle.std.specs.Prelude.{◌+◌, ◌^◌, ◌<◌, Option, None, Some}
+use Rattle.report.specs.Joins.{kept_of}
 use Rattle.report.specs.declared.Greatest.{Greatest}
-use Rattle.text.specs.declared.Refusal.{Refusal}
-use Rattle.report.specs.declared.Answer.TheVariants.{Refused}
 use Rattle.report.specs.declared.Report.{Report}
-use Rattle.report.specs.declared.Reported.{Reported}
-use Rattle.report.specs.declared.joins.Kept.{Kept}
-use Rattle.report.specs.declared.joins.Kept.TheVariants.{Fitting, TooMany}
 
--- the greatest, if its map fits
-unfoldable pub fitted : Greatest → Kept
-unfolding map_fits
-fitted g = cond (map_fits g) (Fitting g) TooMany
+-- the greatest's map fits 64 bits
+abbrev pub MapFits : Option Greatest → Type 0
+MapFits None = Unit {0}
+MapFits (Some g) = g.map < 2 ^ 64
 
--- a report that is left as it was
-abbrev pub refused_with : Refusal → Report → Reported
-refused_with refusal report = record { answer = Refused refusal; report = report }
+-- every number of two reports joined fits 64 bits
+pub record JoinFits (a b : Report) : Type 0 where
+  pub maps : a.maps + b.maps < 2 ^ 64
+  pub valid : a.valid + b.valid < 2 ^ 64
+  pub channel : a.channel + b.channel < 2 ^ 64
+  pub zero : a.zero + b.zero < 2 ^ 64
+  pub long : a.long + b.long < 2 ^ 64
+  pub sum : a.sum + b.sum < 2 ^ 64
+  pub under1 : a.under1 + b.under1 < 2 ^ 64
+  pub from1 : a.from1 + b.from1 < 2 ^ 64
+  pub from5 : a.from5 + b.from5 < 2 ^ 64
+  pub from10 : a.from10 + b.from10 < 2 ^ 64
+  pub greatest : MapFits (kept_of a.maps a.greatest b.greatest)

@@ -1,14 +1,16 @@
 -- RULES 12.3: two reports joined, and whether every number of a report fits 64 bits. Assumes nothing.
-use Rattle.std.specs.Prelude.{List, [], ◌∷◌, Bool, true, cond, ◌&&◌, ℕ, ◌+◌, ◌^◌, ltb}
+use Rattle.std.specs.Prelude.{List, [], ◌∷◌, Bool, true, cond, ◌&&◌, ℕ, ◌+◌, ◌^◌, ltb, Option, None, Some}
 use Rattle.report.specs.declared.Greatest.{Greatest}
-use Rattle.report.specs.declared.Greatest.TheVariants.{Nothing, Found}
 use Rattle.report.specs.declared.Report.{Report}
 
+abbrev pub counted_on : ℕ → Greatest → Greatest
+counted_on maps g = record { factor = g.factor; map = maps + g.map; cell = g.cell }
+
 -- the first's greatest unless the second's is greater, whose map is counted on from the first's number of maps
-unfoldable pub kept_of : ℕ → Greatest → Greatest → Greatest
-kept_of maps first Nothing = first
-kept_of maps Nothing (Found v i x) = Found v (maps + i) x
-kept_of maps (Found w j y) (Found v i x) = cond (ltb w v) (Found v (maps + i) x) (Found w j y)
+unfoldable pub kept_of : ℕ → Option Greatest → Option Greatest → Option Greatest
+kept_of maps first None = first
+kept_of maps None (Some h) = Some (counted_on maps h)
+kept_of maps (Some g) (Some h) = cond (ltb g.factor h.factor) (Some (counted_on maps h)) (Some g)
 
 unfoldable pub joined : Report → Report → Report
 unfolding kept_of
@@ -40,9 +42,9 @@ all_fit [] = true
 all_fit (n ∷ l) = fits64 n && all_fit l
 
 -- the greatest's map
-unfoldable pub map_fits : Greatest → Bool
-map_fits Nothing = true
-map_fits (Found v i x) = fits64 i
+unfoldable pub map_fits : Option Greatest → Bool
+map_fits None = true
+map_fits (Some g) = fits64 g.map
 
 unfoldable pub fits : Report → Bool
 unfolding all_fit map_fits

@@ -6,3 +6,4 @@ pub mod Answers
 -- What only inner functions cite
 pub mod InnerCells
 pub mod InnerJoins
+pub mod InnerTests

@@ -1,11 +1,10 @@
 -- RULES 12.2: the report of a list of maps, each number cell by cell and map by map. Assumes nothing.
-use Rattle.std.specs.Prelude.{List, map, Bool, false, ◌&&◌, ℕ, zero, suc, ◌+◌, length, get_or, eqb}
+use Rattle.std.specs.Prelude.{List, map, Bool, false, ◌&&◌, ℕ, zero, suc, ◌+◌, length, get_or, eqb, Option, None, Some}
 use Rattle.laws.specs.First.{first_of, some_of}
 use Rattle.laws.specs.Lists.{total}
 use Rattle.laws.specs.Sums.{sum_to, greatest_to, when}
 use Rattle.report.specs.Maps.{Map, cells_of, valid_at, channel_in, is_factor, is_zero, is_long, is_between, is_from, factor_at, factor_is}
 use Rattle.report.specs.declared.Greatest.{Greatest}
-use Rattle.report.specs.declared.Greatest.TheVariants.{Nothing, Found}
 use Rattle.report.specs.declared.Report.{Report}
 
 -- ---- totals
@@ -56,13 +55,17 @@ unfoldable pub first_cell : ℕ → Map → ℕ
 unfolding first_of has_factor
 first_cell v m = first_of (has_factor v m) (cells_of m)
 
--- the greatest LS with the first map and cell that has it, counted from 0; none where the rank is 0
-unfoldable pub found_with : List Map → ℕ → Greatest
-unfolding first_map first_cell
-found_with maps zero = Nothing
-found_with maps (suc v) = let i = first_map v maps in Found v i (get_or (map (first_cell v) maps) i 0)
+-- an LS with its map and cell
+abbrev pub found : ℕ → ℕ → ℕ → Option Greatest
+found v i x = Some (record { factor = v; map = i; cell = x })
 
-unfoldable pub greatest_of : List Map → Greatest
+-- the greatest LS with the first map and cell that has it, counted from 0; none where the rank is 0
+unfoldable pub found_with : List Map → ℕ → Option Greatest
+unfolding first_map first_cell
+found_with maps zero = None
+found_with maps (suc v) = let i = first_map v maps in found v i (get_or (map (first_cell v) maps) i 0)
+
+unfoldable pub greatest_of : List Map → Option Greatest
 unfolding found_with highest_of
 greatest_of maps = found_with maps (highest_of maps)
 

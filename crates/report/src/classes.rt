@@ -1,9 +1,8 @@
 // How many cells of a block have an LS below each bound, and the sum of the block's numbers: branch-free loops, each class being the
 // difference of two counts. RULES 12.1.
-ghost use Rattle.std.specs.Prelude.{◌≡◌, ◌+◌};
-ghost use Rattle.report.specs.InnerCells.{Block, Counted, all_to};
+ghost use Rattle.std.specs.Prelude.{◌≡◌, ◌*◌, ◌≤◌, length};
+ghost use Rattle.report.specs.InnerCells.{Counted, Few, all_to};
 
-use crate::counting::plus_if;
 use factor::TOO_LONG;
 
 // The LS of a NoData cell.
@@ -21,51 +20,42 @@ pub(crate) struct Counts {
     pub(crate) lower: u32,
 }
 
-// Counts the cells from one to under another.
-pub(crate) fn count_below(factors: &[u32], from: usize, to: usize, given: u32) -> Counts
-    requires { Block factors.now from to }
-    ensures { Counted factors.now from to given result }
+// Counts the cells of a block. A test that adds 0 or 1 does not branch, so that the loop counts several cells at once.
+pub(crate) fn count_below(block: &[u32], given: u32) -> Counts
+    requires { length block.now ≤ 1048576 }
+    ensures counted { Counted block.now (length block.now) given result }
+    ensures few { Few result (length block.now) }
 {
-    let mut zero: u32 = 0;
-    let mut under1: u32 = 0;
-    let mut under5: u32 = 0;
-    let mut under10: u32 = 0;
-    let mut known: u32 = 0;
-    let mut no_data: u32 = 0;
-    let mut lower: u32 = 0;
-    let mut x = from;
-    while x < to {
-        let v = factors[x];
-        zero = plus_if(zero, v < 1);
-        under1 = plus_if(under1, v < 100000);
-        under5 = plus_if(under5, v < 500000);
-        under10 = plus_if(under10, v < 1000000);
-        known = plus_if(known, v < TOO_LONG);
-        no_data = plus_if(no_data, v == NO_DATA);
-        lower = plus_if(lower, v < given);
-        x += 1;
+    let mut counts = Counts {
+        zero: 0,
+        under1: 0,
+        under5: 0,
+        under10: 0,
+        known: 0,
+        no_data: 0,
+        lower: 0,
+    };
+    for v in block {
+        counts.zero += u32::from(*v < 1);
+        counts.under1 += u32::from(*v < 100000);
+        counts.under5 += u32::from(*v < 500000);
+        counts.under10 += u32::from(*v < 1000000);
+        counts.known += u32::from(*v < TOO_LONG);
+        counts.no_data += u32::from(*v == NO_DATA);
+        counts.lower += u32::from(*v < given);
     }
-    Counts {
-        zero,
-        under1,
-        under5,
-        under10,
-        known,
-        no_data,
-        lower,
-    }
+    counts
 }
 
-// The sum of the numbers from one cell to under another.
-pub(crate) fn sum_all(factors: &[u32], from: usize, to: usize) -> u64
-    requires { Block factors.now from to }
-    ensures { all_to factors.now from + result ≡ all_to factors.now to }
+// The sum of a block's numbers.
+pub(crate) fn sum_all(block: &[u32]) -> u64
+    requires { length block.now ≤ 1048576 }
+    ensures is { result ≡ all_to block.now (length block.now) }
+    ensures few { result ≤ length block.now * 4294967295 }
 {
     let mut sum: u64 = 0;
-    let mut x = from;
-    while x < to {
-        sum += factors[x] as u64;
-        x += 1;
+    for v in block {
+        sum += u64::from(*v);
     }
     sum
 }

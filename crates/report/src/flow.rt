@@ -1,11 +1,10 @@
 // Valid cells and channel cells, by the flow counts alone. RULES 12.1.
-ghost use Rattle.std.specs.Prelude.{◌≡◌, ◌≤◌, min, length, get_or};
-ghost use Rattle.settings.specs.declared.Rules.{Rules};
+ghost use Rattle.std.specs.Prelude.{◌≡◌, ℕ, ◌<◌, ◌≤◌, min, length, get_or, ltb};
 ghost use Rattle.factor.specs.Farms.{farm_at, of_farm, Marked};
 ghost use Rattle.factor.specs.Channel.{is_channel, largest_of};
-ghost use Rattle.report.specs.InnerCells.{Bounding, Bound, is_wet, above, above_in, count_to, cells_to};
+ghost use Rattle.report.specs.InnerCells.{Bounding, Bound, is_wet, count_to, cells_to};
 
-use crate::counting::{plus_if, wide};
+use factor::FarmRules;
 use settings::Threshold;
 
 // How many cells are valid, and how many are channels.
@@ -21,8 +20,7 @@ fn largest_for(threshold: Threshold, count: &[u32]) -> u32
 {
     match threshold {
         Threshold::Share(_) => factor::largest(count),
-        Threshold::Over(_) => 4294967295,
-        Threshold::Never => 4294967295,
+        Threshold::Over(_) | Threshold::Never => u32::MAX,
     }
 }
 
@@ -30,48 +28,22 @@ fn largest_for(threshold: Threshold, count: &[u32]) -> u32
 fn capped(bound: u64) -> u32
     ensures { result ≡ min bound 4294967295 }
 {
-    if bound < 4294967295 {
-        bound as u32
-    } else {
-        4294967295
-    }
+    u32::try_from(bound).unwrap_or(u32::MAX)
 }
 
-// How many counts are above 0, and how many above the bound.
-fn count_above(count: &[u32], bound: u32) -> Flow
-    requires { length count.now ≤ 1048576 }
-    ensures { (result.valid ≡ count_to is_wet count.now (length count.now))
-        × (result.channel ≡ count_to (above bound) count.now (length count.now)) }
+// How many counts are above 0, and how many above the bound of their cell. A test that adds 0 or 1 does not branch.
+fn count_above<F: Fn(usize) -> u32>(count: &[u32], bound_at: F) -> Flow
+    requires few { length count.now ≤ 1048576 }
+    requires each { (x : ℕ) → x < length count.now → F.pre bound_at x }
+    ensures valid { result.valid ≡ count_to is_wet count.now (length count.now) }
+    ensures channel { (b : ℕ → ℕ) → ((x r : ℕ) → x < length count.now → F.post bound_at x r → r ≡ b x) →
+        result.channel ≡ cells_to (λ x. ltb (b x) (get_or count.now x 0)) (length count.now) }
 {
     let mut dry: u32 = 0;
     let mut channel: u32 = 0;
-    let mut x: usize = 0;
-    while x < count.len() {
-        let n = count[x];
-        dry = plus_if(dry, n == 0);
-        channel = plus_if(channel, bound < n);
-        x += 1;
-    }
-    Flow {
-        valid: (count.len() as u32) - dry,
-        channel,
-    }
-}
-
-// How many counts are above 0, and how many above the bound of their cell's farm.
-fn count_above_in(count: &[u32], marks: &[u8], bounds: &[u32; 2]) -> Flow
-    requires { (length count.now ≤ 1048576) × Marked (length count.now) marks.now }
-    ensures { (result.valid ≡ count_to is_wet count.now (length count.now))
-        × (result.channel ≡ cells_to (above_in bounds.now marks.now count.now) (length count.now)) }
-{
-    let mut dry: u32 = 0;
-    let mut channel: u32 = 0;
-    let mut x: usize = 0;
-    while x < count.len() {
-        let n = count[x];
-        dry = plus_if(dry, n == 0);
-        channel = plus_if(channel, bounds[wide(marks[x])] < n);
-        x += 1;
+    for (x, n) in count.iter().enumerate() {
+        dry += u32::from(*n == 0);
+        channel += u32::from(bound_at(x) < *n);
     }
     Flow {
         valid: (count.len() as u32) - dry,
@@ -88,17 +60,22 @@ fn bound_for(threshold: Threshold, count: &[u32]) -> u32
 }
 
 // The valid cells and the channel cells of a map with these counts, each cell having the channel rule of its farm.
-pub(crate) fn flow_in(first: Threshold, second: Threshold, marks: &[u8], count: &[u32]) -> Flow
+pub(crate) fn flow_in(rules: FarmRules, marks: &[u8], count: &[u32]) -> Flow
     requires { (length count.now ≤ 1048576) × Marked (length count.now) marks.now }
     ensures { (result.valid ≡ count_to is_wet count.now (length count.now))
-        × ((f s : Rules) → f.threshold ≡ first → s.threshold ≡ second →
-        result.channel ≡ cells_to (λ x. is_channel (of_farm f s (farm_at marks.now x)).threshold
+        × (result.channel ≡ cells_to (λ x. is_channel (of_farm rules.first rules.second (farm_at marks.now x)).threshold
         (largest_of (length count.now) count.now) (get_or count.now x 0)) (length count.now)) }
 {
-    let bound = bound_for(first, count);
-    let bound_second = bound_for(second, count);
+    let bound = bound_for(rules.first.threshold, count);
+    let bound_second = bound_for(rules.second.threshold, count);
     let bounds = [bound, bound_second];
-    count_above_in(count, marks, &bounds)
+    count_above(
+        count,
+        |x: usize| -> u32
+            requires { (x < length marks.now) × (get_or marks.now x 0 < 2) }
+            ensures { result ≡ get_or bounds (farm_at marks.entry.now x) 0 }
+        { bounds[usize::from(marks[x])] },
+    )
 }
 
 // The valid cells and the channel cells of a map with these counts.
@@ -108,5 +85,6 @@ pub(crate) fn flow_of(threshold: Threshold, count: &[u32]) -> Flow
         × (result.channel ≡ count_to (is_channel threshold (largest_of (length count.now) count.now)) count.now
         (length count.now)) }
 {
-    count_above(count, bound_for(threshold, count))
+    let bound = bound_for(threshold, count);
+    count_above(count, |_| bound)
 }

@@ -1,11 +1,10 @@
 // The report: one sheet of numbers for the maps of many farms. RULES 12.
 //
 // Every map and every two reports get an answer: no call has a `requires`. A call works out the next report and judges it before it
-// gives it back.
+// takes it on; a refusal leaves the report as it was.
 #![tactic(auto)]
 
 mod classes;
-mod counting;
 mod flow;
 mod joins;
 mod lead;
@@ -17,24 +16,23 @@ ghost use Rattle.std.specs.Prelude.{◌≡◌, []};
 ghost use Rattle.factor.specs.Farms.{one, two};
 ghost use Rattle.report.specs.Maps.{map_of};
 ghost use Rattle.report.specs.Reports.{report_of};
-ghost use Rattle.report.specs.Answers.{after_add, after_join};
-ghost use Rattle.report.specs.InnerJoins.{refused_with};
+ghost use Rattle.report.specs.Answers.{outcome, after_add, after_join};
 
-use factor::FarmJudgement;
-use joins::Kept;
 use settings::Settings;
-pub use tests::{Judgement, judge, judge_farms};
-use text::Refusal;
+pub use tests::{judge, judge_farms};
+use text::{Fault, Refusal};
 
-// The greatest LS, with the first map and cell that has it, counted from 0; none where no cell has an LS.
+// An LS, with the map and the cell that have it, counted from 0.
 #[derive(Clone, Copy)]
-pub enum Greatest {
-    Nothing,
-    Found { factor: u64, map: u64, cell: u64 },
+pub struct Greatest {
+    pub factor: u64,
+    pub map: u64,
+    pub cell: u64,
 }
 
 // The numbers of a list of maps: how many there are, valid cells, channel cells, cells with LS 0, cells too long, the sum of all LS in
-// hundred-thousandths, the cells with LS under 1, from 1 to under 5, from 5 to under 10, and 10 or more, and the greatest LS.
+// hundred-thousandths, the cells with LS under 1, from 1 to under 5, from 5 to under 10, and 10 or more, and the greatest LS, where it
+// comes first; none where no cell has an LS.
 #[derive(Clone, Copy)]
 pub struct Report {
     pub maps: u64,
@@ -47,21 +45,7 @@ pub struct Report {
     pub from1: u64,
     pub from5: u64,
     pub from10: u64,
-    pub greatest: Greatest,
-}
-
-// The answer of a call: whether the report was taken on, or why not.
-#[derive(Clone, Copy)]
-pub enum Answer {
-    Accepted,
-    Refused(Refusal),
-}
-
-// The answer with the report: the next one, or at a refusal the one that was given.
-#[derive(Clone, Copy)]
-pub struct Reported {
-    pub answer: Answer,
-    pub report: Report,
+    pub greatest: Option<Greatest>,
 }
 
 impl Report {
@@ -80,65 +64,43 @@ impl Report {
             from1: 0,
             from5: 0,
             from10: 0,
-            greatest: Greatest::Nothing,
+            greatest: None,
         }
     }
 }
 
-// A report that is left as it was, with the refusal.
-fn refused(refusal: Refusal, report: Report) -> Reported
-    ensures { result ≡ refused_with refusal report }
+// Makes of the reports of two lists of maps that of the one after the other.
+pub fn join(report: &mut Report, other: Report) -> Result<(), Refusal>
+    ensures { outcome result report.new ≡ after_join report.old other }
 {
-    Reported {
-        answer: Answer::Refused(refusal),
-        report,
-    }
-}
-
-// The report of two lists of maps, from the report of each: that of the one after the other.
-pub fn join(report: Report, other: Report) -> Reported
-    ensures { result ≡ after_join report other }
-{
-    let full = Refusal {
-        number: 16,
-        place: 0,
+    let Some(next) = joins::join(*report, other) else {
+        return Err(Refusal {
+            fault: Fault::Overflow,
+            place: 0,
+        });
     };
-    let first = report.greatest;
-    let second = other.greatest;
-    let kept = joins::keep(report.maps, first, second);
-    let Kept::Fitting(greatest) = kept else {
-        return refused(full, report);
-    };
-    if !joins::totals_fit(report, other) {
-        return refused(full, report);
-    }
-    Reported {
-        answer: Answer::Accepted,
-        report: joins::add_numbers(report, other, greatest),
-    }
+    *report = next;
+    Ok(())
 }
 
 // Adds a map of rows times columns cells, mapped with these settings, to a report.
 pub fn add(
-    report: Report,
+    report: &mut Report,
     rows: usize,
     columns: usize,
     settings: Settings,
     count: &[u32],
     factors: &[u32],
-) -> Reported
-    ensures { result ≡ after_add report (map_of rows columns (one settings) count.now factors.now) }
+) -> Result<(), Refusal>
+    ensures { outcome result report.new ≡ after_add report.old (map_of rows columns (one settings) count.now factors.now) }
 {
-    let judgement = judge(rows, columns, settings, count, factors);
-    match judgement {
-        Judgement::Unsound(refusal) => refused(refusal, report),
-        Judgement::Sound(rules) => join(report, single::report_of(rules, count, factors)),
-    }
+    let rules = judge(rows, columns, settings, count, factors)?;
+    join(report, single::report_of(rules, count, factors))
 }
 
 // Adds a map of two farms, each cell having named farm 0 or 1, to a report.
 pub fn add_farms(
-    report: Report,
+    report: &mut Report,
     rows: usize,
     columns: usize,
     first: Settings,
@@ -146,15 +108,9 @@ pub fn add_farms(
     marks: &[u8],
     count: &[u32],
     factors: &[u32],
-) -> Reported
-    ensures { result ≡ after_add report (map_of rows columns (two first second marks.now) count.now factors.now) }
+) -> Result<(), Refusal>
+    ensures { outcome result report.new ≡ after_add report.old (map_of rows columns (two first second marks.now) count.now factors.now) }
 {
-    let judgement = judge_farms(rows, columns, first, second, marks, count, factors);
-    match judgement {
-        FarmJudgement::Unsound(refusal) => refused(refusal, report),
-        FarmJudgement::Sound { first, second } => join(
-            report,
-            single::report_in(first, second, marks, count, factors),
-        ),
-    }
+    let rules = judge_farms(rows, columns, first, second, marks, count, factors)?;
+    join(report, single::report_in(rules, marks, count, factors))
 }

@@ -11,7 +11,7 @@ use crate::classes::NO_DATA;
 use crate::flow::Flow;
 use crate::tally::Tally;
 use crate::{Report, flow, lead, tally};
-use factor::TOO_LONG;
+use factor::{FarmRules, TOO_LONG};
 use settings::Rules;
 
 // The cells too long: those that have neither an LS nor NoData.
@@ -19,7 +19,8 @@ fn long_of(factors: &[u32], tally: Tally) -> u64
     requires { Numbers32 factors.now × Tallied factors.now (length factors.now) tally }
     ensures { result ≡ count_to is_long factors.now (length factors.now) }
 {
-    (factors.len() as u64) - (tally.known as u64) - (tally.no_data as u64)
+    // No From leads from usize to u64.
+    (factors.len() as u64) - u64::from(tally.known) - u64::from(tally.no_data)
 }
 
 // The sum of all LS: that of all numbers, less those of the cells too long and of the NoData cells.
@@ -28,8 +29,7 @@ fn sum_of(factors: &[u32], tally: Tally) -> u64
     ensures { result ≡ factors_to factors.now (length factors.now) }
 {
     let long = long_of(factors, tally);
-    let no_data = tally.no_data as u64;
-    tally.sum - long * (TOO_LONG as u64) - no_data * (NO_DATA as u64)
+    tally.sum - long * u64::from(TOO_LONG) - u64::from(tally.no_data) * u64::from(NO_DATA)
 }
 
 // The report of a map with these valid cells, channel cells and LS.
@@ -41,19 +41,18 @@ fn report_with(flow: Flow, factors: &[u32]) -> Report
         result ≡ report_of (m ∷ []) }
 {
     let t = tally::tally_of(factors);
-    let lead = t.lead;
     Report {
         maps: 1,
-        valid: flow.valid as u64,
-        channel: flow.channel as u64,
-        zero: t.zero as u64,
+        valid: u64::from(flow.valid),
+        channel: u64::from(flow.channel),
+        zero: u64::from(t.zero),
         long: long_of(factors, t),
         sum: sum_of(factors, t),
-        under1: t.under1 as u64,
-        from1: (t.under5 - t.under1) as u64,
-        from5: (t.under10 - t.under5) as u64,
-        from10: (t.known - t.under10) as u64,
-        greatest: lead::greatest_of(factors, lead),
+        under1: u64::from(t.under1),
+        from1: u64::from(t.under5 - t.under1),
+        from5: u64::from(t.under10 - t.under5),
+        from10: u64::from(t.known - t.under10),
+        greatest: lead::greatest_of(factors, t.lead),
     }
 }
 
@@ -63,26 +62,14 @@ pub(crate) fn report_of(rules: Rules, count: &[u32], factors: &[u32]) -> Report
     ensures { (rows columns : ℕ) (settings : Settings) → rules ≡ rules_of settings → rows * columns ≡ length count.now →
         result ≡ report_of (map_of rows columns (one settings) count.now factors.now ∷ []) }
 {
-    let threshold = rules.threshold;
-    report_with(flow::flow_of(threshold, count), factors)
+    report_with(flow::flow_of(rules.threshold, count), factors)
 }
 
 // The report of a map of two farms with these rules, marks, counts and LS.
-pub(crate) fn report_in(
-    first: Rules,
-    second: Rules,
-    marks: &[u8],
-    count: &[u32],
-    factors: &[u32],
-) -> Report
+pub(crate) fn report_in(rules: FarmRules, marks: &[u8], count: &[u32], factors: &[u32]) -> Report
     requires { (length count.now ≤ 1048576) × (length factors.now ≡ length count.now) × Marked (length count.now) marks.now }
-    ensures { (rows columns : ℕ) (s t : Settings) → first ≡ rules_of s → second ≡ rules_of t → rows * columns ≡ length count.now →
+    ensures { (rows columns : ℕ) (s t : Settings) → rules.first ≡ rules_of s → rules.second ≡ rules_of t → rows * columns ≡ length count.now →
         result ≡ report_of (map_of rows columns (two s t marks.now) count.now factors.now ∷ []) }
 {
-    let threshold = first.threshold;
-    let threshold_second = second.threshold;
-    report_with(
-        flow::flow_in(threshold, threshold_second, marks, count),
-        factors,
-    )
+    report_with(flow::flow_in(rules, marks, count), factors)
 }

@@ -1,27 +1,52 @@
 // The tests of a map: refusals 1, 2 and 4, and 19 for two farms. RULES 12.4.
-ghost use Rattle.std.specs.Prelude.{◌≡◌, [], ◌∷◌, length};
-ghost use Rattle.laws.specs.Tests.{failed};
+ghost use Rattle.std.specs.Prelude.{◌≡◌};
+ghost use Rattle.laws.specs.Tests.{verdict};
 ghost use Rattle.text.specs.Ranges.{all_long};
+ghost use Rattle.settings.specs.Settings.{judged_of};
 ghost use Rattle.factor.specs.Farms.{one, two};
-ghost use Rattle.factor.specs.Answers.{found_in};
+ghost use Rattle.factor.specs.Answers.{found};
 ghost use Rattle.report.specs.Maps.{map_of};
-ghost use Rattle.report.specs.Answers.{unsound_with, judgement_of, JudgesFarms};
+ghost use Rattle.report.specs.Answers.{judgement_of, JudgesFarms};
+ghost use Rattle.report.specs.InnerTests.{shape_tests, settings_found};
 
-use factor::FarmJudgement;
-use settings::{Judged, Rules, Settings};
-use text::Refusal;
+use factor::FarmRules;
+use settings::{Rules, Settings};
+use text::{Fault, Refusal};
 
-// What is found of a map: the rules of its settings, or why it is refused.
-#[derive(Clone, Copy)]
-pub enum Judgement {
-    Sound(Rules),
-    Unsound(Refusal),
+// Whether each of these lists has one place per cell.
+fn are_long(cells: usize, lengths: &[usize]) -> bool
+    ensures { result ≡ all_long cells lengths.now }
+{
+    lengths.iter().all(|n| *n == cells)
 }
 
-fn unsound(number: u32, place: usize) -> Judgement
-    ensures { result ≡ unsound_with number place }
+// Makes the tests of the shape and of the lengths of the marks, counts and LS.
+fn judge_shape(rows: usize, columns: usize, lengths: &[usize]) -> Result<(), Refusal>
+    ensures { found result ≡ verdict (shape_tests rows columns lengths.now) }
 {
-    Judgement::Unsound(Refusal { number, place })
+    if !text::is_size(rows) || !text::is_size(columns) {
+        return Err(Refusal {
+            fault: Fault::Size,
+            place: 0,
+        });
+    }
+    if !are_long(rows * columns, lengths) {
+        return Err(Refusal {
+            fault: Fault::Length,
+            place: 0,
+        });
+    }
+    Ok(())
+}
+
+// Makes the test of one farm's settings.
+fn judge_settings(settings: Settings) -> Result<Rules, Refusal>
+    ensures { result ≡ settings_found (judged_of settings) }
+{
+    settings::judge(settings).map_err(|setting| Refusal {
+        fault: Fault::Setting,
+        place: setting.place(),
+    })
 }
 
 // Makes these tests, in that order, and adds nothing.
@@ -31,39 +56,11 @@ pub fn judge(
     settings: Settings,
     count: &[u32],
     factors: &[u32],
-) -> Judgement
+) -> Result<Rules, Refusal>
     ensures { result ≡ judgement_of settings (map_of rows columns (one settings) count.now factors.now) }
 {
-    if !text::is_size(rows) {
-        return unsound(1, 0);
-    }
-    if !text::is_size(columns) {
-        return unsound(1, 0);
-    }
-    if count.len() != rows * columns {
-        return unsound(2, 0);
-    }
-    if factors.len() != rows * columns {
-        return unsound(2, 0);
-    }
-    let judged = settings::judge(settings);
-    match judged {
-        Judged::Accepted(rules) => Judgement::Sound(rules),
-        Judged::Refused(place) => unsound(4, place),
-    }
-}
-
-fn unsound_farms(number: u32, place: usize) -> FarmJudgement
-    ensures { found_in result ≡ failed number place }
-{
-    FarmJudgement::Unsound(Refusal { number, place })
-}
-
-// Whether marks, counts and LS have one place per cell.
-fn are_long(cells: usize, marks: &[u8], count: &[u32], factors: &[u32]) -> bool
-    ensures { result ≡ all_long cells (length marks.now ∷ length count.now ∷ length factors.now ∷ []) }
-{
-    (marks.len() == cells) & (count.len() == cells) & (factors.len() == cells)
+    judge_shape(rows, columns, &[count.len(), factors.len()])?;
+    judge_settings(settings)
 }
 
 // Makes the tests of a map of two farms, 1, 2, 4 and 19 in that order, and adds nothing.
@@ -75,21 +72,10 @@ pub fn judge_farms(
     marks: &[u8],
     count: &[u32],
     factors: &[u32],
-) -> FarmJudgement
+) -> Result<FarmRules, Refusal>
     ensures { JudgesFarms first second (map_of rows columns (two first second marks.now) count.now factors.now) result }
 {
-    if !text::is_size(rows) {
-        return unsound_farms(1, 0);
-    }
-    if !text::is_size(columns) {
-        return unsound_farms(1, 0);
-    }
-    if !are_long(rows * columns, marks, count, factors) {
-        return unsound_farms(2, 0);
-    }
-    let judged = settings::judge(first);
-    match judged {
-        Judged::Accepted(rules) => factor::judge_rest(rules, second, marks),
-        Judged::Refused(place) => unsound_farms(4, place),
-    }
+    judge_shape(rows, columns, &[marks.len(), count.len(), factors.len()])?;
+    let rules = judge_settings(first)?;
+    factor::judge_rest(rules, second, marks)
 }

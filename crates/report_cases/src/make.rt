@@ -2,10 +2,7 @@
 use report::{Greatest, Report};
 use settings::{Channel, Formula, Settings};
 
-// The greatest number of 64 bits.
-pub(crate) const TOP: u64 = 18446744073709551615;
-
-pub(crate) const NO_DATA: u32 = 4294967295;
+pub(crate) const NO_DATA: u32 = u32::MAX;
 
 pub(crate) fn settings(low: f64, high: f64, channel: Channel) -> Settings {
     Settings {
@@ -20,45 +17,36 @@ pub(crate) fn no_channel() -> Settings {
     settings(0.5, 0.5, Channel::NoChannel)
 }
 
-pub(crate) fn found(factor: u64, map: u64, cell: u64) -> Greatest {
-    Greatest::Found { factor, map, cell }
+pub(crate) fn found(factor: u64, map: u64, cell: u64) -> Option<Greatest> {
+    Some(Greatest { factor, map, cell })
 }
 
 // So many maps, and nothing else but the greatest.
-pub(crate) fn leading(maps: u64, greatest: Greatest) -> Report {
+pub(crate) fn leading(maps: u64, greatest: Option<Greatest>) -> Report {
     Report {
         maps,
-        valid: 0,
-        channel: 0,
-        zero: 0,
-        long: 0,
-        sum: 0,
-        under1: 0,
-        from1: 0,
-        from5: 0,
-        from10: 0,
         greatest,
+        ..Report::empty()
     }
-}
-
-// n where the test holds, else 0.
-fn n_if(test: bool, n: u64) -> u64 {
-    if test { n } else { 0 }
 }
 
 // One number is n: 0 for the number of maps, then the totals in their order.
 pub(crate) fn one(k: u32, n: u64) -> Report {
-    Report {
-        maps: n_if(k == 0, n),
-        valid: n_if(k == 1, n),
-        channel: n_if(k == 2, n),
-        zero: n_if(k == 3, n),
-        long: n_if(k == 4, n),
-        sum: n_if(k == 5, n),
-        under1: n_if(k == 6, n),
-        from1: n_if(k == 7, n),
-        from5: n_if(k == 8, n),
-        from10: n_if(k == 9, n),
-        greatest: Greatest::Nothing,
+    let empty = Report::empty();
+    match k {
+        0 => Report { maps: n, ..empty },
+        1 => Report { valid: n, ..empty },
+        2 => Report {
+            channel: n,
+            ..empty
+        },
+        3 => Report { zero: n, ..empty },
+        4 => Report { long: n, ..empty },
+        5 => Report { sum: n, ..empty },
+        6 => Report { under1: n, ..empty },
+        7 => Report { from1: n, ..empty },
+        8 => Report { from5: n, ..empty },
+        9 => Report { from10: n, ..empty },
+        _ => empty,
     }
 }

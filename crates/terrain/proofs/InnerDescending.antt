@@ -1,10 +1,13 @@
 -- The order from the ridges down as the code makes it: what cells wait for, taking a cell, and that the end is an order of the valid cells. Assumes nothing.
-use Rattle.std.proofs.Common.{◌≡◌, ℕ, ◌+◌, ◌-◌, ◌*◌, ◌<◌, ◌≤◌, Bool, true, eqb, List, length, get_or, set, sym, ap, ◌∙◌, arith, length-set, get_or-set_other, get_or-set_same, eq-eqb, ne_eqb}
-use native.Mathlib.Decide.{ℕ_discrete}
-use Rattle.laws.specs.Lists.{Agrees}
+use Rattle.std.proofs.Common.{◌≡◌, ℕ, ◌+◌, ◌-◌, ◌*◌, ◌<◌, ◌≤◌, Bool, true, cond, eqb, List, length, get_or, set, sym, refl, ap, ◌∙◌, subst, ⊎_elim, arith, length-set, get_or-set_other, get_or-set_same, eq-eqb, ne_eqb}
+use native.Mathlib.Decide.{dec_lt, ℕ_discrete}
+use Rattle.std.proofs.lemmas.List.{set_past}
+use Rattle.laws.specs.Lists.{tab}
 use Rattle.laws.specs.Sums.{sum_to, when}
 use Rattle.laws.specs.Peel.{Taking}
 use Rattle.laws.proofs.Sums.{sum-none, sum_more, sum_ones, when-yes, when-no, when-under}
+use Rattle.laws.proofs.Lists.{length-tab, get_or-tab}
+use Rattle.laws.proofs.Tests.{two}
 use Rattle.laws.proofs.Orders.{order-cell, order-places}
 use Rattle.laws.proofs.Peel.{peel-start, peel-take, next-waits}
 use Rattle.laws.proofs.Rings.{peel-all, falling-ringless}
@@ -12,8 +15,7 @@ use Rattle.terrain.specs.Trail.{mapped_at, receiver_of}
 use Rattle.terrain.specs.InnerTrail.{Drawn, Directed}
 use Rattle.terrain.specs.Downhill.{Downhill}
 use Rattle.terrain.specs.InnerDownhill.{Awaiting, Peeled, Onward}
-use Rattle.terrain.proofs.Trails.{is_mapped, mapped-is}
-use Rattle.terrain.proofs.Receivers.{pointing, falling, code_read}
+use Rattle.terrain.proofs.Receivers.{pointing, falling}
 
 module _ {rows cols : ℕ} {dir : List ℕ} (d : Drawn rows cols dir) where
   abbrev n : ℕ
@@ -27,12 +29,14 @@ module _ {rows cols : ℕ} {dir : List ℕ} (d : Drawn rows cols dir) where
 
   -- ---- what cells wait for
 
-  pub await-start : (mark : ℕ) → 0 < mark → {w : List ℕ} → length w ≡ rows * cols → Agrees (λ (x : ℕ). when (eqb (get_or dir x 0) 255) mark) 0 w (rows * cols) → Awaiting rows cols dir w 0
-  await-start mark some {w} e a =
+  -- before any is seen NoData has a mark above 0, and the others wait for none
+  pub await-start : (mark : ℕ) → 0 < mark → {w : List ℕ} → w ≡ tab (rows * cols) (λ x. cond (mapped_at rows cols dir x) 0 mark) → Awaiting rows cols dir w 0
+  await-start mark some {w} e =
+      let a : (z : ℕ) → z < n → get_or w z 0 ≡ cond (valid z) 0 mark = λ z h. ap (λ (l : List ℕ). get_or l z 0) e ∙ get_or-tab n (λ x. cond (valid x) 0 mark) 0 z h in
       record {
-        long = e;
-        waits = (λ z v. a z ((pointing d).within z v) ∙ when-no mark (ne_eqb (get_or dir z 0) 255 (λ q. mapped-is rows cols dir z v (code_read d z ((pointing d).within z v) ∙ q))) ∙ sym (sum-none (λ u. when (eqb (recv u) z) 1)));
-        shut = (λ z h q. is_mapped rows cols dir z (λ t. omega (arith, a z h, when-yes mark (eq-eqb (get_or dir z 0) 255 (sym (code_read d z h) ∙ t)))));
+        long = ap length e ∙ length-tab n (λ x. cond (valid x) 0 mark);
+        waits = (λ z v. a z ((pointing d).within z v) ∙ ap (λ (b : Bool). cond b 0 mark) v ∙ sym (sum-none (λ u. when (eqb (recv u) z) 1)));
+        shut = (λ z h q. ⊎_elim (λ t. t) (λ f. absurd (omega (arith, a z h ∙ ap (λ (b : Bool). cond b 0 mark) f))) (two (valid z)));
       }
 
   module _ {w : List ℕ} {x : ℕ} (a : Awaiting rows cols dir w x) where
@@ -64,6 +68,15 @@ module _ {rows cols : ℕ} {dir : List ℕ} (d : Drawn rows cols dir) where
               | yes g ↦ omega (arith, s, a.waits z v, ap (λ (i : ℕ). get_or w i 0) g, ap (λ (i : ℕ). get_or (set w y m) i 0) g, get_or-set_same w y m 0 (omega (arith, a.long)), when-yes 1 (eq-eqb (recv x) z (sym (g ∙ e))))
               | no g ↦ omega (arith, s, a.waits z v, get_or-set_other w y z m 0 g, when-no 1 (ne_eqb (recv x) z (λ t. g (sym (e ∙ t)))))
             ]
+
+  -- the cell x is seen by the one that it points at, if it points at one
+  pub await-next : {w : List ℕ} {x : ℕ} → Awaiting rows cols dir w x → {l : List ℕ} → l ≡ set w (receiver_of rows cols dir x) (get_or w (receiver_of rows cols dir x) 0 + 1) → Awaiting rows cols dir l (x + 1)
+  await-next {w} {x} a {l} e =
+      subst (λ (k : List ℕ). Awaiting rows cols dir k (x + 1)) (sym e)
+      (elim (dec_lt (recv x) n) [
+        | yes h ↦ await-on a refl h refl
+        | no f ↦ subst (λ (k : List ℕ). Awaiting rows cols dir k (x + 1)) (sym (set_past w (recv x) (get_or w (recv x) 0 + 1) (omega (arith, a.long)))) (await-off a (omega arith))
+      ])
 
   pub await-peeled : {w order : List ℕ} → length order ≡ rows * cols → Awaiting rows cols dir w (rows * cols) → Peeled rows cols dir order w 0 0 (rows * cols)
   await-peeled o a = peel-start (pointing d) o a.long a.waits a.shut

@@ -1,16 +1,16 @@
 -- The search for rings as the code makes it: levels and what cells wait for in one word each, counting, taking a cell, and that what is left over at the end is exactly the
 -- cells on rings. Assumes nothing.
-use Rattle.std.proofs.Common.{◌≡◌, ℕ, ◌+◌, ◌-◌, ◌*◌, ◌%◌, ◌<◌, ◌≤◌, true, ◌&&◌, eqb, ltb, leb, Option, position, List, length, get_or, set, sym, refl, ap, ◌∙◌, ap₂, ⊎_elim, true≢false, arith, length-set, get_or-set_other, get_or-set_same, ext_get_or, ltb-true, lt-ltb, ne_eqb, le-leb, leb-true}
+use Rattle.std.proofs.Common.{◌≡◌, ℕ, ◌+◌, ◌-◌, ◌*◌, ◌%◌, ◌<◌, ◌≤◌, true, cond, ◌&&◌, eqb, ltb, leb, Option, position, List, length, get_or, set, sym, refl, ap, ◌∙◌, ap₂, subst, ⊎_elim, true≢false, arith, length-set, get_or-set_other, get_or-set_same, ext_get_or, ltb-true, lt-ltb, le-leb, leb-true}
 use native.Mathlib.Decide.{dec_lt, ℕ_discrete}
 use lib.ListN.{length-map, get_or-map, get_or-eq_default}
+use Rattle.std.proofs.lemmas.List.{set_past}
 use Rattle.std.proofs.lemmas.List.Sums.{position_or_len_is}
 use Rattle.laws.specs.Lists.{tab}
 use Rattle.laws.specs.Sums.{when}
 use Rattle.laws.specs.First.{first_of}
 use Rattle.laws.specs.Orders.{stands_in}
 use Rattle.laws.proofs.Tests.{two, and_both}
-use Rattle.laws.proofs.Lists.{length-tab, get_or-tab}
-use Rattle.laws.proofs.Sums.{when-no}
+use Rattle.laws.proofs.Sums.{sum-none}
 use Rattle.laws.proofs.First.{first_holds, first-top, first-before, first-ext}
 use Rattle.laws.proofs.Orders.{stands-none, placed-store, placed-other}
 use Rattle.laws.proofs.Peel.{hand-cell, hand-room, next-new, left_le, peel-begin, peel-pass, peel-less}
@@ -20,7 +20,7 @@ use Rattle.terrain.specs.Given.{ring_at, first_ring}
 use Rattle.terrain.specs.InnerTrail.{Drawn}
 use Rattle.terrain.specs.InnerDownhill.{Peeled}
 use Rattle.terrain.specs.InnerGiven.{Keeping, wait_place, Noted, cell_below, left_word, left_at, levels_in, SameLevels, Counting, Searching, Following}
-use Rattle.terrain.proofs.Receivers.{pointing, mapped-code}
+use Rattle.terrain.proofs.Receivers.{pointing}
 use Rattle.terrain.proofs.Inflows.{inflow-few}
 use Rattle.terrain.proofs.Rings.{ring-is, is-ring}
 use Rattle.terrain.proofs.InnerDescending.{await-start, await-off, await-on, await-peeled, taken-last, taken-waits, taken_next}
@@ -46,15 +46,7 @@ same_set words x v h e =
 
 -- what cells wait for before any is seen: NoData is shut
 start_waits : ℕ → ℕ → List ℕ → List ℕ
-start_waits rows cols dir = tab (rows * cols) (λ x. when (eqb (get_or dir x 0) 255) 9)
-
-start-wide : (rows cols : ℕ) (dir : List ℕ) → length (start_waits rows cols dir) ≡ rows * cols
-unfolding start_waits
-start-wide rows cols dir = length-tab (rows * cols) (λ x. when (eqb (get_or dir x 0) 255) 9)
-
-start-at : (rows cols : ℕ) (dir : List ℕ) (z : ℕ) → z < rows * cols → get_or (start_waits rows cols dir) z 0 ≡ when (eqb (get_or dir z 0) 255) 9
-unfolding start_waits
-start-at rows cols dir z h = get_or-tab (rows * cols) (λ x. when (eqb (get_or dir x 0) 255) 9) 0 z h
+start_waits rows cols dir = tab (rows * cols) (λ x. cond (mapped_at rows cols dir x) 0 9)
 
 module _ {rows cols : ℕ} {dir : List ℕ} where
   -- ---- words
@@ -94,8 +86,9 @@ module _ {rows cols : ℕ} {dir : List ℕ} where
   -- ---- counting
 
   pub count-start : {lv : List ℕ} → Keeping rows cols lv dir → Counting rows cols dir lv 0
+  unfolding start_waits
   count-start {lv} k =
-      let d = k.drawn in
+      let a = await-start k.drawn 9 (omega arith) {w = start_waits rows cols dir} refl in
       record {
         lv = lv;
         waiting = start_waits rows cols dir;
@@ -103,11 +96,11 @@ module _ {rows cols : ℕ} {dir : List ℕ} where
         noted =
             record {
               long = k.levels.long;
-              wide = start-wide rows cols dir;
-              is = (λ z v. omega (arith, start-at rows cols dir z ((pointing d).within z v), when-no 9 (ne_eqb (get_or dir z 0) 255 (mapped-code d z v))));
+              wide = a.long;
+              is = (λ z v. omega (arith, a.waits z v, sum-none (λ u. when (eqb (receiver_of rows cols dir u) z) 1)));
               none = (λ z v. elim (dec_lt 0 (get_or lv z 0)) [ yes l ↦ absurd (true≢false (sym (k.mapped z ∙ lt-ltb 0 (get_or lv z 0) l) ∙ v)) | no f ↦ omega arith ]);
             };
-        awaits = await-start d 9 (omega arith) (start-wide rows cols dir) (start-at rows cols dir);
+        awaits = a;
       }
 
   module _ {words : List ℕ} {x : ℕ} (s : Counting rows cols dir words x) where
@@ -131,6 +124,19 @@ module _ {rows cols : ℕ} {dir : List ℕ} where
             noted = noted-set s.noted y (get_or s.waiting y 0 + 1) h there (omega (arith, s.noted.is y there));
             awaits = await-on s.keeps.drawn s.awaits e h refl;
           }
+
+  -- the cell x is seen by the one that it points at, if it points at one: that has room for it, and levels stay
+  pub count_fits : {words : List ℕ} {x : ℕ} → Counting rows cols dir words x → receiver_of rows cols dir x < rows * cols → get_or words (receiver_of rows cols dir x) 0 + 2097152 < 4294967296
+  count_fits s h = omega (arith, count_small s refl h)
+
+  pub count_next : {words₀ words l : List ℕ} {x : ℕ} → Counting rows cols dir words x → SameLevels words₀ words → l ≡ set words (receiver_of rows cols dir x) (get_or words (receiver_of rows cols dir x) 0 + 2097152) → Counting rows cols dir l (x + 1) × SameLevels words₀ l
+  count_next {words₀} {words} {l} {x} s t e =
+      let y = receiver_of rows cols dir x in
+      subst (λ (k : List ℕ). Counting rows cols dir k (x + 1) × SameLevels words₀ k) (sym e)
+      (elim (dec_lt y (rows * cols)) [
+        | yes h ↦ (count-on s refl h, same_then t (same_set words y (get_or words y 0 + 2097152) (omega (arith, h, s.noted.long)) (omega arith)))
+        | no f ↦ subst (λ (k : List ℕ). Counting rows cols dir k (x + 1) × SameLevels words₀ k) (sym (set_past words y (get_or words y 0 + 2097152) (omega (arith, s.noted.long)))) (count-off s (omega arith), t)
+      ])
 
   -- ---- the search begins
 
@@ -202,6 +208,9 @@ module _ {rows cols : ℕ} {dir : List ℕ} where
       marked-noted : Noted rows cols s.lv dir shutting marked
       marked-noted = noted-set s.noted x 9 h search-valid (omega (arith, hand_word))
 
+      pub marked-same : SameLevels words (set words x (get_or words x 0 + 18874368))
+      marked-same = same_set words x (get_or words x 0 + 18874368) (omega (arith, s.noted.long, h)) (omega arith)
+
       -- a cell that is not shut then is not taken
       marked-shut : (z : ℕ) → mapped_at rows cols dir z ≡ true → get_or shutting z 0 < 9 → stands_in (set s.order p x) (p + 1) z ≡ 0
       marked-shut z v l =
@@ -235,6 +244,9 @@ module _ {rows cols : ℕ} {dir : List ℕ} where
         -- the cell that it points at waits for it
         pub search-next-waits : 2097152 ≤ get_or (set words x (get_or words x 0 + 18874368)) y 0
         search-next-waits = omega (arith, marked-noted.is y next-valid, next-waits)
+
+        pub next-same : SameLevels words (set (set words x (get_or words x 0 + 18874368)) y (get_or (set words x (get_or words x 0 + 18874368)) y 0 - 2097152))
+        next-same = same_then marked-same (same_set marked y (get_or marked y 0 - 2097152) (omega (arith, l, marked-noted.long)) (omega (arith, search-next-waits)))
 
         -- and then for one less
         pub search-next : {hand : ℕ} → Following (rows * cols) b (set (set words x (get_or words x 0 + 18874368)) y (get_or (set words x (get_or words x 0 + 18874368)) y 0 - 2097152)) y hand → Searching rows cols dir (set (set words x (get_or words x 0 + 18874368)) y (get_or (set words x (get_or words x 0 + 18874368)) y 0 - 2097152)) (p + 1) b hand

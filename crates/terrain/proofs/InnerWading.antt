@@ -53,14 +53,18 @@ module _ {rows cols : ℕ} {lv : List ℕ} (levels : Levels rows cols lv) where
   pub flat-lt : (x : ℕ) → flat_at rows cols lv x ≡ true → x < rows * cols
   flat-lt x f = omega (arith, in_list lv x (flat-valid rows cols lv x f), levels.long)
 
-  pub flat_near : (x k : ℕ) → flat_at rows cols lv x ≡ true → k < 8 → neighbour rows cols x k < rows * cols
+  flat_near : (x k : ℕ) → flat_at rows cols lv x ≡ true → k < 8 → neighbour rows cols x k < rows * cols
   flat_near x k f h = omega (arith, in_list lv (nb x k) (inland-valid rows cols lv x k (flat-valid rows cols lv x f) (flat-inland rows cols lv x f).1 h), levels.long)
 
   pub flat-beside : (x k : ℕ) → flat_at rows cols lv x ≡ true → k < 8 → Beside cols x k
   flat-beside x k f h = beside-room rows cols x k levels.sized (omega (arith, flat-lt x f, levels.sized.small)) h (flat_near x k f h)
 
-  pub flat-is-beside : (x k : ℕ) → flat_at rows cols lv x ≡ true → k < 8 → beside_of cols x k ≡ neighbour rows cols x k
+  flat-is-beside : (x k : ℕ) → flat_at rows cols lv x ≡ true → k < 8 → beside_of cols x k ≡ neighbour rows cols x k
   flat-is-beside x k f h = beside-is rows cols x k (flat_near x k f h)
+
+  -- the cell that `beside` gives for the bearing k
+  pub flat-lands : (x k : ℕ) {y : ℕ} → flat_at rows cols lv x ≡ true → k < 8 → y ≡ beside_of cols x k → (y ≡ neighbour rows cols x k) × (y < rows * cols)
+  flat-lands x k f h e = (e ∙ flat-is-beside x k f h, omega (arith, e, flat-is-beside x k f h, flat_near x k f h))
 
   -- flat neighbours have one level: neither is lower
   flat-same : (x k : ℕ) → flat_at rows cols lv x ≡ true → k < 8 → flat_at rows cols lv (nb x k) ≡ true → get_or lv (nb x k) 0 ≡ get_or lv x 0

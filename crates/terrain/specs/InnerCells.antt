@@ -1,5 +1,6 @@
 -- Accepted grids, cells that have all eight neighbours, and where a neighbour lies: only inner functions cite this file. Assumes nothing.
-use Rattle.std.specs.Prelude.{◌≡◌, ℕ, ◌+◌, ◌-◌, ◌*◌, ◌%◌, ◌<◌, ◌≤◌, List, length, ℤ, pos, slice_index, slice_index_or}
+use Rattle.std.specs.Prelude.{◌≡◌, ℕ, ◌+◌, ◌-◌, ◌*◌, ◌%◌, ◌<◌, ◌≤◌, List, length, ℤ, pos, negsuc, slice_index, slice_index_or}
+use Rattle.std.proofs.Props.{props}
 use Rattle.terrain.specs.Cells.{row_steps, col_steps, neighbour, Fine}
 
 -- the size of an accepted grid
@@ -17,6 +18,11 @@ pub record Ready (rows cols : ℕ) (elevation : List ℤ) : Type 0 where
   pub small : rows * cols ≤ 1048576
   pub long : length elevation ≡ rows * cols
   pub fine : (x : ℕ) → x < length elevation → Fine (slice_index_or elevation x (pos 0))
+
+-- that a height is fine has one proof at most, so that a ghost field may hold it
+pub fine-prop : (z : ℤ) → IsProp (Fine z)
+fine-prop (pos n) = hlevel props
+fine-prop (negsuc n) = hlevel props
 
 -- all eight neighbours of x are on the grid: x is in no outer row and in no outer column
 pub record Inside (rows cols x : ℕ) : Type 0 where

@@ -3,29 +3,19 @@
 // is not above the level in hand. If in the end no cell is below its ground, every level can stand, and a cell that nothing can
 // lower any more has its filled level. Sweeps start anew if that fails, which does not happen.
 // A place off the grid reads as level 0, as NoData does: a rim cell is one that sees a 0.
-ghost use Rattle.std.specs.Prelude.{◌≡◌, ℕ, ◌+◌, ◌*◌, ◌<◌, ◌≤◌, map, length, pos, nat_lt, slice_index, slice_index_or};
+ghost use Rattle.std.specs.Prelude.{◌≡◌, ℕ, ◌+◌, ◌*◌, ◌<◌, ◌≤◌, map, length, nat_lt, slice_index};
 ghost use Rattle.laws.specs.Settle.{start_of};
-ghost use Rattle.terrain.specs.Cells.{Fine, levels_of, height_of};
-ghost use Rattle.terrain.specs.InnerCells.{Ready, Sized, Inside, RunsTo};
+ghost use Rattle.terrain.specs.Cells.{levels_of, height_of};
+ghost use Rattle.terrain.specs.InnerCells.{Inside, RunsTo};
 ghost use Rattle.terrain.specs.Filled.{top, lowest_of, filling, filled_levels};
 ghost use Rattle.terrain.specs.InnerFlood.{FaultyCell, Faulty, FillSweeping, Lowered, done_of, queued_from, Waiting, Flooded, FloodedTo, level_in};
 
 use crate::cells::{beside, near, run_end, value_at};
+use crate::ground::{DATUM, Ground};
 use crate::queue::{level_of, open_band, pop, reach_rims, spread, start_word};
-
-// A level is a height plus this, so that NoData is 0.
-const DATUM: i32 = 999900;
 
 // Above every level: the flood has not come here yet.
 const UNREACHED: u32 = 1900000;
-
-// The level of the ground at the cell x.
-fn ground_level(elevation: &[i32], x: usize) -> u32
-    requires { (x < length elevation.now) × Fine (slice_index_or elevation.now x (pos 0)) }
-    ensures { result ≡ slice_index (levels_of elevation.now) x }
-{
-    (elevation[x] + DATUM) as u32
-}
 
 // The height of a level.
 fn height_of(level: u32) -> i32
@@ -36,53 +26,45 @@ fn height_of(level: u32) -> i32
 }
 
 // Whether the lowest level beside a cell x that is inside is below v. Comparing costs half of what the lowest itself would.
-fn has_lower(columns: usize, level: &[u32], x: usize, v: u32) -> bool
-    requires { (rows : ℕ) × Sized rows columns × (length level.now ≡ rows * columns) × Inside rows columns x }
-    ensures { (rows : ℕ) → Inside rows columns x → result ≡ nat_lt (lowest_of rows columns level.now x 8) v }
+fn has_lower(ground: Ground, level: &[u32], x: usize, v: u32) -> bool
+    requires { (length level.now ≡ ground.rows * ground.columns) × Inside ground.rows ground.columns x }
+    ensures { result ≡ nat_lt (lowest_of ground.entry.rows ground.entry.columns level.now x 8) v }
 {
     let mut found = UNREACHED < v;
     for k in 0..8 {
-        found |= level[beside(columns, x, k)] < v;
+        found |= level[beside(ground.columns, x, k)] < v;
     }
     found
 }
 
 // The lowest level beside any cell x.
-fn lowest_near(rows: usize, columns: usize, level: &[u32], x: usize) -> u32
-    requires { Sized rows columns × (x < 1048576) }
-    ensures { result ≡ lowest_of rows columns level.now x 8 }
+fn lowest_near(ground: Ground, level: &[u32], x: usize) -> u32
+    requires { x < 1048576 }
+    ensures { result ≡ lowest_of ground.entry.rows ground.entry.columns level.now x 8 }
 {
     let mut low: u32 = UNREACHED;
     for k in 0..8 {
-        low = low.min(value_at(level, near(rows, columns, x, k)));
+        low = low.min(value_at(level, near(ground.rows, ground.columns, x, k)));
     }
     low
 }
 
 // Sets every word to where it starts from.
-fn start(elevation: &[i32], words: &mut [u32])
-    requires { (rows : ℕ) × (columns : ℕ) × Ready rows columns elevation.now × (length words.old ≡ rows * columns) }
-    ensures { ((rows columns : ℕ) → length words.old ≡ rows * columns
-        → done_of words.new ≡ start_of (filling rows columns (levels_of elevation.now)))
+fn start(ground: Ground, words: &mut [u32])
+    requires { length words.old ≡ ground.rows * ground.columns }
+    ensures { (done_of words.new ≡ start_of (filling ground.entry.rows ground.entry.columns (levels_of ground.entry.elevation.now)))
         × ((x : ℕ) → slice_index words.new x < queued_from) }
 {
     for x in 0..words.len() {
-        words[x] = start_word(ground_level(elevation, x));
+        words[x] = start_word(ground.level_at(x));
     }
 }
 
 // Takes the cells of the list of a level, until it is empty: each is done at this level, and reaches its neighbours.
-fn drain(
-    rows: usize,
-    columns: usize,
-    heads: &mut [u32; 2048],
-    words: &mut [u32],
-    band: usize,
-    list: usize,
-)
-    requires { Sized rows columns × (length words.old ≡ rows * columns) × (band < 1024) × (list < 2048)
-        × Waiting rows columns words.old (level_in band list) }
-    ensures { FloodedTo rows columns words.old words.new (level_in band list) }
+fn drain(ground: Ground, heads: &mut [u32; 2048], words: &mut [u32], band: usize, list: usize)
+    requires { (length words.old ≡ ground.rows * ground.columns) × (band < 1024) × (list < 2048)
+        × Waiting ground.rows ground.columns words.old (level_in band list) }
+    ensures { FloodedTo ground.entry.rows ground.entry.columns words.old words.new (level_in band list) }
 {
     let level = level_of(band, list);
     'turns: for _ in 0..words.len() {
@@ -90,33 +72,34 @@ fn drain(
             return;
         };
         words[x] = level;
-        spread(columns, heads, words, band, level, x);
+        spread(ground.columns, heads, words, band, level, x);
     }
 }
 
 // Takes the cells of a band, the lowest first.
-fn flood_band(rows: usize, columns: usize, heads: &mut [u32; 2048], words: &mut [u32], band: usize)
-    requires { Sized rows columns × (length words.old ≡ rows * columns) × (band < 1024) × Waiting rows columns words.old (level_in band 1024) }
-    ensures { FloodedTo rows columns words.old words.new (level_in (band + 1) 1024) }
+fn flood_band(ground: Ground, heads: &mut [u32; 2048], words: &mut [u32], band: usize)
+    requires { (length words.old ≡ ground.rows * ground.columns) × (band < 1024)
+        × Waiting ground.rows ground.columns words.old (level_in band 1024) }
+    ensures { FloodedTo ground.entry.rows ground.entry.columns words.old words.new (level_in (band + 1) 1024) }
 {
     if heads[band] < 1 {
         return;
     }
     open_band(heads, words, band);
     for list in 1024..2048 {
-        drain(rows, columns, heads, words, band, list);
+        drain(ground, heads, words, band, list);
     }
 }
 
 // Goes from the rim inwards, the lowest cells first.
-fn flood(rows: usize, columns: usize, words: &mut [u32])
-    requires { Sized rows columns × (length words.old ≡ rows * columns) × ((x : ℕ) → slice_index words.old x < queued_from) }
-    ensures { Flooded rows columns words.old words.new }
+fn flood(ground: Ground, words: &mut [u32])
+    requires { (length words.old ≡ ground.rows * ground.columns) × ((x : ℕ) → slice_index words.old x < queued_from) }
+    ensures { Flooded ground.entry.rows ground.entry.columns words.old words.new }
 {
     let mut heads: [u32; 2048] = [0; 2048];
-    reach_rims(columns, &mut heads, words);
+    reach_rims(ground.columns, &mut heads, words);
     for band in 0..1024 {
-        flood_band(rows, columns, &mut heads, words, band);
+        flood_band(ground, &mut heads, words, band);
     }
 }
 
@@ -128,35 +111,35 @@ fn faulty(v: u32, elevation: u32, lower: bool) -> u32
 }
 
 // How many cells are at fault in a run of cells that are inside.
-fn faulty_run(columns: usize, elevation: &[i32], level: &[u32], from: usize, to: usize) -> u32
-    requires { (rows : ℕ) × Ready rows columns elevation.now × (length level.now ≡ rows * columns) × RunsTo rows columns from to }
-    ensures { (rows : ℕ) → RunsTo rows columns from to → Faulty rows columns elevation.now level.now from to result }
+fn faulty_run(ground: Ground, level: &[u32], from: usize, to: usize) -> u32
+    requires { (length level.now ≡ ground.rows * ground.columns) × RunsTo ground.rows ground.columns from to }
+    ensures { Faulty ground.entry.rows ground.entry.columns ground.entry.elevation.now level.now from to result }
 {
     let mut sum: u32 = 0;
     for x in from..to {
         sum += faulty(
             level[x],
-            ground_level(elevation, x),
-            has_lower(columns, level, x, level[x]),
+            ground.level_at(x),
+            has_lower(ground, level, x, level[x]),
         );
     }
     sum
 }
 
 // How many cells are at fault. No `for`: each turn goes on after a run and the cell at its end.
-fn faulty_cells(rows: usize, columns: usize, elevation: &[i32], level: &[u32]) -> u32
-    requires { Ready rows columns elevation.now × (length level.now ≡ rows * columns) }
-    ensures { Faulty rows columns elevation.now level.now 0 (rows * columns) result }
+fn faulty_cells(ground: Ground, level: &[u32]) -> u32
+    requires { length level.now ≡ ground.rows * ground.columns }
+    ensures { Faulty ground.entry.rows ground.entry.columns ground.entry.elevation.now level.now 0 (ground.entry.rows * ground.entry.columns) result }
 {
     let mut sum: u32 = 0;
     let mut x: usize = 0;
     while x < level.len() {
-        let end = run_end(rows, columns, x);
-        sum += faulty_run(columns, elevation, level, x, end);
+        let end = run_end(ground.rows, ground.columns, x);
+        sum += faulty_run(ground, level, x, end);
         sum += faulty(
             level[end],
-            ground_level(elevation, end),
-            lowest_near(rows, columns, level, end) < level[end],
+            ground.level_at(end),
+            lowest_near(ground, level, end) < level[end],
         );
         x = end + 1;
     }
@@ -164,11 +147,11 @@ fn faulty_cells(rows: usize, columns: usize, elevation: &[i32], level: &[u32]) -
 }
 
 // Lowers the cell x to what its ground and its neighbours allow. True if it was higher.
-fn lower(rows: usize, columns: usize, elevation: &[i32], level: &mut [u32], x: usize) -> bool
-    requires { Ready rows columns elevation.now × (length level.old ≡ rows * columns) × (x < rows * columns) }
-    ensures { Lowered rows columns elevation.now level.old level.new x result }
+fn lower(ground: Ground, level: &mut [u32], x: usize) -> bool
+    requires { (length level.old ≡ ground.rows * ground.columns) × (x < ground.rows * ground.columns) }
+    ensures { Lowered ground.entry.rows ground.entry.columns ground.entry.elevation.now level.old level.new x result }
 {
-    let v = ground_level(elevation, x).max(lowest_near(rows, columns, level, x));
+    let v = ground.level_at(x).max(lowest_near(ground, level, x));
     if level[x] <= v {
         return false;
     }
@@ -177,46 +160,45 @@ fn lower(rows: usize, columns: usize, elevation: &[i32], level: &mut [u32], x: u
 }
 
 // Lowers every cell once. True if some cell was lowered.
-fn sweep(rows: usize, columns: usize, elevation: &[i32], level: &mut [u32]) -> bool
-    requires { Ready rows columns elevation.now × (length level.old ≡ rows * columns) }
-    ensures { FillSweeping rows columns elevation.now level.old level.new (length level.old) result }
+fn sweep(ground: Ground, level: &mut [u32]) -> bool
+    requires { length level.old ≡ ground.rows * ground.columns }
+    ensures { FillSweeping ground.entry.rows ground.entry.columns ground.entry.elevation.now level.old level.new (length level.old) result }
 {
     let mut lowered = false;
     for x in 0..level.len() {
-        lowered |= lower(rows, columns, elevation, level, x);
+        lowered |= lower(ground, level, x);
     }
     lowered
 }
 
 // Sets every level to where sweeps start from.
-fn restart(elevation: &[i32], level: &mut [u32])
-    requires { (rows : ℕ) × (columns : ℕ) × Ready rows columns elevation.now × (length level.old ≡ rows * columns) }
-    ensures { (rows columns : ℕ) → length level.old ≡ rows * columns
-        → level.new ≡ start_of (filling rows columns (levels_of elevation.now)) }
+fn restart(ground: Ground, level: &mut [u32])
+    requires { length level.old ≡ ground.rows * ground.columns }
+    ensures { level.new ≡ start_of (filling ground.entry.rows ground.entry.columns (levels_of ground.entry.elevation.now)) }
 {
     for x in 0..level.len() {
-        level[x] = start_word(ground_level(elevation, x)).min(UNREACHED);
+        level[x] = start_word(ground.level_at(x)).min(UNREACHED);
     }
 }
 
 // The levels of the filled heights, by sweeps alone until no cell can be lowered.
-fn settle(rows: usize, columns: usize, elevation: &[i32], level: &mut [u32])
-    requires { Ready rows columns elevation.now × (length level.old ≡ rows * columns) }
-    ensures { level.new ≡ filled_levels rows columns elevation.now }
+fn settle(ground: Ground, level: &mut [u32])
+    requires { length level.old ≡ ground.rows * ground.columns }
+    ensures { level.new ≡ filled_levels ground.entry.rows ground.entry.columns ground.entry.elevation.now }
 {
-    restart(elevation, level);
-    while sweep(rows, columns, elevation, level) {}
+    restart(ground, level);
+    while sweep(ground, level) {}
 }
 
 // The levels of the filled heights.
-pub(crate) fn fill(rows: usize, columns: usize, elevation: &[i32], level: &mut [u32])
-    requires { Ready rows columns elevation.now × (length level.old ≡ rows * columns) }
-    ensures { level.new ≡ filled_levels rows columns elevation.now }
+pub(crate) fn fill(ground: Ground, level: &mut [u32])
+    requires { length level.old ≡ ground.rows * ground.columns }
+    ensures { level.new ≡ filled_levels ground.entry.rows ground.entry.columns ground.entry.elevation.now }
 {
-    start(elevation, level);
-    flood(rows, columns, level);
-    if 0 < faulty_cells(rows, columns, elevation, level) {
-        settle(rows, columns, elevation, level);
+    start(ground, level);
+    flood(ground, level);
+    if 0 < faulty_cells(ground, level) {
+        settle(ground, level);
     }
 }
 

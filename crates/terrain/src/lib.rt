@@ -8,11 +8,14 @@
 mod cells;
 mod direction;
 mod downhill;
+mod drawing;
 mod filled;
 mod flat;
 mod given;
+mod ground;
 mod queue;
 mod ring;
+mod surface;
 mod trail;
 
 ghost use Rattle.std.specs.Prelude.{◌≡◌, ℕ, ◌*◌, ◌<◌, true, map, length, slice_index};
@@ -27,12 +30,14 @@ ghost use Rattle.terrain.specs.Downhill.{Downhill};
 ghost use Rattle.terrain.specs.Drainage.{Drainage};
 ghost use Rattle.terrain.specs.Answers.{lent_at, lent_before, lent_after, places_of, ground_judged, source_tests, judged, directions_by, After, answer, accepts, valid_in};
 ghost use Rattle.terrain.specs.InnerCells.{Ready};
-ghost use Rattle.terrain.specs.InnerLevels.{Levels};
 ghost use Rattle.terrain.specs.InnerGiven.{Keeping};
 ghost use Rattle.terrain.specs.InnerAnswers.{found, directions_for};
 ghost use Rattle.terrain.specs.declared.Source.TheVariants.{Given};
 
 pub use cells::shifts_of;
+use drawing::Drawing;
+use ground::Ground;
+use surface::Surface;
 use text::{Fault, Refusal};
 
 // What the call says of a map: the number of valid cells and the steps of the longest trail.
@@ -120,7 +125,12 @@ fn survey(
     ensures { (found result ≡ verdict (source_tests source rows columns (filled_levels rows columns elevation.now) direction.now))
         × (level.new ≡ filled_levels rows columns elevation.now) }
 {
-    filled::fill(rows, columns, elevation, level);
+    let ground = Ground {
+        rows,
+        columns,
+        elevation,
+    };
+    filled::fill(ground, level);
     match source {
         Source::Own => Ok(()),
         Source::Given => given::judge(rows, columns, direction, level),
@@ -129,48 +139,46 @@ fn survey(
 
 // Works out directions, if they are not given, and falls; `count` and `filled` are scratch.
 fn direct(
-    rows: usize,
-    columns: usize,
+    surface: Surface,
     source: Source,
-    level: &[u32],
     direction: &mut [u8],
     falls: &mut [u32],
     count: &mut [u32],
     filled: &mut [i32],
 )
-    requires { Levels rows columns level.now × (length direction.old ≡ rows * columns) × (length falls.old ≡ rows * columns)
-        × (length count.old ≡ rows * columns) × (source ≡ Given → Keeping rows columns level.now direction.old) }
-    ensures { (direction.new ≡ directions_for source rows columns level.now direction.old)
-        × (falls.new ≡ falls_of rows columns level.now (directions_for source rows columns level.now direction.old)) }
+    requires { (length direction.old ≡ surface.rows * surface.columns) × (length falls.old ≡ surface.rows * surface.columns)
+        × (length count.old ≡ surface.rows * surface.columns)
+        × (source ≡ Given → Keeping surface.rows surface.columns surface.level.now direction.old) }
+    ensures { (direction.new ≡ directions_for source surface.entry.rows surface.entry.columns surface.entry.level.now direction.old)
+        × (falls.new ≡ falls_of surface.entry.rows surface.entry.columns surface.entry.level.now
+        (directions_for source surface.entry.rows surface.entry.columns surface.entry.level.now direction.old)) }
 {
     match source {
-        Source::Own => direction::point(rows, columns, level, direction, falls, count, filled),
-        Source::Given => given::write_falls(rows, columns, level, direction, falls),
+        Source::Own => surface.point(direction, falls, count, filled),
+        Source::Given => surface.write_falls(direction, falls),
     }
 }
 
 // The same, and the filled heights.
 fn shape(
-    rows: usize,
-    columns: usize,
+    surface: Surface,
     source: Source,
-    level: &[u32],
     filled: &mut [i32],
     direction: &mut [u8],
     count: &mut [u32],
     falls: &mut [u32],
 )
-    requires { Levels rows columns level.now × ((x : ℕ) → slice_index level.now x < top) × (length filled.old ≡ rows * columns)
-        × (length direction.old ≡ rows * columns) × (length count.old ≡ rows * columns) × (length falls.old ≡ rows * columns)
-        × (source ≡ Given → Keeping rows columns level.now direction.old) }
-    ensures { (filled.new ≡ map height_of level.now)
-        × (direction.new ≡ directions_for source rows columns level.now direction.old)
-        × (falls.new ≡ falls_of rows columns level.now (directions_for source rows columns level.now direction.old)) }
+    requires { ((x : ℕ) → slice_index surface.level.now x < top) × (length filled.old ≡ surface.rows * surface.columns)
+        × (length direction.old ≡ surface.rows * surface.columns) × (length count.old ≡ surface.rows * surface.columns)
+        × (length falls.old ≡ surface.rows * surface.columns)
+        × (source ≡ Given → Keeping surface.rows surface.columns surface.level.now direction.old) }
+    ensures { (filled.new ≡ map height_of surface.entry.level.now)
+        × (direction.new ≡ directions_for source surface.entry.rows surface.entry.columns surface.entry.level.now direction.old)
+        × (falls.new ≡ falls_of surface.entry.rows surface.entry.columns surface.entry.level.now
+        (directions_for source surface.entry.rows surface.entry.columns surface.entry.level.now direction.old)) }
 {
-    direct(
-        rows, columns, source, level, direction, falls, count, filled,
-    );
-    filled::write_heights(level, filled);
+    direct(surface, source, direction, falls, count, filled);
+    filled::write_heights(surface.level, filled);
 }
 
 // Works out the order of the cells, the longest trail and the flow counts.
@@ -187,9 +195,15 @@ fn route(
         × (result.valid ≡ places) × (result.longest ≡ longest_of rows columns direction.now)) }
 {
     let shifts = shifts_of(columns);
-    let places = downhill::descend(rows, columns, &shifts, direction, count, workspace);
-    let longest = trail::longest_trail(rows, columns, &shifts, direction, workspace, places, count);
-    trail::count_flow(rows, columns, &shifts, direction, workspace, places, count);
+    let drawing = Drawing {
+        rows,
+        columns,
+        shifts: &shifts,
+        direction,
+    };
+    let places = downhill::descend(drawing, count, workspace);
+    let longest = trail::longest_trail(drawing, workspace, places, count);
+    trail::count_flow(drawing, workspace, places, count);
     Summary {
         valid: places as u32,
         longest: longest,
@@ -224,8 +238,11 @@ pub fn map(
         workspace.fill(0);
         return Err(refusal);
     }
-    shape(
-        rows, columns, source, workspace, filled, direction, count, falls,
-    );
+    let surface = Surface {
+        rows,
+        columns,
+        level: workspace,
+    };
+    shape(surface, source, filled, direction, count, falls);
     Ok(route(rows, columns, direction, count, workspace))
 }

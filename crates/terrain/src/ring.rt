@@ -6,70 +6,41 @@
 //     level + 2^21 * waits     waits, 0 to 8: so many cells that point here are not taken; 9: the cell is taken
 //     0                        NoData
 ghost use Rattle.std.specs.Prelude.{◌≡◌, ℕ, ◌+◌, ◌*◌, ◌<◌, length, position};
-ghost use Rattle.terrain.specs.Cells.{Shifts};
 ghost use Rattle.terrain.specs.Given.{first_ring};
 ghost use Rattle.terrain.specs.InnerGiven.{Keeping, cell_below, levels_in, left_word, SameLevels, Counting, Searching, Following};
 
 use crate::cells::shifts_of;
-use crate::direction::NO_CODE;
-use crate::trail::receiver;
+use crate::drawing::Drawing;
 
 // One inflow that a cell waits for, and what a cell that is taken has in its place.
 const WAIT: u32 = 1 << 21;
 
 const SHUT: u32 = 9 * WAIT;
 
-// Lets the cell that the cell x points at, if x is valid, wait for it.
-fn await_one(
-    rows: usize,
-    columns: usize,
-    shifts: &[usize; 8],
-    direction: &[u8],
-    words: &mut [u32],
-    x: usize,
-)
-    requires { Counting rows columns direction.now words.old x × (x < rows * columns) × Shifts columns shifts.now }
-    ensures { Counting rows columns direction.now words.new (x + 1) × SameLevels words.old words.new }
-{
-    if direction[x] == NO_CODE {
-        return;
-    }
-    let y = receiver(rows, columns, shifts, direction, x);
-    if words.len() <= y {
-        return;
-    }
-    words[y] += WAIT;
-}
-
 // Notes for every valid cell how many cells point at it.
-fn await_all(rows: usize, columns: usize, shifts: &[usize; 8], direction: &[u8], words: &mut [u32])
-    requires { Keeping rows columns words.old direction.now × Shifts columns shifts.now }
-    ensures { Counting rows columns direction.now words.new (rows * columns) × SameLevels words.old words.new }
+fn await_all(drawing: Drawing, words: &mut [u32])
+    requires { Keeping drawing.rows drawing.columns words.old drawing.direction.now }
+    ensures { Counting drawing.entry.rows drawing.entry.columns drawing.entry.direction.now words.new (drawing.entry.rows * drawing.entry.columns)
+        × SameLevels words.old words.new }
 {
     for x in 0..words.len() {
-        await_one(rows, columns, shifts, direction, words, x);
+        drawing.await_one(WAIT, words, x);
     }
 }
+
+// `take`, `follow` and `begin` have twins in downhill.rt: one generic form, a trait over both states with its laws, is longer.
 
 // Takes the cell x, which waits for none: the cell that it points at waits for one less. That cell, or the number of cells where
 // there is none: no Option, since `follow` asks of both at once whether they come after the start.
-fn take(
-    rows: usize,
-    columns: usize,
-    shifts: &[usize; 8],
-    direction: &[u8],
-    words: &mut [u32],
-    place: usize,
-    x: usize,
-) -> usize
-    requires { Searching rows columns direction.now words.old place 0 x × (x < rows * columns) × Shifts columns shifts.now }
-    ensures { ((b hand : ℕ) → Searching rows columns direction.now words.old place b x
-        → Following (rows * columns) b words.new result hand
-        → Searching rows columns direction.now words.new (place + 1) b hand)
+fn take(drawing: Drawing, words: &mut [u32], place: usize, x: usize) -> usize
+    requires { Searching drawing.rows drawing.columns drawing.direction.now words.old place 0 x × (x < drawing.rows * drawing.columns) }
+    ensures { ((b hand : ℕ) → Searching drawing.entry.rows drawing.entry.columns drawing.entry.direction.now words.old place b x
+        → Following (drawing.entry.rows * drawing.entry.columns) b words.new result hand
+        → Searching drawing.entry.rows drawing.entry.columns drawing.entry.direction.now words.new (place + 1) b hand)
         × SameLevels words.old words.new }
 {
     words[x] += SHUT;
-    let y = receiver(rows, columns, shifts, direction, x);
+    let y = drawing.receiver(x);
     if words.len() <= y {
         return y;
     }
@@ -79,23 +50,16 @@ fn take(
 
 // Takes the cells of the trail from the cell in hand, as far as no cell waits. How many are taken then. A cell after the start is
 // left for its turn in the grid.
-fn follow(
-    rows: usize,
-    columns: usize,
-    shifts: &[usize; 8],
-    direction: &[u8],
-    words: &mut [u32],
-    place: usize,
-    start: usize,
-) -> usize
-    requires { Searching rows columns direction.now words.old place (start + 1) start × (start < rows * columns) × Shifts columns shifts.now }
-    ensures { Searching rows columns direction.now words.new result (start + 1) (rows * columns)
-        × SameLevels words.old words.new }
+fn follow(drawing: Drawing, words: &mut [u32], place: usize, start: usize) -> usize
+    requires { Searching drawing.rows drawing.columns drawing.direction.now words.old place (start + 1) start
+        × (start < drawing.rows * drawing.columns) }
+    ensures { Searching drawing.entry.rows drawing.entry.columns drawing.entry.direction.now words.new result (start + 1)
+        (drawing.entry.rows * drawing.entry.columns) × SameLevels words.old words.new }
 {
     let mut at = place;
     let mut x = start;
     loop {
-        let y = take(rows, columns, shifts, direction, words, at, x);
+        let y = take(drawing, words, at, x);
         at += 1;
         if start < y {
             return at;
@@ -108,18 +72,11 @@ fn follow(
 }
 
 // The same from the cell x, if it is valid and waits for none.
-fn begin(
-    rows: usize,
-    columns: usize,
-    shifts: &[usize; 8],
-    direction: &[u8],
-    words: &mut [u32],
-    place: usize,
-    x: usize,
-) -> usize
-    requires { Searching rows columns direction.now words.old place x (rows * columns) × (x < rows * columns) × Shifts columns shifts.now }
-    ensures { Searching rows columns direction.now words.new result (x + 1) (rows * columns)
-        × SameLevels words.old words.new }
+fn begin(drawing: Drawing, words: &mut [u32], place: usize, x: usize) -> usize
+    requires { Searching drawing.rows drawing.columns drawing.direction.now words.old place x (drawing.rows * drawing.columns)
+        × (x < drawing.rows * drawing.columns) }
+    ensures { Searching drawing.entry.rows drawing.entry.columns drawing.entry.direction.now words.new result (x + 1)
+        (drawing.entry.rows * drawing.entry.columns) × SameLevels words.old words.new }
 {
     if words[x] < 1 {
         return place;
@@ -127,18 +84,19 @@ fn begin(
     if WAIT <= words[x] {
         return place;
     }
-    follow(rows, columns, shifts, direction, words, place, x)
+    follow(drawing, words, place, x)
 }
 
 // Takes every cell that is on no ring.
-fn peel(rows: usize, columns: usize, shifts: &[usize; 8], direction: &[u8], words: &mut [u32])
-    requires { Counting rows columns direction.now words.old (rows * columns) × Shifts columns shifts.now }
-    ensures { ((p : ℕ) × Searching rows columns direction.now words.new p (rows * columns) (rows * columns))
+fn peel(drawing: Drawing, words: &mut [u32])
+    requires { Counting drawing.rows drawing.columns drawing.direction.now words.old (drawing.rows * drawing.columns) }
+    ensures { ((p : ℕ) × Searching drawing.entry.rows drawing.entry.columns drawing.entry.direction.now words.new p
+        (drawing.entry.rows * drawing.entry.columns) (drawing.entry.rows * drawing.entry.columns))
         × SameLevels words.old words.new }
 {
     let mut place: usize = 0;
     for x in 0..words.len() {
-        place = begin(rows, columns, shifts, direction, words, place, x);
+        place = begin(drawing, words, place, x);
     }
 }
 
@@ -171,8 +129,14 @@ pub(crate) fn first_on_ring(
     ensures { (result ≡ cell_below (rows * columns) (first_ring rows columns direction.now)) × (level.new ≡ level.old) }
 {
     let shifts = shifts_of(columns);
-    await_all(rows, columns, &shifts, direction, level);
-    peel(rows, columns, &shifts, direction, level);
+    let drawing = Drawing {
+        rows,
+        columns,
+        shifts: &shifts,
+        direction,
+    };
+    await_all(drawing, level);
+    peel(drawing, level);
     let found = first_left(level);
     restore(level);
     found

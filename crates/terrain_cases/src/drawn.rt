@@ -1,10 +1,10 @@
 // Small fields, drawn with a digit for each cell's height in metres and a point for NoData.
-use crate::land::{Land, field_of};
+use crate::land::{self, Land};
 use std::io;
 use text::NO_DATA;
 
 // A bowl of 7 by 9 with a level rim.
-pub(crate) const LEVEL_BOWL: [u8; 63] = *b"999999999\
+pub(crate) const LEVEL_BOWL: &[u8] = b"999999999\
     987654329\
     976543219\
     965432109\
@@ -15,17 +15,17 @@ pub(crate) const LEVEL_BOWL: [u8; 63] = *b"999999999\
 pub(crate) fn basins(rt: &impl Print) -> io::Result<()> {
     draw(
         rt,
-        b"pit",
+        "pit",
         3,
         3,
         b"555\
         524\
         555",
     )?;
-    draw(rt, b"bowl with a level rim", 7, 9, &LEVEL_BOWL)?;
+    draw(rt, "bowl with a level rim", 7, 9, LEVEL_BOWL)?;
     draw(
         rt,
-        b"pit within a pit, its mouth at a corner",
+        "pit within a pit, its mouth at a corner",
         7,
         7,
         b"8888888\
@@ -38,7 +38,7 @@ pub(crate) fn basins(rt: &impl Print) -> io::Result<()> {
     )?;
     draw(
         rt,
-        b"corridor with two mouths",
+        "corridor with two mouths",
         3,
         9,
         b"999999999\
@@ -50,7 +50,7 @@ pub(crate) fn basins(rt: &impl Print) -> io::Result<()> {
 pub(crate) fn slopes(rt: &impl Print) -> io::Result<()> {
     draw(
         rt,
-        b"flat that ends at the rim and at a slope",
+        "flat that ends at the rim and at a slope",
         6,
         8,
         b"99999999\
@@ -62,7 +62,7 @@ pub(crate) fn slopes(rt: &impl Print) -> io::Result<()> {
     )?;
     draw(
         rt,
-        b"peak with eight equal drops",
+        "peak with eight equal drops",
         3,
         3,
         b"222\
@@ -71,7 +71,7 @@ pub(crate) fn slopes(rt: &impl Print) -> io::Result<()> {
     )?;
     draw(
         rt,
-        b"drops to the four corners",
+        "drops to the four corners",
         3,
         3,
         b"393\
@@ -80,7 +80,7 @@ pub(crate) fn slopes(rt: &impl Print) -> io::Result<()> {
     )?;
     draw(
         rt,
-        b"drops north-east and north-west",
+        "drops north-east and north-west",
         3,
         3,
         b"393\
@@ -92,7 +92,7 @@ pub(crate) fn slopes(rt: &impl Print) -> io::Result<()> {
 pub(crate) fn no_data(rt: &impl Print) -> io::Result<()> {
     draw(
         rt,
-        b"all NoData",
+        "all NoData",
         3,
         4,
         b"....\
@@ -101,7 +101,7 @@ pub(crate) fn no_data(rt: &impl Print) -> io::Result<()> {
     )?;
     draw(
         rt,
-        b"single cells in NoData",
+        "single cells in NoData",
         4,
         5,
         b"5.5.5\
@@ -111,7 +111,7 @@ pub(crate) fn no_data(rt: &impl Print) -> io::Result<()> {
     )?;
     draw(
         rt,
-        b"pit behind one NoData cell",
+        "pit behind one NoData cell",
         5,
         5,
         b"99999\
@@ -123,30 +123,30 @@ pub(crate) fn no_data(rt: &impl Print) -> io::Result<()> {
 }
 
 pub(crate) fn strips(rt: &impl Print) -> io::Result<()> {
-    draw(rt, b"one cell", 1, 1, b"0")?;
-    draw(rt, b"one cell of NoData", 1, 1, b".")?;
-    draw(rt, b"strip 9 8 7 5", 1, 4, b"9875")?;
-    draw(rt, b"strip 9 7 6", 1, 3, b"976")
+    draw(rt, "one cell", 1, 1, b"0")?;
+    draw(rt, "one cell of NoData", 1, 1, b".")?;
+    draw(rt, "strip 9 8 7 5", 1, 4, b"9875")?;
+    draw(rt, "strip 9 7 6", 1, 3, b"976")
 }
 
 pub(crate) fn pits_in_strips(rt: &impl Print) -> io::Result<()> {
     draw(
         rt,
-        b"strip with pits, flats and NoData",
+        "strip with pits, flats and NoData",
         1,
         12,
         b"5533777.2444",
     )?;
     draw(
         rt,
-        b"strip with pits, flats and NoData",
+        "strip with pits, flats and NoData",
         12,
         1,
         b"5533777.2444",
     )?;
     draw(
         rt,
-        b"two rows, all of them rim",
+        "two rows, all of them rim",
         2,
         6,
         b"523455\
@@ -158,7 +158,7 @@ pub(crate) fn pits_in_strips(rt: &impl Print) -> io::Result<()> {
 pub(crate) fn plateau(rt: &impl Print) -> io::Result<()> {
     draw(
         rt,
-        b"plateau",
+        "plateau",
         16,
         24,
         b"999999999999999999999999\
@@ -182,30 +182,18 @@ pub(crate) fn plateau(rt: &impl Print) -> io::Result<()> {
 
 fn draw(
     rt: &impl Print,
-    name: &[u8],
+    name: &str,
     rows: usize,
     columns: usize,
     picture: &[u8],
 ) -> io::Result<()> {
-    field_of(rt, name, Land::Drawn, rows, columns, picture.len(), picture)
+    land::draw(rt, name, Land::Drawn(picture), rows, columns, picture.len())
 }
 
 // The height that a picture shows at the cell x.
 pub(crate) fn height(picture: &[u8], x: usize) -> i32 {
-    if picture.len() <= x {
-        return NO_DATA;
-    }
-    match picture[x] {
-        b'0' => 0,
-        b'1' => 100,
-        b'2' => 200,
-        b'3' => 300,
-        b'4' => 400,
-        b'5' => 500,
-        b'6' => 600,
-        b'7' => 700,
-        b'8' => 800,
-        b'9' => 900,
+    match picture.get(x) {
+        Some(digit @ b'0'..=b'9') => i32::from(digit - b'0') * 100,
         _ => NO_DATA,
     }
 }

@@ -1,15 +1,15 @@
 // The large fields, whose heights are worked out cell by cell: spirals, comb, plane, bowl, strips and noise.
-ghost use Rattle.std.specs.Prelude.{◌≤◌, ◌<◌};
+ghost use Rattle.std.specs.Prelude.{◌≡◌, pos, ◌≤◌, ◌<◌};
 
-use crate::show::{at_most_1600, field};
+use crate::show::{MOST, field};
 use crate::{drawn, spiral};
 use std::io;
 use text::NO_DATA;
 
-// The kinds of field: drawn, or worked out from a cell's row and column, its index, or its seed.
+// The kinds of field: drawn by a picture, or worked out from a cell's row and column, its index, or its seed.
 #[derive(Clone, Copy)]
-pub enum Land {
-    Drawn,
+pub(crate) enum Land<'a> {
+    Drawn(&'a [u8]),
     SpiralOut,
     SpiralIn,
     Comb,
@@ -22,95 +22,71 @@ pub enum Land {
 }
 
 pub(crate) fn shapes(rt: &impl Print) -> io::Result<()> {
-    draw(rt, b"spiral outwards", Land::SpiralOut, 40, 40, 1600)?;
-    draw(rt, b"spiral inwards", Land::SpiralIn, 40, 40, 1600)?;
-    draw(rt, b"comb", Land::Comb, 40, 40, 1600)?;
-    draw(rt, b"plane", Land::Plane, 40, 40, 1600)?;
-    draw(rt, b"bowl", Land::Bowl, 40, 40, 1600)
+    draw(rt, "spiral outwards", Land::SpiralOut, 40, 40, 1600)?;
+    draw(rt, "spiral inwards", Land::SpiralIn, 40, 40, 1600)?;
+    draw(rt, "comb", Land::Comb, 40, 40, 1600)?;
+    draw(rt, "plane", Land::Plane, 40, 40, 1600)?;
+    draw(rt, "bowl", Land::Bowl, 40, 40, 1600)
 }
 
 pub(crate) fn strips_and_noise(rt: &impl Print) -> io::Result<()> {
-    draw(rt, b"falling strip", Land::Fall, 1, 1024, 1024)?;
-    draw(rt, b"noise", Land::Noise, 40, 40, 1600)?;
-    draw(rt, b"noise of all heights", Land::WideNoise, 30, 20, 600)?;
-    draw(rt, b"noise and NoData", Land::StepNoise, 20, 30, 600)?;
-    draw(rt, b"strip and NoData", Land::StepNoise, 1024, 1, 1024)
+    draw(rt, "falling strip", Land::Fall, 1, 1024, 1024)?;
+    draw(rt, "noise", Land::Noise, 40, 40, 1600)?;
+    draw(rt, "noise of all heights", Land::WideNoise, 30, 20, 600)?;
+    draw(rt, "noise and NoData", Land::StepNoise, 20, 30, 600)?;
+    draw(rt, "strip and NoData", Land::StepNoise, 1024, 1, 1024)
 }
 
-fn draw(
+// Maps a field of a kind, of so many cells.
+pub(crate) fn draw(
     rt: &impl Print,
-    name: &[u8],
+    name: &str,
     land: Land,
     rows: usize,
     columns: usize,
     cells: usize,
 ) -> io::Result<()> {
-    field_of(rt, name, land, rows, columns, cells, b"")
-}
-
-// Maps a field of a kind, of at most 1,600 cells. The picture is for drawn ones.
-pub(crate) fn field_of(
-    rt: &impl Print,
-    name: &[u8],
-    land: Land,
-    rows: usize,
-    columns: usize,
-    cells: usize,
-    picture: &[u8],
-) -> io::Result<()> {
-    let mut ground = [0i32; 1600];
-    let end = at_most_1600(cells);
-    shape_field(rt, name, land, rows, columns, picture, &mut ground[0..end])
-}
-
-// Gives each cell its height, and maps the field.
-fn shape_field(
-    rt: &impl Print,
-    name: &[u8],
-    land: Land,
-    rows: usize,
-    columns: usize,
-    picture: &[u8],
-    ground: &mut [i32],
-) -> io::Result<()> {
-    shape(land, columns, picture, ground);
+    let mut heights = [0; MOST];
+    let ground = &mut heights[..cells.min(MOST)];
+    land.shape(columns, ground);
     field(rt, name, rows, columns, ground)
 }
 
-// Gives each cell its height. The seeds of noise are a linear congruence of 32 bits.
-pub(crate) fn shape(land: Land, columns: usize, picture: &[u8], ground: &mut [i32]) {
-    let mut seed: usize = 1;
-    let mut x = 0;
-    while x < ground.len() {
-        seed = (seed % 4294967296 * 1664525 + 1013904223) % 4294967296;
-        ground[x] = height(land, x, columns, seed, picture);
-        x += 1;
+impl Land<'_> {
+    // Gives each cell its height. The seeds of noise are a linear congruence of 32 bits.
+    pub(crate) fn shape(self, columns: usize, ground: &mut [i32]) {
+        let mut seed: u32 = 1;
+        for (x, height) in ground.iter_mut().enumerate() {
+            seed = seed.wrapping_mul(1664525).wrapping_add(1013904223);
+            *height = self.height(x, columns, seed as usize);
+        }
     }
-}
 
-fn height(land: Land, x: usize, columns: usize, seed: usize, picture: &[u8]) -> i32 {
-    if columns < 1 {
-        return NO_DATA;
-    }
-    let row = x / columns % 40;
-    let column = x % columns % 40;
-    match land {
-        Land::Drawn => drawn::height(picture, x),
-        Land::SpiralOut => cm(spiral::falling_outwards(row, column)),
-        Land::SpiralIn => cm(spiral::falling_inwards(row, column)),
-        Land::Comb => cm(comb(row, column)),
-        Land::Plane => cm(100 * column + 42 * row),
-        Land::Bowl => cm(bowl(row, column)),
-        Land::Noise => cm(seed / 65536 % 1000),
-        Land::WideNoise => signed(seed / 4096 % 950001),
-        Land::StepNoise => step_noise(seed / 65536 % 64),
-        Land::Fall => cm(6000 - x % 1024 * 5),
+    fn height(self, x: usize, columns: usize, seed: usize) -> i32 {
+        if columns == 0 {
+            return NO_DATA;
+        }
+        let row = x / columns % 40;
+        let column = x % columns % 40;
+        match self {
+            Land::Drawn(picture) => drawn::height(picture, x),
+            Land::SpiralOut => cm(spiral::falling_outwards(row, column)),
+            Land::SpiralIn => cm(spiral::falling_inwards(row, column)),
+            Land::Comb => cm(comb(row, column)),
+            Land::Plane => cm(100 * column + 42 * row),
+            Land::Bowl => cm(bowl(row, column)),
+            Land::Noise => cm(seed / 65536 % 1000),
+            Land::WideNoise => signed(seed / 4096 % 950001),
+            Land::StepNoise => step_noise(seed / 65536 % 64),
+            Land::Fall => cm(6000 - x % 1024 * 5),
+        }
     }
 }
 
 // A height of so many cm.
 fn cm(n: usize) -> i32
     requires { n ≤ 900000 }
+    ensures { result ≡ pos n }
 {
     n as i32
 }
@@ -119,7 +95,7 @@ fn cm(n: usize) -> i32
 fn signed(n: usize) -> i32
     requires { n ≤ 950000 }
 {
-    if n < 50000 { !cm(n) } else { cm(n - 50000) }
+    if n < 50000 { -1 - cm(n) } else { cm(n - 50000) }
 }
 
 // Eight heights, with NoData here and there.

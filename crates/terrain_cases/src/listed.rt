@@ -3,18 +3,12 @@ use crate::show::field;
 use std::io;
 
 pub(crate) fn drops(rt: &impl Print) -> io::Result<()> {
-    field(rt, b"drops 100 E and 141 SE", 2, 2, &[1000, 900, 1000, 859])?;
-    field(rt, b"drops 100 E and 142 SE", 2, 2, &[1000, 900, 1000, 858])?;
+    field(rt, "drops 100 E and 141 SE", 2, 2, &[1000, 900, 1000, 859])?;
+    field(rt, "drops 100 E and 142 SE", 2, 2, &[1000, 900, 1000, 858])?;
+    field(rt, "the greatest drops", 2, 2, &[900000, -40000, 0, -50000])?;
     field(
         rt,
-        b"the greatest drops",
-        2,
-        2,
-        &[900000, -40000, 0, -50000],
-    )?;
-    field(
-        rt,
-        b"the deepest pit",
+        "the deepest pit",
         3,
         3,
         &[

@@ -42,14 +42,7 @@ pub(crate) fn ring(row: usize, column: usize) -> usize
     ensures row_bound_2 { result + row ≤ 39 }
     ensures column_bound_2 { result + column ≤ 39 }
 {
-    smaller(smaller(row, 39 - row), smaller(column, 39 - column))
-}
-
-fn smaller(a: usize, b: usize) -> usize
-    ensures upper_bound { result ≤ a }
-    ensures upper_bound_2 { result ≤ b }
-{
-    if a < b { a } else { b }
+    row.min(39 - row).min(column.min(39 - column))
 }
 
 // The steps along a ring, clockwise from its north-west corner.

@@ -1,9 +1,11 @@
--- The readers of the heights, by the answers of the functions that judge and store them. Assumes nothing.
+-- The readers of the heights and of whole texts, by the steps of the readers that they stand on. Assumes nothing.
 use mathlib.Core.Path.{◌≡◌, refl, sym, ap, ◌∙◌, subst}
+use mathlib.Core.Bool.{true, false}
 use mathlib.Core.List.{List, [], ◌∷◌, ◌++◌}
-use Prim.Native.Nat.{ℕ, zero, suc, ◌+◌, ◌-◌, ◌≤◌, ◌<◌}
+use Prim.Native.Nat.{ℕ, zero, suc, ◌+◌, ◌-◌, ◌*◌, ◌≤◌, ◌<◌}
 use native.Mathlib.Nat.{lt_of_le_of_lt}
 use native.Mathlib.Omega.{arith}
+use borrow.Author.Tests.{eq-eqb, ne_eqb}
 use lib.Dec.{T, leb→le, lit<}
 use lib.IntN.{ℤ, pos, negsuc}
 use lib.ListN.{length, take, set, length-set}
@@ -11,10 +13,35 @@ use lib.Signed.{le_z}
 use mir.Syntax.{w32}
 use mir.Val.{SFits}
 use Rattle.laws.proofs.Filling.{filling-more}
-use Rattle.text.specs.Quantities.{no_data_height}
+use Rattle.text.specs.Quantities.{height_in, no_data_height}
 use Rattle.text.specs.Reader.{Step, got, refused, after, give}
-use Rattle.text.specs.Heights.{height, heights}
-use Rattle.text.specs.InnerHeights.{forget, Good, values_of}
+use Rattle.text.specs.Words.{word_start}
+use Rattle.text.specs.Numbers.{Placed, measure}
+use Rattle.text.specs.Headers as H
+use Rattle.text.specs.Heights.{same, height, heights, end, lone_header, body, grid}
+use Rattle.text.specs.Answers.{accepted, refusal, lone_header_answer, grid_outcome, grid_answer}
+use Rattle.text.specs.InnerHeights.{forget, Good, values_of, body_outcome, body_answer}
+use Rattle.text.proofs.Ends.{word-found, word_none}
+
+-- ---- one height
+
+module _ (n : ℤ) (s : List ℕ) (at : ℕ) where
+  pub height-none : (m p : ℕ) → measure s at ≡ refused m p → refused m p ≡ height n s at
+  unfolding height
+  height-none m p e = rw e
+
+  module _ (x : Placed ℤ) (j : ℕ) (e : measure s at ≡ got x j) where
+    pub height-no-data : same x.is n ≡ true → got no_data_height j ≡ height n s at
+    unfolding height
+    height-no-data t = rw (e, t)
+
+    pub height-on : same x.is n ≡ false → height_in x.is ≡ true → got x.is j ≡ height n s at
+    unfolding height
+    height-on t u = rw (e, t, u)
+
+    pub height-off : same x.is n ≡ false → height_in x.is ≡ false → refused 5 x.place ≡ height n s at
+    unfolding height
+    height-off t u = rw (e, t, u)
 
 -- NoData and every height that is allowed fit 32 bits
 pub height-32 : (z : ℤ) → T (le_z no_data_height z) → T (le_z z (pos 900000)) → SFits w32 z
@@ -103,3 +130,75 @@ storing-more n s all at i j z y out w h e q =
       values = subst (λ (k : ℕ). take (i + 1) (set out i y) ++ values_of (heights n k s j) ≡ all) m
           (filling-more out rest i y h ∙ ap (λ (x : ℤ). take i out ++ (x ∷ rest)) q ∙ ap (λ (x : List ℤ). take i out ++ x) (sym r.1) ∙ w.values);
     }
+
+-- ---- the end
+
+module _ (s : List ℕ) (at a : ℕ) (p : a ≡ word_start s at) where
+  pub end-off : a < length s → refused 10 a ≡ end s at
+  unfolding end
+  end-off h = rw (word-found s at a p h)
+
+  pub end_on : length s ≤ a → got tt at ≡ end s at
+  unfolding end
+  end_on h = rw (word_none s at a p h)
+
+-- ---- what follows the header
+
+-- what `forget` keeps
+pub judged-good : (x : Step (List ℤ)) (j : ℕ) → forget x ≡ got tt j → Good x × (x ≡ got (values_of x) j)
+judged-good (got hs i) j e = let q : i ≡ j = cc in (tt, ap (got hs) q)
+judged-good (refused n p) j e = let z : ◌≡◌ {A = ℕ} 0 1 = cc in absurd (omega arith)
+
+judged-off : (x : Step (List ℤ)) (n p : ℕ) → forget x ≡ refused n p → x ≡ refused n p
+judged-off (got hs i) n p e = let z : ◌≡◌ {A = ℕ} 0 1 = cc in absurd (omega arith)
+judged-off (refused m q) n p e = cc
+
+module _ (h : H.Header) (k : ℕ) (s : List ℕ) (at : ℕ) where
+  pub body-unlike : (k ≡ h.rows * h.columns → ⊥) → body h k s at ≡ refused 2 0
+  unfolding body
+  body-unlike e = rw (ne_eqb k (h.rows * h.columns) e)
+
+  module _ (l : k ≡ h.rows * h.columns) where
+    pub body-off : (m p : ℕ) → forget (heights h.no_data k s at) ≡ refused m p → body h k s at ≡ refused m p
+    unfolding body
+    body-off m p e = rw (eq-eqb k (h.rows * h.columns) l, judged-off (heights h.no_data k s at) m p e)
+
+    module _ (j : ℕ) (e : forget (heights h.no_data k s at) ≡ got tt j) where
+      pub body_more : (m p : ℕ) → end s j ≡ refused m p → body h k s at ≡ refused m p
+      unfolding body
+      body_more m p q = rw (eq-eqb k (h.rows * h.columns) l, (judged-good (heights h.no_data k s at) j e).1, q)
+
+      pub body-on : (i : ℕ) → end s j ≡ got tt i → body h k s at ≡ got (values_of (heights h.no_data k s at)) i
+      unfolding body
+      body-on i q = rw (eq-eqb k (h.rows * h.columns) l, (judged-good (heights h.no_data k s at) j e).1, q)
+
+-- ---- a header that stands alone
+
+module _ (s : List ℕ) where
+  pub lone-off : (m p : ℕ) → H.head s 0 ≡ refused m p → refusal m p ≡ lone_header_answer s
+  unfolding lone_header H.header
+  lone-off m p e = rw e
+
+  module _ (x : H.Head) (j : ℕ) (e : H.head s 0 ≡ got x j) where
+    pub lone-more : (m p : ℕ) → end s j ≡ refused m p → refusal m p ≡ lone_header_answer s
+    unfolding lone_header H.header
+    lone-more m p q = rw (e, q)
+
+    pub lone-on : (i : ℕ) → end s j ≡ got tt i → accepted x.header ≡ lone_header_answer s
+    unfolding lone_header H.header
+    lone-on i q = rw (e, q)
+
+-- ---- the whole text
+
+module _ (lent : List ℤ) (s : List ℕ) where
+  pub grid-off : (m p : ℕ) → H.head s 0 ≡ refused m p → record { answer = refusal m p; heights = lent } ≡ grid_answer lent s
+  unfolding grid H.header
+  grid-off m p e = rw e
+
+  pub grid-on : (x : H.Head) (j : ℕ) → H.head s 0 ≡ got x j → body_answer x.header lent s j ≡ grid_answer lent s
+  unfolding grid H.header
+  grid-on x j e = rw e (go (body x.header (length lent) s j))
+    where
+      go : (y : Step (List ℤ)) → body_outcome x.header lent y ≡ grid_outcome lent (after y (λ hs. give (record { header = x.header; heights = hs })) s)
+      go (got hs i) = refl
+      go (refused n p) = refl

@@ -4,14 +4,14 @@ use mathlib.Core.Bool.{Bool, true, false, cond, ◌&&◌}
 use mathlib.Core.List.{List}
 use Prim.Native.Nat.{ℕ, ◌+◌, ◌≤◌, ◌<◌}
 use native.Mathlib.Omega.{arith}
-use borrow.Author.Tests.{leb-true, eq-eqb, ne_eqb, eqb-true}
+use borrow.Author.Tests.{leb-true, le-leb, lt-leb, eq-eqb, ne_eqb, eqb-true}
 use lib.ListN.{length}
 use lib.Dec.{eqb, leb}
 use Rattle.laws.proofs.Tests.{and_both}
 use Rattle.std.proofs.Common.{Some, Result, Ok, Err, IfOk}
 use Rattle.text.specs.Reader.{got, refused}
 use Rattle.text.specs.Words.{word_start, word_end, word}
-use Rattle.text.specs.Numbers.{malformed, number_at, count_form_at, comma_decimal, read, number, count}
+use Rattle.text.specs.Numbers.{malformed, number_at, count_form_at, comma_decimal, read, Placed, Number, number, measure, count, centimetres}
 use Rattle.text.specs.Ranges.{size_accepted}
 use Rattle.text.specs.Faults.{number_of}
 use Rattle.text.specs.declared.Refusal.{Refusal}
@@ -20,10 +20,11 @@ use Rattle.text.specs.declared.numbers.Malformed.{Malformed}
 use Rattle.text.specs.InnerWords.{word_of}
 use Rattle.text.specs.InnerNumbers.{form_of, Parsed, DigitsFrom, placed_of}
 use Rattle.text.proofs.Ends.{first-solid, word-found, word_none, end-byte, end-digits, end-lower, end-upper}
+use Rattle.text.proofs.InnerTested.{size_none, size-some}
 use Rattle.text.proofs.InnerCommas.{count-no-comma, comma-place}
 
 pub word-step : (s : List ℕ) (at a e : ℕ) → a ≡ word_start s at → e ≡ word_end s a → a < length s
-    → (word_of s (Some (record { start = a; end = e })) ≡ word s at) × ((a < e) × (e ≤ length s))
+    → (word_of s (Some (record { value = record { start = a; end = e }; rest = record { at = e } })) ≡ word s at) × ((a < e) × (e ≤ length s))
 word-step s at a e p q h = (
   rw q (sym (word-found s at a p h)),
   (omega (arith, q, end-byte s a h (first-solid s at a p h), end-lower s (a + 1)), omega (arith, q, end-upper s a (omega arith))),
@@ -68,6 +69,22 @@ module _ (s : List ℕ) (at a : ℕ) (p : a ≡ word_start s at) where
         let q = subst (λ (y : Result Formed Malformed). IfOk y (λ z. (z.end ≡ word_end s a) × (z.size < 200000000000))) e m.ends in
         (rw (word-found s at a p h, sym m.is ∙ ap form_of e, q.0), q.1)
 
+-- ---- the same in whole cm
+
+module _ (s : List ℕ) (at : ℕ) where
+  pub measure-none : (m p : ℕ) → number s at ≡ refused m p → refused m p ≡ measure s at
+  unfolding measure
+  measure-none m p e = rw e
+
+  module _ (x : Placed Number) (j : ℕ) (e : number s at ≡ got x j) where
+    pub measure-fine : x.is.fine ≡ true → refused 8 x.place ≡ measure s at
+    unfolding measure
+    measure-fine t = rw (e, t)
+
+    pub measure-on : x.is.fine ≡ false → got (record { place = x.place; is = centimetres x.is.minus x.is.size }) j ≡ measure s at
+    unfolding measure
+    measure-on t = rw (e, t)
+
 -- ---- the next word as a count
 
 module _ (s : List ℕ) (at a : ℕ) (p : a ≡ word_start s at) where
@@ -96,9 +113,18 @@ module _ (s : List ℕ) (at a : ℕ) (p : a ≡ word_start s at) where
         unfolding count read count_form_at size_accepted
         count-size l = rw (word-found s at a p h, ← w.ends, ne_eqb d a some, e-is, t, ← w.is, l)
 
-        pub count-on : size_accepted v ≡ true → got v d ≡ count s at
+        pub count_low : v < 1 → refused 1 a ≡ count s at
+        count_low l = count-size (sym (size_none v l))
+
+        pub count-high : 1 ≤ v → 1024 < v → refused 1 a ≡ count s at
+        count-high k l = count-size (sym (size-some v k) ∙ lt-leb v 1024 l)
+
+        pub count-good : size_accepted v ≡ true → got v d ≡ count s at
         unfolding count read count_form_at size_accepted
-        count-on l = rw (word-found s at a p h, ← w.ends, ne_eqb d a some, e-is, t, ← w.is, l) (ap (got v) (eqb-true d (word_end s d) t))
+        count-good l = rw (word-found s at a p h, ← w.ends, ne_eqb d a some, e-is, t, ← w.is, l) (ap (got v) (eqb-true d (word_end s d) t))
+
+        pub count-on : 1 ≤ v → v ≤ 1024 → got v d ≡ count s at
+        count-on k l = count-good (sym (size-some v k) ∙ le-leb v 1024 l)
 
 pub size-few : (v : ℕ) → size_accepted v ≡ true → v ≤ 1024
 unfolding size_accepted

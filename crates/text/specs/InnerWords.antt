@@ -19,11 +19,11 @@ moved_of (Ok k) = got tt k.at
 moved_of (Err f) = refused (number_of f.fault) f.place
 
 -- the next word as the step of a reading
-abbrev pub word_of : List ℕ → Option Word → Step W.Word
-word_of s (Some w) = got (record { start = w.start; end = w.end }) w.end
+abbrev pub word_of : List ℕ → Option (Read Word) → Step W.Word
+word_of s (Some w) = got (record { start = w.value.start; end = w.value.end }) w.rest.at
 word_of s None = refused 9 (length s)
 
 -- a word that is found has a byte at least, and lies within a text of n bytes
-abbrev pub Inside : ℕ → Option Word → Type 0
-Inside n (Some w) = (w.start < w.end) × (w.end ≤ n)
+abbrev pub Inside : ℕ → Option (Read Word) → Type 0
+Inside n (Some w) = (w.value.start < w.value.end) × (w.value.end ≤ n)
 Inside n None = Unit

@@ -59,12 +59,12 @@ fn read_name(s: &[u8], k: Cursor, n: &[u8]) -> Result<Cursor, Refusal>
             place: s.len(),
         });
     };
-    if is_named(s, word.start, word.end, n) {
-        return Ok(Cursor { at: word.end });
+    if is_named(s, word.value.start, word.value.end, n) {
+        return Ok(word.rest);
     }
     Err(Refusal {
         fault: Fault::Name,
-        place: word.start,
+        place: word.value.start,
     })
 }
 

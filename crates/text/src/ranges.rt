@@ -32,8 +32,8 @@ pub fn is_height(h: i32) -> bool
 pub fn first_bad(heights: &[i32]) -> usize
     ensures { result ≡ first_bad (length heights.now) heights.now }
 {
-    for x in 0..heights.len() {
-        if !is_height(heights[x]) {
+    for (x, h) in heights.iter().enumerate() {
+        if !is_height(*h) {
             return x;
         }
     }

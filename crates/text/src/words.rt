@@ -60,14 +60,17 @@ fn word_end(s: &[u8], at: usize) -> usize
 }
 
 impl Cursor {
-    // The next word, where one is left.
-    pub(crate) fn word(self, s: &[u8]) -> Option<Word>
+    // The next word and the moved cursor, where a word is left.
+    pub(crate) fn word(self, s: &[u8]) -> Option<Read<Word>>
         ensures { (word_of s.now result ≡ word s.now self.at) × Inside (length s.now) result }
     {
         let start = word_start(s, self.at);
         if start < s.len() {
             let end = word_end(s, start);
-            Some(Word { start, end })
+            Some(Read {
+                value: Word { start, end },
+                rest: Cursor { at: end },
+            })
         } else {
             None
         }

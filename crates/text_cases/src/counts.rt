@@ -10,71 +10,71 @@ pub(crate) fn run(rt: &impl Print) -> io::Result<()> {
 fn ranges(rt: &impl Print) -> io::Result<()> {
     case(
         rt,
+        "columns 000000000",
         2,
-        b"columns 000000000\n\
-        ncols 000000000 nrows 1 xllcorner 0 yllcorner 0 cellsize 10\n1 2\n",
+        b"ncols 000000000 nrows 1 xllcorner 0 yllcorner 0 cellsize 10\n1 2\n",
     )?;
     case(
         rt,
+        "columns 1025, before rows -5",
         2,
-        b"columns 1025, before rows -5\n\
-        ncols 1025 nrows -5 xllcorner 0 yllcorner 0 cellsize 10\n1 2\n",
+        b"ncols 1025 nrows -5 xllcorner 0 yllcorner 0 cellsize 10\n1 2\n",
     )?;
     case(
         rt,
+        "rows 0",
         2,
-        b"rows 0\n\
-        ncols 2 nrows 0 xllcorner 0 yllcorner 0 cellsize 10\n1 2\n",
+        b"ncols 2 nrows 0 xllcorner 0 yllcorner 0 cellsize 10\n1 2\n",
     )?;
     case(
         rt,
+        "rows 1025",
         2,
-        b"rows 1025\n\
-        ncols 2 nrows 1025 xllcorner 0 yllcorner 0 cellsize 10\n1 2\n",
+        b"ncols 2 nrows 1025 xllcorner 0 yllcorner 0 cellsize 10\n1 2\n",
     )?;
     case(
         rt,
+        "columns 1024 and rows 1024",
         2,
-        b"columns 1024 and rows 1024\n\
-        ncols 1024 nrows 1024 xllcorner 0 yllcorner 0 cellsize 10\n1 2\n",
+        b"ncols 1024 nrows 1024 xllcorner 0 yllcorner 0 cellsize 10\n1 2\n",
     )
 }
 
 fn digits(rt: &impl Print) -> io::Result<()> {
     case(
         rt,
+        "columns 007; NoData spelt in two ways",
         7,
-        b"columns 007; NoData spelt in two ways\n\
-        ncols 007 nrows 1 xllcorner 0 yllcorner 0 cellsize 10\n1 2 3 4 5 -9999 -9999.00\n",
+        b"ncols 007 nrows 1 xllcorner 0 yllcorner 0 cellsize 10\n1 2 3 4 5 -9999 -9999.00\n",
     )?;
     case(
         rt,
+        "columns -5",
         2,
-        b"columns -5\n\
-        ncols -5 nrows 1 xllcorner 0 yllcorner 0 cellsize 10\n1 2\n",
+        b"ncols -5 nrows 1 xllcorner 0 yllcorner 0 cellsize 10\n1 2\n",
     )?;
     case(
         rt,
+        "columns of ten digits",
         2,
-        b"columns of ten digits\n\
-        ncols 0000000002 nrows 1 xllcorner 0 yllcorner 0 cellsize 10\n1 2\n",
+        b"ncols 0000000002 nrows 1 xllcorner 0 yllcorner 0 cellsize 10\n1 2\n",
     )?;
     case(
         rt,
+        "rows 5.0",
         2,
-        b"rows 5.0\n\
-        ncols 2 nrows 5.0 xllcorner 0 yllcorner 0 cellsize 10\n1 2\n",
+        b"ncols 2 nrows 5.0 xllcorner 0 yllcorner 0 cellsize 10\n1 2\n",
     )?;
     case(
         rt,
+        "columns 1,5",
         2,
-        b"columns 1,5\n\
-        ncols 1,5 nrows 1 xllcorner 0 yllcorner 0 cellsize 10\n1 2\n",
+        b"ncols 1,5 nrows 1 xllcorner 0 yllcorner 0 cellsize 10\n1 2\n",
     )?;
     case(
         rt,
+        "rows 1,",
         2,
-        b"rows 1,\n\
-        ncols 2 nrows 1, xllcorner 0 yllcorner 0 cellsize 10\n1 2\n",
+        b"ncols 2 nrows 1, xllcorner 0 yllcorner 0 cellsize 10\n1 2\n",
     )
 }

@@ -11,86 +11,86 @@ pub(crate) fn run(rt: &impl Print) -> io::Result<()> {
 fn too_early(rt: &impl Print) -> io::Result<()> {
     case(
         rt,
+        "ten words",
         2,
-        b"ten words\n\
-        ncols 2 nrows 1 xllcorner 0 yllcorner 0 cellsize 10",
+        b"ncols 2 nrows 1 xllcorner 0 yllcorner 0 cellsize 10",
     )?;
     case(
         rt,
+        "nodata_value as the last word, blanks behind",
         2,
-        b"nodata_value as the last word, blanks behind\n\
-        ncols 2 nrows 1 xllcorner 0 yllcorner 0 cellsize 10\nnodata_value\r\n",
+        b"ncols 2 nrows 1 xllcorner 0 yllcorner 0 cellsize 10\nnodata_value\r\n",
     )?;
     case(
         rt,
+        "the NoData number as the last word",
         2,
-        b"the NoData number as the last word\n\
-        ncols 2 nrows 1 xllcorner 0 yllcorner 0 cellsize 10\nnodata_value -1",
+        b"ncols 2 nrows 1 xllcorner 0 yllcorner 0 cellsize 10\nnodata_value -1",
     )?;
     case(
         rt,
+        "a height missing, blanks behind",
         4,
-        b"a height missing, blanks behind\n\
-        ncols 2 nrows 2 xllcorner 0 yllcorner 0 cellsize 10\n1 2\n3\n \n",
+        b"ncols 2 nrows 2 xllcorner 0 yllcorner 0 cellsize 10\n1 2\n3\n \n",
     )
 }
 
 fn words_after(rt: &impl Print) -> io::Result<()> {
     case(
         rt,
+        "a number after the last height",
         2,
-        b"a number after the last height\n\
-        ncols 2 nrows 1 xllcorner 0 yllcorner 0 cellsize 10\n1 2 3\n",
+        b"ncols 2 nrows 1 xllcorner 0 yllcorner 0 cellsize 10\n1 2 3\n",
     )?;
     case(
         rt,
+        "garbage after the last height",
         2,
-        b"garbage after the last height\n\
-        ncols 2 nrows 1 xllcorner 0 yllcorner 0 cellsize 10\n1 2\n1,2 x\n",
+        b"ncols 2 nrows 1 xllcorner 0 yllcorner 0 cellsize 10\n1 2\n1,2 x\n",
     )?;
     case(
         rt,
+        "last height 5., before a word after it",
         4,
-        b"last height 5., before a word after it\n\
-        ncols 2 nrows 2 xllcorner 0 yllcorner 0 cellsize 10\n1 2\n3 5. x\n",
+        b"ncols 2 nrows 2 xllcorner 0 yllcorner 0 cellsize 10\n1 2\n3 5. x\n",
     )
 }
 
 fn lent_lengths(rt: &impl Print) -> io::Result<()> {
     case(
         rt,
+        "five lent for 2 by 3",
         5,
-        b"five lent for 2 by 3\n\
-        ncols 3 nrows 2 xllcorner 0 yllcorner 0 cellsize 10\n1 2 3\n4 5 6\n",
+        b"ncols 3 nrows 2 xllcorner 0 yllcorner 0 cellsize 10\n1 2 3\n4 5 6\n",
     )?;
     case(
         rt,
+        "three lent for 1 by 2",
         3,
-        b"three lent for 1 by 2\n\
-        ncols 2 nrows 1 xllcorner 0 yllcorner 0 cellsize 10\n1 2\n",
+        b"ncols 2 nrows 1 xllcorner 0 yllcorner 0 cellsize 10\n1 2\n",
     )?;
     case(
         rt,
+        "lent length before a bad height",
         3,
-        b"lent length before a bad height\n\
-        ncols 2 nrows 1 xllcorner 0 yllcorner 0 cellsize 10\n12,5 1\n",
+        b"ncols 2 nrows 1 xllcorner 0 yllcorner 0 cellsize 10\n12,5 1\n",
     )?;
     case(
         rt,
+        "lent length before the text's end",
         1,
-        b"lent length before the text's end\n\
-        ncols 2 nrows 1 xllcorner 0 yllcorner 0 cellsize 10\n",
+        b"ncols 2 nrows 1 xllcorner 0 yllcorner 0 cellsize 10\n",
     )?;
     case(
         rt,
+        "bad side before the lent length",
         0,
-        b"bad side before the lent length\n\
-        ncols 2 nrows 1 xllcorner 0 yllcorner 0 cellsize 0\n1 2\n",
+        b"ncols 2 nrows 1 xllcorner 0 yllcorner 0 cellsize 0\n1 2\n",
     )?;
     case(
         rt,
+        "bad NoData number before the lent length",
         1,
-        b"bad NoData number before the lent length\n\
-        ncols 2 nrows 1 xllcorner 0 yllcorner 0 cellsize 10\nnodata_value 1,5\n1 2\n",
+        b"ncols 2 nrows 1 xllcorner 0 yllcorner 0 cellsize 10\nnodata_value 1,5\n1 2\n",
     )
 }

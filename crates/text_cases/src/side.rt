@@ -11,68 +11,68 @@ pub(crate) fn run(rt: &impl Print) -> io::Result<()> {
 fn in_range(rt: &impl Print) -> io::Result<()> {
     case(
         rt,
+        "side 1000; nan as a later height",
         2,
-        b"side 1000; nan as a later height\n\
-        ncols 2 nrows 1 xllcorner 0 yllcorner 0 cellsize 1000\n1 nan\n",
+        b"ncols 2 nrows 1 xllcorner 0 yllcorner 0 cellsize 1000\n1 nan\n",
     )?;
     case(
         rt,
+        "side 0.01; height 5-",
         2,
-        b"side 0.01; height 5-\n\
-        ncols 2 nrows 1 xllcorner 0 yllcorner 0 cellsize 0.01\n1 5-\n",
+        b"ncols 2 nrows 1 xllcorner 0 yllcorner 0 cellsize 0.01\n1 5-\n",
     )
 }
 
 fn too_fine(rt: &impl Print) -> io::Result<()> {
     case(
         rt,
+        "side 0.001",
         2,
-        b"side 0.001\n\
-        ncols 2 nrows 1 xllcorner 0 yllcorner 0 cellsize 0.001\n1 2\n",
+        b"ncols 2 nrows 1 xllcorner 0 yllcorner 0 cellsize 0.001\n1 2\n",
     )?;
     case(
         rt,
+        "side -0.001",
         2,
-        b"side -0.001\n\
-        ncols 2 nrows 1 xllcorner 0 yllcorner 0 cellsize -0.001\n1 2\n",
+        b"ncols 2 nrows 1 xllcorner 0 yllcorner 0 cellsize -0.001\n1 2\n",
     )?;
     case(
         rt,
+        "side 1000.001",
         2,
-        b"side 1000.001\n\
-        ncols 2 nrows 1 xllcorner 0 yllcorner 0 cellsize 1000.001\n1 2\n",
+        b"ncols 2 nrows 1 xllcorner 0 yllcorner 0 cellsize 1000.001\n1 2\n",
     )
 }
 
 fn out_of_range(rt: &impl Print) -> io::Result<()> {
     case(
         rt,
+        "side 0",
         2,
-        b"side 0\n\
-        ncols 2 nrows 1 xllcorner 0 yllcorner 0 cellsize 0\n1 2\n",
+        b"ncols 2 nrows 1 xllcorner 0 yllcorner 0 cellsize 0\n1 2\n",
     )?;
     case(
         rt,
+        "side -0",
         2,
-        b"side -0\n\
-        ncols 2 nrows 1 xllcorner 0 yllcorner 0 cellsize -0\n1 2\n",
+        b"ncols 2 nrows 1 xllcorner 0 yllcorner 0 cellsize -0\n1 2\n",
     )?;
     case(
         rt,
+        "side -1",
         2,
-        b"side -1\n\
-        ncols 2 nrows 1 xllcorner 0 yllcorner 0 cellsize -1\n1 2\n",
+        b"ncols 2 nrows 1 xllcorner 0 yllcorner 0 cellsize -1\n1 2\n",
     )?;
     case(
         rt,
+        "side 1000.01",
         2,
-        b"side 1000.01\n\
-        ncols 2 nrows 1 xllcorner 0 yllcorner 0 cellsize 1000.01\n1 2\n",
+        b"ncols 2 nrows 1 xllcorner 0 yllcorner 0 cellsize 1000.01\n1 2\n",
     )?;
     case(
         rt,
+        "side of 2^32 + 1000 cm",
         2,
-        b"side of 2^32 + 1000 cm\n\
-        ncols 2 nrows 1 xllcorner 0 yllcorner 0 cellsize 42949682.96\n1 2\n",
+        b"ncols 2 nrows 1 xllcorner 0 yllcorner 0 cellsize 42949682.96\n1 2\n",
     )
 }

@@ -10,10 +10,7 @@ mod show;
 use std::io;
 
 fn main(rt: HostRuntime) -> io::Result<()> {
-    rooms::heights(&rt)?;
-    rooms::counts(&rt)?;
-    rooms::factors(&rt)?;
-    rooms::directions(&rt)?;
+    rooms::kinds(&rt)?;
     shapes::run(&rt)?;
     refusals::alone(&rt)?;
     refusals::of_two(&rt)?;

@@ -1,265 +1,187 @@
 // The refusals 1, 2, 3, 7, 5 and 13 of a write call, which are tested in that order. But for what a name says, each grid is 1 by 2
-// with cells of 10 m and corners 0, in a room of 100 bytes, and accepted: the first case is that grid.
-use crate::show::{counts, directions, factors, heights};
+// with cells of 10 m and corners 0, in a room of 100 bytes, and accepted, `GOOD`: the first case is that grid.
+use crate::show::{Cells, GOOD, Given, case};
 use std::io;
 use text::NO_DATA;
 
 pub(crate) fn alone(rt: &impl Print) -> io::Result<()> {
-    heights(
-        rt,
-        b"heights, 1 by 2",
-        100,
-        1,
-        2,
-        1000,
-        b"0",
-        b"0",
-        &[100, 200],
-    )?;
+    case(rt, "heights, 1 by 2", GOOD, Cells::Heights(&[100, 200]))?;
     sizes(rt)?;
     lengths(rt)?;
     sides(rt)?;
     corners(rt)?;
     out_of_range(rt)?;
-    counts(
+    case(
         rt,
-        b"counts, no room",
-        0,
-        1,
-        2,
-        1000,
-        b"0",
-        b"0",
-        &[100, 200],
+        "counts, no room",
+        Given { bytes: 0, ..GOOD },
+        Cells::Counts(&[100, 200]),
     )?;
-    directions(
+    case(
         rt,
-        b"directions, no room",
-        0,
-        1,
-        2,
-        1000,
-        b"0",
-        b"0",
-        &[4, 255],
+        "directions, no room",
+        Given { bytes: 0, ..GOOD },
+        Cells::Directions(&[4, 255]),
     )
 }
 
 fn sizes(rt: &impl Print) -> io::Result<()> {
-    heights(rt, b"heights, rows 0", 100, 0, 2, 1000, b"0", b"0", &[])?;
-    counts(
+    case(
         rt,
-        b"counts, columns 1025",
-        100,
-        1,
-        1025,
-        1000,
-        b"0",
-        b"0",
-        &[1; 1025],
+        "heights, rows 0",
+        Given { rows: 0, ..GOOD },
+        Cells::Heights(&[]),
     )?;
-    directions(
+    case(
         rt,
-        b"directions, rows 1025",
-        100,
-        1025,
-        1,
-        1000,
-        b"0",
-        b"0",
-        &[1; 1025],
+        "counts, columns 1025",
+        Given {
+            columns: 1025,
+            ..GOOD
+        },
+        Cells::Counts(&[1; 1025]),
+    )?;
+    case(
+        rt,
+        "directions, rows 1025",
+        Given {
+            rows: 1025,
+            columns: 1,
+            ..GOOD
+        },
+        Cells::Directions(&[1; 1025]),
     )
 }
 
 fn lengths(rt: &impl Print) -> io::Result<()> {
-    factors(
+    case(
         rt,
-        b"LS, one cell too many",
-        100,
-        1,
-        2,
-        1000,
-        b"0",
-        b"0",
-        &[100, 200, 300],
+        "LS, one cell too many",
+        GOOD,
+        Cells::Factors(&[100, 200, 300]),
     )?;
-    heights(
+    case(
         rt,
-        b"heights, one cell too few",
-        100,
-        1,
-        2,
-        1000,
-        b"0",
-        b"0",
-        &[100],
+        "heights, one cell too few",
+        GOOD,
+        Cells::Heights(&[100]),
     )?;
-    directions(
+    case(
         rt,
-        b"directions, one cell too few",
-        100,
-        1,
-        2,
-        1000,
-        b"0",
-        b"0",
-        &[4],
+        "directions, one cell too few",
+        GOOD,
+        Cells::Directions(&[4]),
     )
 }
 
 fn sides(rt: &impl Print) -> io::Result<()> {
-    counts(rt, b"counts, side 0", 100, 1, 2, 0, b"0", b"0", &[100, 200])?;
-    factors(
+    case(
         rt,
-        b"LS, side 100001",
-        100,
-        1,
-        2,
-        100001,
-        b"0",
-        b"0",
-        &[100, 200],
+        "counts, side 0",
+        Given { side: 0, ..GOOD },
+        Cells::Counts(&[100, 200]),
     )?;
-    directions(
+    case(
         rt,
-        b"directions, side 0",
-        100,
-        1,
-        2,
-        0,
-        b"0",
-        b"0",
-        &[4, 255],
+        "LS, side 100001",
+        Given {
+            side: 100001,
+            ..GOOD
+        },
+        Cells::Factors(&[100, 200]),
+    )?;
+    case(
+        rt,
+        "directions, side 0",
+        Given { side: 0, ..GOOD },
+        Cells::Directions(&[4, 255]),
     )
 }
 
 fn corners(rt: &impl Print) -> io::Result<()> {
-    heights(
+    case(
         rt,
-        b"heights, x 12,5",
-        100,
-        1,
-        2,
-        1000,
-        b"12,5",
-        b"0",
-        &[100, 200],
+        "heights, x 12,5",
+        Given { x: b"12,5", ..GOOD },
+        Cells::Heights(&[100, 200]),
     )?;
-    counts(
+    case(
         rt,
-        b"counts, y empty",
-        100,
-        1,
-        2,
-        1000,
-        b"0",
-        b"",
-        &[100, 200],
+        "counts, y empty",
+        Given { y: b"", ..GOOD },
+        Cells::Counts(&[100, 200]),
     )?;
-    directions(
+    case(
         rt,
-        b"directions, x with a blank",
-        100,
-        1,
-        2,
-        1000,
-        b"1 2",
-        b"0",
-        &[4, 255],
+        "directions, x with a blank",
+        Given { x: b"1 2", ..GOOD },
+        Cells::Directions(&[4, 255]),
     )?;
-    directions(
+    case(
         rt,
-        b"directions, y .5",
-        100,
-        1,
-        2,
-        1000,
-        b"0",
-        b".5",
-        &[4, 255],
+        "directions, y .5",
+        Given { y: b".5", ..GOOD },
+        Cells::Directions(&[4, 255]),
     )
 }
 
 fn out_of_range(rt: &impl Print) -> io::Result<()> {
-    heights(
+    case(
         rt,
-        b"heights, the second 900001",
-        100,
-        1,
-        2,
-        1000,
-        b"0",
-        b"0",
-        &[NO_DATA, 900001],
+        "heights, the second 900001",
+        GOOD,
+        Cells::Heights(&[NO_DATA, 900001]),
     )?;
-    heights(
+    case(
         rt,
-        b"heights, both out of range",
-        100,
-        1,
-        2,
-        1000,
-        b"0",
-        b"0",
-        &[-50001, 900001],
+        "heights, both out of range",
+        GOOD,
+        Cells::Heights(&[-50001, 900001]),
     )
 }
 
 // Two faults in one call: the first in the order of the tests decides.
 pub(crate) fn of_two(rt: &impl Print) -> io::Result<()> {
-    heights(
+    case(
         rt,
-        b"heights, 3 before 7",
-        100,
-        1,
-        2,
-        0,
-        b"12,5",
-        b"0",
-        &[100, 200],
+        "heights, 3 before 7",
+        Given {
+            side: 0,
+            x: b"12,5",
+            ..GOOD
+        },
+        Cells::Heights(&[100, 200]),
     )?;
-    factors(
+    case(
         rt,
-        b"LS, 7 at x before y",
-        100,
-        1,
-        2,
-        1000,
-        b"12,5",
-        b"",
-        &[100, 200],
+        "LS, 7 at x before y",
+        Given {
+            x: b"12,5",
+            y: b"",
+            ..GOOD
+        },
+        Cells::Factors(&[100, 200]),
     )?;
-    heights(
+    case(
         rt,
-        b"heights, 7 before 5",
-        100,
-        1,
-        2,
-        1000,
-        b"0",
-        b"",
-        &[100, 900001],
+        "heights, 7 before 5",
+        Given { y: b"", ..GOOD },
+        Cells::Heights(&[100, 900001]),
     )?;
-    heights(
+    case(
         rt,
-        b"heights, 5 before 13",
-        10,
-        1,
-        2,
-        1000,
-        b"0",
-        b"0",
-        &[100, 900001],
+        "heights, 5 before 13",
+        Given { bytes: 10, ..GOOD },
+        Cells::Heights(&[100, 900001]),
     )?;
-    directions(
+    case(
         rt,
-        b"directions, 7 at y before 13",
-        10,
-        1,
-        2,
-        1000,
-        b"0",
-        b"",
-        &[4, 255],
+        "directions, 7 at y before 13",
+        Given {
+            bytes: 10,
+            y: b"",
+            ..GOOD
+        },
+        Cells::Directions(&[4, 255]),
     )
 }

@@ -1,50 +1,55 @@
 // Single cells, rows and columns, with the ends of the range of cell sides and corner words that are copied as they are.
-use crate::show::{counts, directions, heights};
+use crate::show::{Cells, GOOD, Given, case};
 use std::io;
 
 pub(crate) fn run(rt: &impl Print) -> io::Result<()> {
-    heights(
+    case(
         rt,
-        b"heights, 1 by 1, the least side",
-        82,
-        1,
-        1,
-        1,
-        b"0",
-        b"-0",
-        &[0],
+        "heights, 1 by 1, the least side",
+        Given {
+            bytes: 82,
+            columns: 1,
+            side: 1,
+            y: b"-0",
+            ..GOOD
+        },
+        Cells::Heights(&[0]),
     )?;
-    counts(
+    case(
         rt,
-        b"counts, 1 by 3, the greatest side",
-        86,
-        1,
-        3,
-        100000,
-        b"000",
-        b"7",
-        &[1, 2, 3],
+        "counts, 1 by 3, the greatest side",
+        Given {
+            bytes: 86,
+            columns: 3,
+            side: 100000,
+            x: b"000",
+            y: b"7",
+            ..GOOD
+        },
+        Cells::Counts(&[1, 2, 3]),
     )?;
-    heights(
+    case(
         rt,
-        b"heights, 3 by 1, the longest corners",
-        125,
-        3,
-        1,
-        1000,
-        b"-123456789.123456",
-        b"-000000000.000000",
-        &[100, 200, 123456],
+        "heights, 3 by 1, the longest corners",
+        Given {
+            bytes: 125,
+            rows: 3,
+            columns: 1,
+            x: b"-123456789.123456",
+            y: b"-000000000.000000",
+            ..GOOD
+        },
+        Cells::Heights(&[100, 200, 123456]),
     )?;
-    directions(
+    case(
         rt,
-        b"directions, 3 by 1, a digit, two and three",
-        90,
-        3,
-        1,
-        1000,
-        b"0",
-        b"0",
-        &[2, 32, 254],
+        "directions, 3 by 1, a digit, two and three",
+        Given {
+            bytes: 90,
+            rows: 3,
+            columns: 1,
+            ..GOOD
+        },
+        Cells::Directions(&[2, 32, 254]),
     )
 }

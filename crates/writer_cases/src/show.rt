@@ -2,179 +2,80 @@
 // and all of its bytes, up to a bar.
 ghost use Rattle.std.specs.Prelude.{◌≤◌};
 
-use output::{write, write_natural};
 use std::io;
 use text::Refusal;
-use writer::Answer;
 
 // What every byte of a room is beforehand, a tilde, so that what is not written shows.
 const MARK: u8 = b'~';
 
-// Heights in a room of so many bytes.
-pub(crate) fn heights(
-    rt: &impl Print,
-    name: &[u8],
-    bytes: usize,
-    rows: usize,
-    columns: usize,
-    side: u32,
-    x: &[u8],
-    y: &[u8],
-    cells: &[i32],
-) -> io::Result<()>
-    requires { bytes ≤ 160 }
+// What a call is given: a room of so many bytes, and all of the grid but its cells.
+#[derive(Clone, Copy)]
+pub(crate) struct Given<'a> {
+    pub(crate) bytes: usize,
+    pub(crate) rows: usize,
+    pub(crate) columns: usize,
+    pub(crate) side: u32,
+    pub(crate) x: &'a [u8],
+    pub(crate) y: &'a [u8],
+}
+
+// A grid of 1 by 2 that is accepted, in a room that is long enough.
+pub(crate) const GOOD: Given<'static> = Given {
+    bytes: 100,
+    rows: 1,
+    columns: 2,
+    side: 1000,
+    x: b"0",
+    y: b"0",
+};
+
+// The cells of a grid, of one of the kinds for which there is a call.
+#[derive(Clone, Copy)]
+pub(crate) enum Cells<'a> {
+    Heights(&'a [i32]),
+    Counts(&'a [u32]),
+    Factors(&'a [u32]),
+    Directions(&'a [u8]),
+}
+
+pub(crate) fn case(rt: &impl Print, name: &str, given: Given, cells: Cells) -> io::Result<()>
+    requires { given.bytes ≤ 160 }
 {
-    let mut room = [MARK; 160];
-    write(rt, name)?;
-    heights_in(rt, &mut room[0..bytes], rows, columns, side, x, y, cells)
+    println!(rt; "{name}")?;
+    answer(rt, given, cells)
 }
 
-// Counts in a room of so many bytes.
-pub(crate) fn counts(
-    rt: &impl Print,
-    name: &[u8],
-    bytes: usize,
-    rows: usize,
-    columns: usize,
-    side: u32,
-    x: &[u8],
-    y: &[u8],
-    cells: &[u32],
-) -> io::Result<()>
-    requires { bytes ≤ 160 }
+// What stands behind the name.
+pub(crate) fn answer(rt: &impl Print, given: Given, cells: Cells) -> io::Result<()>
+    requires { given.bytes ≤ 160 }
 {
-    let mut room = [MARK; 160];
-    write(rt, name)?;
-    counts_in(rt, &mut room[0..bytes], rows, columns, side, x, y, cells)
-}
-
-// LS in a room of so many bytes.
-pub(crate) fn factors(
-    rt: &impl Print,
-    name: &[u8],
-    bytes: usize,
-    rows: usize,
-    columns: usize,
-    side: u32,
-    x: &[u8],
-    y: &[u8],
-    cells: &[u32],
-) -> io::Result<()>
-    requires { bytes ≤ 160 }
-{
-    let mut room = [MARK; 160];
-    write(rt, name)?;
-    factors_in(rt, &mut room[0..bytes], rows, columns, side, x, y, cells)
-}
-
-// Directions in a room of so many bytes.
-pub(crate) fn directions(
-    rt: &impl Print,
-    name: &[u8],
-    bytes: usize,
-    rows: usize,
-    columns: usize,
-    side: u32,
-    x: &[u8],
-    y: &[u8],
-    cells: &[u8],
-) -> io::Result<()>
-    requires { bytes ≤ 160 }
-{
-    let mut room = [MARK; 160];
-    write(rt, name)?;
-    directions_in(rt, &mut room[0..bytes], rows, columns, side, x, y, cells)
-}
-
-fn heights_in(
-    rt: &impl Print,
-    room: &mut [u8],
-    rows: usize,
-    columns: usize,
-    side: u32,
-    x: &[u8],
-    y: &[u8],
-    cells: &[i32],
-) -> io::Result<()> {
-    write_answer(
-        rt,
-        writer::write_heights(rows, columns, side, x, y, cells, room),
-    )?;
-    write_room(rt, room)
-}
-
-fn counts_in(
-    rt: &impl Print,
-    room: &mut [u8],
-    rows: usize,
-    columns: usize,
-    side: u32,
-    x: &[u8],
-    y: &[u8],
-    cells: &[u32],
-) -> io::Result<()> {
-    write_answer(
-        rt,
-        writer::write_counts(rows, columns, side, x, y, cells, room),
-    )?;
-    write_room(rt, room)
-}
-
-fn factors_in(
-    rt: &impl Print,
-    room: &mut [u8],
-    rows: usize,
-    columns: usize,
-    side: u32,
-    x: &[u8],
-    y: &[u8],
-    cells: &[u32],
-) -> io::Result<()> {
-    write_answer(
-        rt,
-        writer::write_factors(rows, columns, side, x, y, cells, room),
-    )?;
-    write_room(rt, room)
-}
-
-fn directions_in(
-    rt: &impl Print,
-    room: &mut [u8],
-    rows: usize,
-    columns: usize,
-    side: u32,
-    x: &[u8],
-    y: &[u8],
-    cells: &[u8],
-) -> io::Result<()> {
-    write_answer(
-        rt,
-        writer::write_directions(rows, columns, side, x, y, cells, room),
-    )?;
-    write_room(rt, room)
-}
-
-fn write_answer(rt: &impl Print, answer: Answer) -> io::Result<()> {
-    write(rt, b"\nanswer")?;
-    match answer {
-        Answer::Accepted { length } => {
-            write(rt, b" 0 0")?;
-            write_natural(rt, length as u64)
-        }
-        Answer::Refused(refusal) => write_refusal(rt, refusal),
+    let mut bytes = [MARK; 160];
+    let room = &mut bytes[..given.bytes];
+    match write(given, cells, room) {
+        Ok(length) => print!(rt; "answer 0 0 {length}")?,
+        Err(refusal) => print!(rt; "answer {} {} 0", refusal.fault.number(), refusal.place)?,
     }
+    println!(rt; ", room of {}", room.len())?;
+    rt.write_all(room)?;
+    println!(rt; "|")
 }
 
-fn write_refusal(rt: &impl Print, refusal: Refusal) -> io::Result<()> {
-    write_natural(rt, refusal.number as u64)?;
-    write_natural(rt, refusal.place as u64)?;
-    write(rt, b" 0")
-}
-
-fn write_room(rt: &impl Print, room: &[u8]) -> io::Result<()> {
-    write(rt, b", room of")?;
-    write_natural(rt, room.len() as u64)?;
-    write(rt, b"\n")?;
-    write(rt, room)?;
-    write(rt, b"|\n")
+// The call for the kind of the cells.
+fn write(given: Given, cells: Cells, room: &mut [u8]) -> Result<usize, Refusal> {
+    let Given {
+        bytes: _,
+        rows,
+        columns,
+        side,
+        x,
+        y,
+    } = given;
+    match cells {
+        Cells::Heights(heights) => writer::write_heights(rows, columns, side, x, y, heights, room),
+        Cells::Counts(counts) => writer::write_counts(rows, columns, side, x, y, counts, room),
+        Cells::Factors(factors) => writer::write_factors(rows, columns, side, x, y, factors, room),
+        Cells::Directions(codes) => writer::write_directions(
+            rows, columns, side, x, y, codes, room,
+        ),
+    }
 }

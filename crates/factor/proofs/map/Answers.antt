@@ -1,13 +1,9 @@
 -- `factor::map` meets its contract. Assumes nothing.
-use mathlib.Core.Path.{refl, sym}
 use Prim.Native.Nat.{◌*◌}
-use Rattle.std.proofs.Common.{None}
 use Rattle.std.proofs.lemmas.Result.{err_from_is_err_and}
-use Rattle.factor.specs.Farms.{one, of_farm}
-use Rattle.factor.specs.InnerPass.{farm_by}
+use Rattle.factor.specs.Farms.{one}
 use Rattle.factor.specs.Answers.{lent}
-use Rattle.factor.specs.Inner.{Passing}
-use Rattle.factor.proofs.Answers.{one-rules, one-naming, first-refuses}
+use Rattle.factor.proofs.Answers.{one-passing, one-naming, first-refuses}
 use Rattle.factor.proofs.map.Goals as goal
 
 pub returns-in_err-rules : goal.returns-in_err-rules
@@ -20,21 +16,9 @@ returns-in_err-rules c =
 
 pub map_sound-requires : goal.map_sound-requires
 map_sound-requires c =
-    let a = c.args in
-    let rules = c.in_ok-rules.rules in
-    let passing : Passing a.rows a.columns a.side (one a.settings) (λ x. of_farm rules rules (farm_by None x)) a.elevation.now (lent a.filled.now a.direction.now a.count.now a.lengths.now a.factors.now a.workspace.now) = record {
-      passes = sym c.in_ok-rules.ensures.verdict-is;
-      rules-are = one-rules a.settings (c.in_ok-rules.ensures.rules-are rules refl);
-    } in
-    ((one a.settings, passing), one-naming (a.rows * a.columns))
+    let a = c.args in ((one a.settings, one-passing c.in_ok-rules.ensures), one-naming (a.rows * a.columns))
 
 pub returns : goal.returns
 returns c =
-    let a = c.args in
-    let rules = c.in_ok-rules.rules in
-    let passing : Passing a.rows a.columns a.side (one a.settings) (λ x. of_farm rules rules (farm_by None x)) a.elevation.now (lent a.filled.now a.direction.now a.count.now a.lengths.now a.factors.now a.workspace.now) = record {
-      passes = sym c.in_ok-rules.ensures.verdict-is;
-      rules-are = one-rules a.settings (c.in_ok-rules.ensures.rules-are rules refl);
-    } in
-    let all = c.map_sound.ensures (one a.settings) passing in
+    let all = c.map_sound.ensures (one c.args.settings) (one-passing c.in_ok-rules.ensures) in
     record { answers = all.0; leaves = all.1.0; trails = all.1.1.0; totals = all.1.1.1.0; surface = all.1.1.1.1 }

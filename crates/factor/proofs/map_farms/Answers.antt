@@ -1,12 +1,8 @@
 -- `factor::map_farms` meets its contract. Assumes nothing.
-use mathlib.Core.Path.{refl, sym}
-use Rattle.std.proofs.Common.{Some}
 use Rattle.std.proofs.lemmas.Result.{err_from_is_err_and}
-use Rattle.factor.specs.Farms.{two, of_farm}
-use Rattle.factor.specs.InnerPass.{farm_by}
+use Rattle.factor.specs.Farms.{two}
 use Rattle.factor.specs.Answers.{lent}
-use Rattle.factor.specs.Inner.{Passing}
-use Rattle.factor.proofs.Answers.{two-rules, two-naming, first-refuses}
+use Rattle.factor.proofs.Answers.{two-passing, two-naming, first-refuses}
 use Rattle.factor.proofs.Judging.{first-marked}
 use Rattle.factor.proofs.map_farms.Goals as goal
 
@@ -21,22 +17,13 @@ returns-in_err-rules c =
 pub map_sound-requires : goal.map_sound-requires
 map_sound-requires c =
     let a = c.args in
-    let rules = c.in_ok-rules.rules in
-    let passing : Passing a.rows a.columns a.side (two a.first a.second a.marks.now) (λ x. of_farm rules.first rules.second (farm_by (Some a.marks) x)) a.elevation.now (lent a.filled.now a.direction.now a.count.now a.lengths.now a.factors.now a.workspace.now) = record {
-      passes = sym c.in_ok-rules.ensures.verdict-is;
-      rules-are = two-rules a.first a.second a.marks (c.in_ok-rules.ensures.rules-are rules refl);
-    } in (
+    let passing = two-passing a.marks c.in_ok-rules.ensures in (
       (two a.first a.second a.marks.now, passing),
-      two-naming (first-marked a.rows a.columns a.side a.first a.second a.marks.now a.elevation.now (lent a.filled.now a.direction.now a.count.now a.lengths.now a.factors.now a.workspace.now) passing.passes),
+      two-naming a.marks (first-marked a.rows a.columns a.side a.first a.second a.marks.now a.elevation.now (lent a.filled.now a.direction.now a.count.now a.lengths.now a.factors.now a.workspace.now) passing.passes),
     )
 
 pub returns : goal.returns
 returns c =
     let a = c.args in
-    let rules = c.in_ok-rules.rules in
-    let passing : Passing a.rows a.columns a.side (two a.first a.second a.marks.now) (λ x. of_farm rules.first rules.second (farm_by (Some a.marks) x)) a.elevation.now (lent a.filled.now a.direction.now a.count.now a.lengths.now a.factors.now a.workspace.now) = record {
-      passes = sym c.in_ok-rules.ensures.verdict-is;
-      rules-are = two-rules a.first a.second a.marks (c.in_ok-rules.ensures.rules-are rules refl);
-    } in
-    let all = c.map_sound.ensures (two a.first a.second a.marks.now) passing in
+    let all = c.map_sound.ensures (two a.first a.second a.marks.now) (two-passing a.marks c.in_ok-rules.ensures) in
     record { answers = all.0; leaves = all.1.0; trails = all.1.1.0; totals = all.1.1.1.0; surface = all.1.1.1.1 }

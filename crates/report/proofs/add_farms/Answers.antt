@@ -1,38 +1,38 @@
 -- `report::add_farms` meets its contract. Assumes nothing.
-use Rattle.report.proofs.Additions.{add-refused, add-joins}
-use Rattle.report.proofs.InnerAdditions.{passed-long, passed-few, passed-marked}
-use Rattle.report.specs.Answers.{map_tests, after_join}
-use Rattle.report.specs.Maps.{map_of}
-use Rattle.factor.specs.Answers.{found_in}
-use Rattle.factor.specs.Farms.{two, Marked}
-use Rattle.laws.specs.Tests.{passed, verdict}
-use native.Mathlib.Omega.{arith}
+use mathlib.Core.Path.{sym, ap, subst, ◌∙◌}
 use Prim.Native.Nat.{ℕ}
-use mathlib.Core.Path.{◌≡◌, sym, ap, subst, ◌∙◌}
+use native.Mathlib.Omega.{arith}
+use Rattle.std.proofs.lemmas.Result.{err_from_is_err_and}
+use Rattle.factor.specs.Farms.{two, Marked}
+use Rattle.report.specs.Maps.{map_of}
+use Rattle.report.specs.Answers.{after_join}
+use Rattle.report.proofs.InnerAdditions.{found-unsound, passed-long, passed-few, passed-marked, farms-passed}
+use Rattle.report.proofs.Additions.{add-joins}
 use Rattle.report.proofs.add_farms.Goals as goal
 
 pub report_in-requires : goal.report_in-requires
 report_in-requires c =
-    let passes : verdict (map_tests (map_of c.args.rows c.args.columns (two c.args.first c.args.second c.args.marks.now) c.args.count.now c.args.factors.now)) ≡ passed = sym (sym (ap found_in c.in-Sound.is) ∙ c.judge_farms-judgement.ensures.verdict-is) in
     let a = c.args in
-    let w = passed-long (map_of c.args.rows c.args.columns (two c.args.first c.args.second c.args.marks.now) c.args.count.now c.args.factors.now) passes in (
-      omega (arith, w.0, passed-few (map_of c.args.rows c.args.columns (two c.args.first c.args.second c.args.marks.now) c.args.count.now c.args.factors.now) passes),
+    let m = map_of a.rows a.columns (two a.first a.second a.marks.now) a.count.now a.factors.now in
+    let p = (farms-passed c.in_ok-rules.ensures).0 in
+    let w = passed-long m p in (
+      omega (arith, w.0, passed-few m p),
       w.1 ∙ sym w.0,
-      subst (λ (n : ℕ). Marked n a.marks.now) (sym w.0)
-          (passed-marked a.rows a.columns a.first a.second a.marks.now a.count.now a.factors.now passes),
+      subst (λ (n : ℕ). Marked n a.marks.now) (sym w.0) (passed-marked a.rows a.columns a.first a.second a.marks.now a.count.now a.factors.now p),
     )
 
-pub returns-in-Unsound : goal.returns-in-Unsound
-returns-in-Unsound c =
-    c.refused.ensures ∙ sym (add-refused c.args.report (map_of c.args.rows c.args.columns (two c.args.first c.args.second c.args.marks.now) c.args.count.now c.args.factors.now)
-    (sym (sym (ap found_in c.in-Unsound.is) ∙ c.judge_farms-judgement.ensures.verdict-is)))
-
-pub returns-in-Sound : goal.returns-in-Sound
-returns-in-Sound c =
-    let passes : verdict (map_tests (map_of c.args.rows c.args.columns (two c.args.first c.args.second c.args.marks.now) c.args.count.now c.args.factors.now)) ≡ passed = sym (sym (ap found_in c.in-Sound.is) ∙ c.judge_farms-judgement.ensures.verdict-is) in
+pub returns-in_err-rules : goal.returns-in_err-rules
+returns-in_err-rules c =
     let a = c.args in
-    let r = c.judge_farms-judgement.ensures.rules-are c.in-Sound.first c.in-Sound.second c.in-Sound.is in
+    let m = map_of a.rows a.columns (two a.first a.second a.marks.now) a.count.now a.factors.now in
+    let p = err_from_is_err_and c.from_residual.result c.from_residual.ensures.1 in
+    rw (p.1, p.2) (found-unsound m a.report.now c.in_err-rules.ensures.verdict-is)
+
+pub returns : goal.returns
+returns c =
+    let a = c.args in
+    let m = map_of a.rows a.columns (two a.first a.second a.marks.now) a.count.now a.factors.now in
+    let p = farms-passed c.in_ok-rules.ensures in
     c.join.ensures
-    ∙ ap (after_join a.report) (c.report_in.ensures a.rows a.columns a.first a.second r.0 r.1
-    (sym (passed-long (map_of c.args.rows c.args.columns (two c.args.first c.args.second c.args.marks.now) c.args.count.now c.args.factors.now) passes).0))
-    ∙ sym (add-joins a.report (map_of c.args.rows c.args.columns (two c.args.first c.args.second c.args.marks.now) c.args.count.now c.args.factors.now) passes)
+    ∙ ap (after_join a.report.now) (c.report_in.ensures a.rows a.columns a.first a.second p.1.0 p.1.1 (sym (passed-long m p.0).0))
+    ∙ sym (add-joins a.report.now m p.0)

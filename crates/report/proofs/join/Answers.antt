@@ -1,21 +1,14 @@
 -- `report::join` meets its contract. Assumes nothing.
-use mathlib.Core.Path.{sym, ◌∙◌}
-use Rattle.report.proofs.InnerJoins.{join-map, join-total, join_kept, join-accepts}
+use mathlib.Core.Path.{sym, ap, ◌∙◌}
+use Rattle.text.specs.declared.faults.Fault.TheVariants.{Overflow}
+use Rattle.report.proofs.Additions.{accepted}
+use Rattle.report.proofs.InnerAdditions.{refused-with}
+use Rattle.report.proofs.InnerJoins.{join-accepts, join-refuses}
 use Rattle.report.proofs.join.Goals as goal
 
 pub returns-in_default : goal.returns-in_default
 returns-in_default c =
-    let a = c.args in
-    c.refused.ensures ∙ join-map a.report a.other (sym c.in_default.is ∙ c.keep-kept.ensures)
-
-pub returns-then-not-totals_fit : goal.returns-then-not-totals_fit
-returns-then-not-totals_fit c =
-    let a = c.args in
-    c.refused-then-not-totals_fit.ensures ∙ join-total a.report a.other (sym c.totals_fit.ensures ∙ c.if-not-totals_fit.true)
+    sym (join-refuses c.args.report.now c.args.other c.in_default.ensures ∙ refused-with (record { fault = Overflow; place = 0 }) c.args.report.now)
 
 pub returns : goal.returns
-returns c =
-    let a = c.args in
-    let e = sym c.in-Fitting.is ∙ c.keep-kept.ensures in
-    rw (c.add_numbers.ensures (join_kept a.report a.other e))
-    (join-accepts a.report a.other e (sym c.totals_fit.ensures ∙ c.if-not-totals_fit.false))
+returns c = let w = c.in-Some.ensures in ap accepted w.1 ∙ sym (join-accepts c.args.report.now c.args.other w.0)

@@ -2,5 +2,5 @@
 use Rattle.sheet.proofs.Rooms.{part-of-room}
 use Rattle.streams.proofs.print_case.Goals as goal
 
-pub slice_bounds-write_all-end-3 : goal.slice_bounds-write_all-end-3
-slice_bounds-write_all-end-3 g c = part-of-room _ _ c.room-lines.ensures c.print-end.auto.sheet c.print-end.ensures.fits
+pub slice_bounds-write_all-end : goal.slice_bounds-write_all-end
+slice_bounds-write_all-end g c = part-of-room _ _ c.room-lines.ensures c.print-end.auto.sheet c.print-end.ensures.fits

@@ -1,8 +1,7 @@
 -- `terrain::judge` meets its contract. Assumes nothing.
-use Rattle.std.proofs.Common.{◌≡◌, ◌*◌, true, sym, ◌∙◌, arith}
-use Rattle.text.specs.Ranges.{size_accepted, all_long}
+use Rattle.std.proofs.Common.{sym, ◌∙◌, arith}
 use Rattle.text.proofs.Accepted.{area-few}
-use Rattle.terrain.specs.Answers.{lent, places_of}
+use Rattle.terrain.specs.Answers.{lent}
 use Rattle.terrain.proofs.Answers.{judged-rows, judged-columns, judged-long, judged-height, judged-passes}
 use Rattle.terrain.proofs.judge.Goals.{then-not-is_size-via-then-not-is_size, then-not-is_size-via-else-not-is_size+then-not-is_size-2}
 use Rattle.terrain.proofs.judge.Goals as goal

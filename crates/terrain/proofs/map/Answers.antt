@@ -1,8 +1,8 @@
 -- `terrain::map` meets its contract. Assumes nothing.
-use Rattle.std.proofs.Common.{◌≡◌, Err, sym, refl, ap, ◌∙◌, subst}
+use Rattle.std.proofs.Common.{Err, sym, refl, ap, ◌∙◌, subst}
 use Rattle.std.proofs.lemmas.Result.{err_from_is_err_and}
 use Rattle.terrain.specs.InnerTrail.{Directed}
-use Rattle.terrain.specs.Answers.{lent, directions_by}
+use Rattle.terrain.specs.Answers.{lent}
 use Rattle.terrain.proofs.Answers.{passed-ready, passed-room, sound, refused-is, refuses, refuses-later, accepts-all}
 use Rattle.terrain.proofs.InnerSurveying.{relief-levels, relief-small, directions-for, given-keeping, relief-filled, relief-falls, routed-answer, routed-mapped}
 use Rattle.terrain.proofs.map.Goals as goal
@@ -29,12 +29,18 @@ returns-in-Err c =
     let all = refuses-later a.rows a.columns a.source a.elevation.now g (sym c.in_ok-judge.ensures) c.in-Err.ensures.0 refl c.in-Err.ensures.1 (c.fill.ensures.after (λ y e. e)) (refused-is a.rows a.columns a.source a.elevation.now g c.in-Err.refusal) in
     record { answers = all.0; leaves = all.1.0; drains = all.1.1 }
 
+pub invariant_of-surface : goal.invariant_of-surface
+invariant_of-surface c =
+    let a = c.args in
+    let g = lent a.filled.now a.direction.now a.count.now a.falls.now a.workspace.now in
+    let s = sound a.rows a.columns a.source a.elevation.now g c.in_ok-judge.ensures c.in_default.ensures.0 c.in_default.ensures.1 in
+    record { levels = relief-levels s.ready s.levels }
+
 pub shape-requires : goal.shape-requires
 shape-requires c =
     let a = c.args in
     let g = lent a.filled.now a.direction.now a.count.now a.falls.now a.workspace.now in
     let s = sound a.rows a.columns a.source a.elevation.now g c.in_ok-judge.ensures c.in_default.ensures.0 c.in_default.ensures.1 in (
-      relief-levels s.ready s.levels,
       relief-small s.ready s.levels,
       s.room.filled-long,
       s.room.direction-long,

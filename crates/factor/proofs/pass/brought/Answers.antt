@@ -8,13 +8,13 @@ use Rattle.factor.proofs.pass.brought.Goals as goal
 
 pub amount_of-requires : goal.amount_of-requires
 amount_of-requires c =
-    let rules = c.requires.3.0 in
-    let n = cutoff_for rules.low rules.high c.args.terms.side c.args.q in (
-      omega (arith, c.left_for-left.ensures rules c.requires.3.1, left-small n),
-      c.requires.1,
-      c.requires.0,
-      omega (arith, c.step_over.ensures, step-le c.args.k),
+    let rules = c.requires.4.0 in
+    let n = cutoff_for rules.low rules.high c.args.side c.args.q in (
+      omega (arith, c.left_for-left.ensures rules c.requires.4.1, left-small n),
       c.requires.2,
+      c.requires.1,
+      omega (arith, c.step_over.ensures, step-le c.args.k),
+      c.requires.3,
     )
 
 pub returns : goal.returns

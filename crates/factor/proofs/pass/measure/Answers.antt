@@ -1,9 +1,7 @@
 -- `factor::pass::measure` meets its contract. Assumes nothing.
 use Rattle.factor.specs.Farms.{of_farm}
 use Rattle.factor.proofs.InnerWalking.{Walking, measure-charted, walk_start, walk-turning, walk_turn, walk-all}
-use Rattle.factor.specs.InnerPass.{farm_by, Naming, Bounds}
-use Rattle.factor.specs.Channel.{largest_of}
-use lib.ListN.{length}
+use Rattle.factor.specs.InnerPass.{farm_by, Naming, Farmed}
 use native.Mathlib.Omega.{arith}
 use Prim.Native.Nat.{ℕ}
 use mathlib.Core.Path.{◌≡◌, refl, sym, subst, ◌∙◌}
@@ -11,11 +9,11 @@ use Rattle.factor.proofs.pass.measure.Goals as goal
 
 pub turn-requires : goal.turn-requires
 turn-requires c =
-    let bounds-are : let a = c.args in Bounds a.rules.first a.rules.second (largest_of (length a.count.now) a.count.now) c.bounds_of-bounds.result = let a = c.args in
-    subst (λ (n : ℕ). Bounds a.rules.first a.rules.second n c.bounds_of-bounds.result) c.largest.ensures c.bounds_of-bounds.ensures in
     let a = c.args in
     let m = c.requires.2 in
-    let q = measure-charted m a.rules.first a.rules.second (farm_by a.marks) c.requires.3.few c.lefts_of-lefts.ensures bounds-are in
+    let q = measure-charted m a.rules.first a.rules.second (farm_by a.marks)
+    (subst (λ (n : ℕ). Farmed a.rules.first n c.new.result) c.largest-most.ensures c.new.ensures)
+    (subst (λ (n : ℕ). Farmed a.rules.second n c.new-2.result) c.largest-most.ensures c.new-2.ensures) in
     let w = c.loop-place.invariant.2 c.requires.0 c.requires.1 (λ x. of_farm a.rules.first a.rules.second (farm_by a.marks x)) q
     (walk_start m (λ x. of_farm a.rules.first a.rules.second (farm_by a.marks x)) (c.fill.ensures.after (λ y e. e))) in (
       walk-turning q w c.loop-place-test.true refl,
@@ -33,12 +31,12 @@ loop-place-preserved c = (
 
 pub returns : goal.returns
 returns c =
-    let bounds-are : let a = c.args in Bounds a.rules.first a.rules.second (largest_of (length a.count.now) a.count.now) c.bounds_of-bounds.result = let a = c.args in
-    subst (λ (n : ℕ). Bounds a.rules.first a.rules.second n c.bounds_of-bounds.result) c.largest.ensures c.bounds_of-bounds.ensures in
     let a = c.args in
     let e : c.loop-place.place ≡ a.places = omega arith in
     λ rows lv m k.
-    let q = measure-charted m a.rules.first a.rules.second (farm_by a.marks) k.few c.lefts_of-lefts.ensures bounds-are in
+    let q = measure-charted m a.rules.first a.rules.second (farm_by a.marks)
+    (subst (λ (n : ℕ). Farmed a.rules.first n c.new.result) c.largest-most.ensures c.new.ensures)
+    (subst (λ (n : ℕ). Farmed a.rules.second n c.new-2.result) c.largest-most.ensures c.new-2.ensures) in
     walk-all m (λ x. of_farm a.rules.first a.rules.second (farm_by a.marks x))
     (subst (Walking rows a.columns a.side (λ x. of_farm a.rules.first a.rules.second (farm_by a.marks x)) lv a.direction.now a.count.now
     a.order.now c.loop-place.lengths c.loop-place.factors) e

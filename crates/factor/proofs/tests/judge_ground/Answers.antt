@@ -1,5 +1,5 @@
 -- `factor::tests::judge_ground` meets its contract. Assumes nothing.
-use mathlib.Core.Path.{sym}
+use mathlib.Core.Path.{sym, ◌∙◌}
 use native.Mathlib.Omega.{arith}
 use Rattle.text.proofs.Accepted.{area-few}
 use Rattle.factor.specs.Answers.{lent_at}
@@ -23,16 +23,16 @@ pub returns-then-not-are_long : goal.returns-then-not-are_long
 returns-then-not-are_long c =
     let a = c.args in
     ground-long a.rows a.columns a.side a.settings a.marks a.elevation.now (lent_at a.filled a.direction a.count a.lengths a.factors a.workspace)
-    (sym c.if-not-is_size.ensures) (sym c.if-not-is_size-2.ensures) (sym c.if-not-are_long.ensures)
+    (sym c.if-not-is_size.ensures) (sym c.if-not-is_size-2.ensures) (sym c.are_long.ensures ∙ c.if-not-are_long.true)
 
 pub returns-then-not-is_side : goal.returns-then-not-is_side
 returns-then-not-is_side c =
     let a = c.args in
     ground-side a.rows a.columns a.side a.settings a.marks a.elevation.now (lent_at a.filled a.direction a.count a.lengths a.factors a.workspace)
-    (sym c.if-not-is_size.ensures) (sym c.if-not-is_size-2.ensures) (sym c.if-not-are_long.ensures) (sym c.if-not-is_side.ensures)
+    (sym c.if-not-is_size.ensures) (sym c.if-not-is_size-2.ensures) (sym c.are_long.ensures ∙ c.if-not-are_long.false) (sym c.if-not-is_side.ensures)
 
 pub returns : goal.returns
 returns c =
     let a = c.args in
     rw c.judge_settings.ensures (ground-settings a.rows a.columns a.side a.settings a.marks a.elevation.now (lent_at a.filled a.direction a.count a.lengths a.factors a.workspace)
-    (sym c.if-not-is_size.ensures) (sym c.if-not-is_size-2.ensures) (sym c.if-not-are_long.ensures) (sym c.if-not-is_side.ensures))
+    (sym c.if-not-is_size.ensures) (sym c.if-not-is_size-2.ensures) (sym c.are_long.ensures ∙ c.if-not-are_long.false) (sym c.if-not-is_side.ensures))

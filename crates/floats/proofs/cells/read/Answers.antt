@@ -9,7 +9,7 @@ use mir.Val.{to_z, of_z}
 use Rattle.std.proofs.Common.{Err}
 use Rattle.text.specs.Answers.{accepted, header_of}
 use Rattle.floats.specs.Rounding.{nearest_float}
-use Rattle.floats.proofs.InnerCells.{judged-good, body-fault, body-on}
+use Rattle.floats.proofs.InnerCells.{judged-good, body-judged, body-good}
 use borrow.Author.Rules.{rules}
 use Rattle.floats.proofs.cells.read.Goals as goal
 
@@ -18,7 +18,7 @@ returns-in_err-judge c =
     let bits : to_z w64 (of_z w64 c.args.header.no_data) ≡ c.args.header.no_data = search rules in
     let no-data : c.nearest_float-v.result ≡ nearest_float c.args.header.no_data = c.nearest_float-v.ensures ∙ ap nearest_float bits in
     let e : c.from_residual.result ≡ Err c.in_err-judge.field-0.0 = search rules in
-    rw e (body-fault (header_of c.args.header) c.args.out.now _ c.if-out-header.false c.if-floats-out.false _ _ (rw no-data at c.in_err-judge.ensures))
+    rw e (body-judged (header_of c.args.header) c.args.out.now _ c.if-out-header.false c.if-floats-out.false _ _ (rw no-data at c.in_err-judge.ensures))
 
 pub store-requires : goal.store-requires
 store-requires c = (
@@ -33,4 +33,4 @@ returns c =
     let no-data : c.nearest_float-v.result ≡ nearest_float c.args.header.no_data = c.nearest_float-v.ensures ∙ ap nearest_float bits in
     let h = header_of c.args.header in
     ap (λ (v : List ℤ). record { answer = accepted h; heights = v }) (rw no-data at c.store.ensures)
-    ∙ body-on h c.args.out.now _ c.if-out-header.false c.if-floats-out.false (rw no-data at c.in_ok-judge.ensures)
+    ∙ body-good h c.args.out.now _ c.if-out-header.false c.if-floats-out.false (rw no-data at c.in_ok-judge.ensures)

@@ -1,12 +1,13 @@
 -- `fullsize::crossing::formula_of` meets its contract. Assumes nothing.
-use borrow.Author.Tests.{eq-eqb, ne_eqb}
+use native.Mathlib.Omega.{arith}
+use borrow.Author.Tests.{ne_eqb}
 use Rattle.fullsize.specs.Crossing.{formula_of}
 use Rattle.fullsize.proofs.crossing.formula_of.Goals as goal
 
-pub returns-then-number-eq0 : goal.returns-then-number-eq0
+pub returns-in-0 : goal.returns-in-0
 unfolding formula_of
-returns-then-number-eq0 c = simp (eq-eqb _ _ c.if-number-eq0.true)
+returns-in-0 c = rw c.in-0.is
 
-pub returns : goal.returns
+pub returns-in_default : goal.returns-in_default
 unfolding formula_of
-returns c = simp (ne_eqb _ _ c.if-number-eq0.false)
+returns-in_default c = simp (ne_eqb c.args.number 0 (λ e. omega arith))

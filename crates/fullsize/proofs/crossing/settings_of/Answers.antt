@@ -9,4 +9,4 @@ pub returns : goal.returns
 unfolding settings_of
 returns c =
     let a = c.args in
-    ap₂ (λ (rule : Channel) (f : Formula). record { low = a.low; high = a.high; channel = rule; formula = f }) c.channel_of-channel.ensures c.formula_of-chosen.ensures
+    ap₂ (λ (rule : Channel) (f : Formula). record { low = a.low; high = a.high; channel = rule; formula = f }) c.channel_of.ensures c.formula_of.ensures

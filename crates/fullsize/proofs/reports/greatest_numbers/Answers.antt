@@ -3,10 +3,10 @@ use mathlib.Core.Path.{sym, ap}
 use Rattle.fullsize.specs.Reporting.{greatest_numbers}
 use Rattle.fullsize.proofs.reports.greatest_numbers.Goals as goal
 
-pub returns-in-Nothing : goal.returns-in-Nothing
+pub returns-in-None : goal.returns-in-None
 unfolding greatest_numbers
-returns-in-Nothing c = sym (ap greatest_numbers c.in-Nothing.is)
+returns-in-None c = sym (ap greatest_numbers c.in-None.is)
 
-pub returns-in-Found : goal.returns-in-Found
+pub returns-in-Some : goal.returns-in-Some
 unfolding greatest_numbers
-returns-in-Found c = sym (ap greatest_numbers c.in-Found.is)
+returns-in-Some c = sym (ap greatest_numbers c.in-Some.is)

@@ -4,4 +4,4 @@ use Rattle.fullsize.proofs.reports.report_of.Goals as goal
 
 pub returns : goal.returns
 unfolding report_from
-returns c = rw c.greatest_of-greatest.ensures
+returns c = rw c.greatest_of.ensures

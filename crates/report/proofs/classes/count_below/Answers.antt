@@ -1,41 +1,27 @@
 -- `report::classes::count_below` meets its contract. Assumes nothing.
 use native.Mathlib.Omega.{arith}
+use Prim.Native.Nat.{◌+◌}
+use lib.ListN.{get_or}
 use Rattle.factor.specs.Cell.{too_long}
-use Rattle.report.specs.InnerCells.{below, is_no_data}
-use Rattle.report.proofs.InnerCells.{counted-few, count-step}
+use Rattle.report.specs.InnerCells.{below, is_no_data, Counted}
+use Rattle.report.proofs.InnerCells.{counted_none, counted-few, count-more, bit}
 use Rattle.report.proofs.classes.count_below.Goals as goal
 
-pub plus_if-zero-requires : goal.plus_if-zero-requires
-plus_if-zero-requires c = omega (arith, counted-few c.loop-x.invariant.0, c.requires.few)
+pub loop-v-init : goal.loop-v-init
+loop-v-init c = (counted_none c.args.block.now c.args.given, counted-few (counted_none c.args.block.now c.args.given))
 
-pub plus_if-under1-requires : goal.plus_if-under1-requires
-plus_if-under1-requires c = omega (arith, counted-few c.loop-x.invariant.0, c.requires.few)
-
-pub plus_if-under5-requires : goal.plus_if-under5-requires
-plus_if-under5-requires c = omega (arith, counted-few c.loop-x.invariant.0, c.requires.few)
-
-pub plus_if-under10-requires : goal.plus_if-under10-requires
-plus_if-under10-requires c = omega (arith, counted-few c.loop-x.invariant.0, c.requires.few)
-
-pub plus_if-known-requires : goal.plus_if-known-requires
-plus_if-known-requires c = omega (arith, counted-few c.loop-x.invariant.0, c.requires.few)
-
-pub plus_if-no_data-requires : goal.plus_if-no_data-requires
-plus_if-no_data-requires c = omega (arith, counted-few c.loop-x.invariant.0, c.requires.few)
-
-pub plus_if-lower-requires : goal.plus_if-lower-requires
-plus_if-lower-requires c = omega (arith, counted-few c.loop-x.invariant.0, c.requires.few)
-
-pub loop-x-preserved : goal.loop-x-preserved
-loop-x-preserved c = (
-  record {
-    zero = count-step (below 1) c.args.factors.now c.args.from c.loop-x.x _ _ c.loop-x.invariant.0.zero c.plus_if-zero.ensures;
-    under1 = count-step (below 100000) c.args.factors.now c.args.from c.loop-x.x _ _ c.loop-x.invariant.0.under1 c.plus_if-under1.ensures;
-    under5 = count-step (below 500000) c.args.factors.now c.args.from c.loop-x.x _ _ c.loop-x.invariant.0.under5 c.plus_if-under5.ensures;
-    under10 = count-step (below 1000000) c.args.factors.now c.args.from c.loop-x.x _ _ c.loop-x.invariant.0.under10 c.plus_if-under10.ensures;
-    known = count-step (below too_long) c.args.factors.now c.args.from c.loop-x.x _ _ c.loop-x.invariant.0.known c.plus_if-known.ensures;
-    no-data = count-step is_no_data c.args.factors.now c.args.from c.loop-x.x _ _ c.loop-x.invariant.0.no-data c.plus_if-no_data.ensures;
-    lower = count-step (below c.args.given) c.args.factors.now c.args.from c.loop-x.x _ _ c.loop-x.invariant.0.lower c.plus_if-lower.ensures;
-  },
-  omega arith,
-)
+pub loop-v-preserved : goal.loop-v-preserved
+loop-v-preserved c =
+    let l = c.args.block.now in
+    let n = c.loop-v.v-index in
+    let so_far = c.loop-v.invariant.0 in
+    let next : Counted l (n + 1) c.args.given _ = record {
+      zero = omega (arith, so_far.zero, count-more (below 1) l n, c.from.ensures, bit (below 1 (get_or l n 0)));
+      under1 = omega (arith, so_far.under1, count-more (below 100000) l n, c.from-in-loop-v.ensures, bit (below 100000 (get_or l n 0)));
+      under5 = omega (arith, so_far.under5, count-more (below 500000) l n, c.from-in-loop-v-2.ensures, bit (below 500000 (get_or l n 0)));
+      under10 = omega (arith, so_far.under10, count-more (below 1000000) l n, c.from-in-loop-v-3.ensures, bit (below 1000000 (get_or l n 0)));
+      known = omega (arith, so_far.known, count-more (below too_long) l n, c.from-in-loop-v-4.ensures, bit (below too_long (get_or l n 0)));
+      no-data = omega (arith, so_far.no-data, count-more is_no_data l n, c.from-in-loop-v-5.ensures, bit (is_no_data (get_or l n 0)));
+      lower = omega (arith, so_far.lower, count-more (below c.args.given) l n, c.from-in-loop-v-6.ensures, bit (below c.args.given (get_or l n 0)));
+    } in
+    (next, counted-few next)

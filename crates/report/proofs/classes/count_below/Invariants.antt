@@ -1,12 +1,6 @@
--- What the loops of `report::classes::count_below` keep, and what falls. Assumes nothing.
-use Prim.Native.Nat.{◌-◌, ◌≤◌}
-use Rattle.report.specs.InnerCells.{Counted}
+-- What the loops of `report::classes::count_below` keep. Assumes nothing.
+use Rattle.report.specs.InnerCells.{Counted, Few}
 use Rattle.report.proofs.classes.count_below.Given as goal
 
-abbrev pub invariant-loop-x : goal.invariant-loop-x
-invariant-loop-x l = Counted l.factors l.from l.x l.given
-    (record { zero = l.zero; under1 = l.under1; under5 = l.under5; under10 = l.under10; known = l.known; no_data = l.no_data; lower = l.lower })
-    × (l.x ≤ l.to)
-
-abbrev pub decreases-loop-x : goal.decreases-loop-x
-decreases-loop-x l = l.to - l.x
+abbrev pub invariant-loop-v : goal.invariant-loop-v
+invariant-loop-v l = Counted l.block l.v-index l.given l.counts × Few l.counts l.v-index

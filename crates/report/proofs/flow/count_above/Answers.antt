@@ -1,37 +1,49 @@
 -- `report::flow::count_above` meets its contract. Assumes nothing.
 use mathlib.Core.Path.{◌≡◌, sym, ap, ◌∙◌}
+use Prim.Native.Nat.{ℕ}
 use native.Mathlib.Omega.{arith}
-use lib.ListN.{length}
+use lib.ListN.{length, get_or}
+use lib.Dec.{ltb, eqb}
+use Rattle.laws.specs.Sums.{when}
 use Rattle.report.specs.Maps.{is_zero}
-use Rattle.report.specs.InnerCells.{above, count_to}
-use Rattle.report.proofs.InnerCells.{count_none, count-more, count-few, wet-split}
+use Rattle.report.specs.InnerCells.{count_to, cells_to}
+use Rattle.report.proofs.InnerCells.{count_none, count-more, count-few, wet-split, bit, when-bit}
+use Rattle.report.proofs.InnerFlow.{cells-none, cells-more}
 use Rattle.report.proofs.flow.count_above.Goals as goal
 
 pub loop-x-init : goal.loop-x-init
-loop-x-init c =
-    let a = c.args in
-    (sym (count_none is_zero a.count.now), sym (count_none (above a.bound) a.count.now), omega arith)
+loop-x-init g c =
+    let l = c.args.count.now in
+    record { dry = sym (count_none is_zero l); few = omega arith; channel = (λ b h. sym (cells-none (λ x. ltb (b x) (get_or l x 0)))) }
 
-pub plus_if-dry-requires : goal.plus_if-dry-requires
-plus_if-dry-requires c = omega (arith, count-few is_zero c.args.count.now c.loop-x.x, c.requires)
-
-pub plus_if-channel-requires : goal.plus_if-channel-requires
-plus_if-channel-requires c =
-    let a = c.args in
-    omega (arith, count-few (above a.bound) a.count.now c.loop-x.x, c.requires)
+pub overflow_add-dry : goal.overflow_add-dry
+overflow_add-dry g c = omega (arith, count-few is_zero c.args.count.now c.loop-x.x, when-bit (eqb (get_or c.args.count.now c.loop-x.x 0) 0))
 
 pub loop-x-preserved : goal.loop-x-preserved
-loop-x-preserved c =
-    let a = c.args in (
-      omega (arith, count-more is_zero a.count.now c.loop-x.x, c.plus_if-dry.ensures),
-      omega (arith, count-more (above a.bound) a.count.now c.loop-x.x, c.plus_if-channel.ensures),
-      omega arith,
-    )
+loop-x-preserved g c =
+    let l = c.args.count.now in
+    let n = c.loop-x.x in
+    record {
+      dry = omega (arith, count-more is_zero l n, bit (eqb (get_or l n 0) 0));
+      few = omega (arith, when-bit (ltb c.bound_at.result (get_or l n 0)));
+      channel = (λ b h.
+          omega (
+            arith,
+            c.loop-x.invariant.channel b h,
+            cells-more (λ x. ltb (b x) (get_or l x 0)) n,
+            bit (ltb c.bound_at.result (get_or l n 0)),
+            ap (λ (m : ℕ). when (ltb m (get_or l n 0)) 1) (h n _ c.loop-x-test.true c.bound_at.ensures),
+          ));
+    }
 
 pub overflow_sub-result : goal.overflow_sub-result
-overflow_sub-result c = omega (arith, count-few is_zero c.args.count.now c.loop-x.x)
+overflow_sub-result g c = omega (arith, count-few is_zero c.args.count.now c.loop-x.x)
 
 pub returns : goal.returns
-returns c =
-    let e : c.loop-x.x ≡ length c.args.count.now = omega arith in
-    (omega (arith, wet-split c.args.count.now (length c.args.count.now), ap (count_to is_zero c.args.count.now) e), c.loop-x.invariant.1 ∙ ap (count_to (above c.args.bound) c.args.count.now) e)
+returns g c =
+    let l = c.args.count.now in
+    let e : c.loop-x.x ≡ length l = omega arith in
+    record {
+      valid = omega (arith, wet-split l (length l), ap (count_to is_zero l) e);
+      channel = (λ b h. c.loop-x.invariant.channel b h ∙ ap (cells_to (λ x. ltb (b x) (get_or l x 0))) e);
+    }

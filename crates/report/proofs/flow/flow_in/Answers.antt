@@ -1,17 +1,22 @@
 -- `report::flow::flow_in` meets its contract. Assumes nothing.
+use mathlib.Core.Path.{◌∙◌}
+use mathlib.Core.List.{[], ◌∷◌}
+use native.Mathlib.Omega.{arith}
+use lib.ListN.{get_or}
+use Rattle.factor.specs.Farms.{farm_at}
 use Rattle.report.proofs.InnerFlow.{channels-shared}
-use Rattle.report.specs.InnerCells.{Bound}
-use Rattle.settings.specs.declared.Threshold.{Threshold}
-use mathlib.Core.Path.{sym, subst, ◌∙◌}
 use Rattle.report.proofs.flow.flow_in.Goals as goal
+
+pub count_above-requires-clause-each : goal.count_above-requires-clause-each
+count_above-requires-clause-each c = λ x h. let m = c.requires.1 in (omega arith, m.few x)
 
 pub returns : goal.returns
 returns c =
     let a = c.args in
-    let l = a.count.now in (
-      c.count_above_in.ensures.0,
-      λ f g p q. c.count_above_in.ensures.1
-          ∙ channels-shared f g a.marks.now l c.bound_for-bound.result c.bound_for-bound_second.result c.requires.1
-          (subst (λ (t : Threshold). Bound t l c.bound_for-bound.result) (sym p) c.bound_for-bound.ensures)
-          (subst (λ (t : Threshold). Bound t l c.bound_for-bound_second.result) (sym q) c.bound_for-bound_second.ensures),
+    let l = a.count.now in
+    let p = c.bound_for-bound.result in
+    let q = c.bound_for-bound_second.result in (
+      c.count_above.ensures.valid,
+      c.count_above.ensures.channel (λ x. get_or (p ∷ q ∷ []) (farm_at a.marks.now x) 0) (λ x r h t. t)
+          ∙ channels-shared a.rules.first a.rules.second a.marks.now l p q c.requires.1 c.bound_for-bound.ensures c.bound_for-bound_second.ensures,
     )

@@ -1,4 +1,5 @@
 -- `report::flow::largest_for` meets its contract. Assumes nothing.
+use mathlib.Core.Logic.{⊎_elim}
 use native.Mathlib.Omega.{arith}
 use Rattle.report.proofs.InnerFlow.{bounding-largest, bounding-over, bounding-never}
 use Rattle.report.proofs.flow.largest_for.Goals as goal
@@ -7,7 +8,6 @@ pub returns-in-Share : goal.returns-in-Share
 returns-in-Share c = bounding-largest _ _ c.largest.ensures
 
 pub returns-in-Over : goal.returns-in-Over
-returns-in-Over c = bounding-over c.args.count.now c.in-Over.is (λ x. omega (arith, c.shared_slice_known-1.given x))
-
-pub returns-in-Never : goal.returns-in-Never
-returns-in-Never c = bounding-never c.args.count.now c.in-Never.is (λ x. omega (arith, c.shared_slice_known-1.given x))
+returns-in-Over c =
+    ⊎_elim (λ w. bounding-over c.args.count.now w.1 (λ x. omega (arith, c.type_inv.count x)))
+    (λ e. bounding-never c.args.count.now e (λ x. omega (arith, c.type_inv.count x))) c.in-Over.is

@@ -1,7 +1,11 @@
 -- `report::lead::highest_in` meets its contract. Assumes nothing.
+use mathlib.Core.Path.{sym}
 use native.Mathlib.Omega.{arith}
-use Rattle.report.proofs.InnerLead.{highest-more}
+use Rattle.report.proofs.InnerLead.{highest-none, highest-more}
 use Rattle.report.proofs.lead.highest_in.Goals as goal
 
-pub loop-x-preserved : goal.loop-x-preserved
-loop-x-preserved c = omega (arith, highest-more c.args.factors.now c.loop-x.x, c.larger-highest.ensures, c.rank_of.ensures)
+pub loop-v-init : goal.loop-v-init
+loop-v-init c = sym (highest-none c.args.block.now)
+
+pub loop-v-preserved : goal.loop-v-preserved
+loop-v-preserved c = omega (arith, highest-more c.args.block.now c.loop-v.v-index)

@@ -6,18 +6,20 @@ use native.Mathlib.Omega.{arith}
 use mathlib.Core.Path.{refl}
 use Rattle.report.proofs.single.report_with.Goals as goal
 
-pub overflow_sub-result : goal.overflow_sub-result
-overflow_sub-result c = omega (arith, class-1 c.args.factors.now (length c.args.factors.now) c.tally_of-t.result c.tally_of-t.ensures)
+pub overflow_sub-t : goal.overflow_sub-t
+overflow_sub-t c = omega (arith, class-1 c.args.factors.now (length c.args.factors.now) c.tally_of-t.result c.tally_of-t.ensures)
 
-pub overflow_sub-result-2 : goal.overflow_sub-result-2
-overflow_sub-result-2 c = omega (arith, class-5 c.args.factors.now (length c.args.factors.now) c.tally_of-t.result c.tally_of-t.ensures)
+pub overflow_sub-t-2 : goal.overflow_sub-t-2
+overflow_sub-t-2 c = omega (arith, class-5 c.args.factors.now (length c.args.factors.now) c.tally_of-t.result c.tally_of-t.ensures)
 
-pub overflow_sub-result-3 : goal.overflow_sub-result-3
-overflow_sub-result-3 c = omega (arith, class-10 c.args.factors.now (length c.args.factors.now) c.tally_of-t.result c.tally_of-t.ensures (λ x. omega (arith, c.shared_slice_known-1.given x)))
+pub overflow_sub-t-3 : goal.overflow_sub-t-3
+overflow_sub-t-3 c = omega (arith, class-10 c.args.factors.now (length c.args.factors.now) c.tally_of-t.result c.tally_of-t.ensures (λ x. omega (arith, c.type_inv.factors x)))
 
 pub returns : goal.returns
 returns c =
     λ rows columns farms count cells va ch.
     let m = map_of rows columns farms count c.args.factors.now in
-    single-is m (length c.args.factors.now) cells c.tally_of-t.result (λ x. omega (arith, c.shared_slice_known-1.given x)) c.tally_of-t.ensures va ch
-    c.long_of.ensures c.sum_of.ensures (c.greatest_of.ensures m refl cells)
+    rw
+    (c.from.ensures, c.from-2.ensures, c.from-3.ensures, c.from-4.ensures, c.from-5.ensures, c.from-6.ensures, c.from-7.ensures)
+    (single-is m (length c.args.factors.now) cells c.tally_of-t.result (λ x. omega (arith, c.type_inv.factors x)) c.tally_of-t.ensures va ch
+    c.long_of.ensures c.sum_of.ensures (c.greatest_of.ensures m refl cells))

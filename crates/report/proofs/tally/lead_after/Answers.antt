@@ -5,14 +5,7 @@ use Rattle.report.proofs.tally.lead_after.Goals as goal
 
 pub returns-then-counts : goal.returns-then-counts
 returns-then-counts c =
-    let a = c.args in
-    let p = c.requires in
-    lead-moves a.factors.now (λ x. omega (arith, c.shared_slice_known-1.given x)) a.from a.to a.before a.counts p.0 p.1 p.2
-    c.highest_in.result c.highest_in.ensures c.if-counts.true
+    λ l b led counted. lead-moves (λ x. omega (arith, c.type_inv.block x)) b led counted c.highest_in.result c.highest_in.ensures c.if-counts.true
 
 pub returns : goal.returns
-returns c =
-    let a = c.args in
-    let p = c.requires in
-    lead-stays a.factors.now (λ x. omega (arith, c.shared_slice_known-1.given x)) a.from a.to a.before a.counts p.0 p.1 p.2
-    c.if-counts.false
+returns c = λ l b led counted. lead-stays (λ x. omega (arith, c.type_inv.block x)) b led counted c.if-counts.false

@@ -1,60 +1,34 @@
 -- `report::tests::judge_farms` meets its contract. Assumes nothing.
-use Rattle.report.proofs.InnerJudging.{rows-fails, columns-fails, long-fails, farms-left, farms-refused, farms-settings, farms-rest}
-use Rattle.report.specs.Maps.{map_of}
-use Rattle.factor.specs.Farms.{two}
-use Rattle.text.proofs.Accepted.{area-few}
-use Rattle.text.specs.Ranges.{size_accepted, all_long}
-use lib.ListN.{length}
-use native.Mathlib.Omega.{arith}
-use Prim.Native.Nat.{◌*◌}
+use mathlib.Core.Path.{refl, sym}
 use mathlib.Core.List.{[], ◌∷◌}
-use mathlib.Core.Bool.{true}
-use mathlib.Core.Path.{◌≡◌, sym, ◌∙◌}
+use lib.ListN.{length}
+use Rattle.std.proofs.lemmas.Result.{err_from_is_err_and}
+use Rattle.factor.specs.Farms.{two}
+use Rattle.report.specs.Maps.{map_of}
+use Rattle.report.proofs.InnerJudging.{shape-fails, shape-passes, shape-long, found-rules, found-bad, farms-refused, farms-settings, farms-rest}
 use Rattle.report.proofs.tests.judge_farms.Goals as goal
 
-pub returns-then-not-is_size : goal.returns-then-not-is_size
-returns-then-not-is_size c =
+pub returns-in_err-judge_shape : goal.returns-in_err-judge_shape
+returns-in_err-judge_shape c =
     let a = c.args in
-    farms-refused a.rows a.columns a.first a.second a.marks.now a.count.now a.factors.now c.unsound_farms.ensures
-    (rows-fails (map_of c.args.rows c.args.columns (two c.args.first c.args.second c.args.marks.now) c.args.count.now c.args.factors.now) (sym c.is_size.ensures ∙ c.if-not-is_size.true))
+    let m = map_of a.rows a.columns (two a.first a.second a.marks.now) a.count.now a.factors.now in
+    let p = err_from_is_err_and c.from_residual.result c.from_residual.ensures.1 in
+    rw (p.1, p.2)
+    (farms-refused a.rows a.columns a.first a.second a.marks.now a.count.now a.factors.now refl (sym (shape-fails m c.in_err-judge_shape.ensures)))
 
-pub returns-then-not-is_size-2 : goal.returns-then-not-is_size-2
-returns-then-not-is_size-2 c =
+pub returns-in_err-rules : goal.returns-in_err-rules
+returns-in_err-rules c =
     let a = c.args in
-    farms-refused a.rows a.columns a.first a.second a.marks.now a.count.now a.factors.now c.unsound_farms-then-not-is_size-2.ensures
-    (columns-fails (map_of c.args.rows c.args.columns (two c.args.first c.args.second c.args.marks.now) c.args.count.now c.args.factors.now) (sym c.is_size-2.ensures ∙ c.if-not-is_size-2.true))
+    let m = map_of a.rows a.columns (two a.first a.second a.marks.now) a.count.now a.factors.now in
+    let p = err_from_is_err_and c.from_residual-in_err-rules.result c.from_residual-in_err-rules.ensures.1 in
+    let w = found-bad a.first c.in_err-rules.ensures in
+    rw (p.1, p.2)
+    (farms-settings a.rows a.columns a.first a.second a.marks.now a.count.now a.factors.now (shape-passes m c.in_ok-judge_shape.ensures) w.2 w.1)
 
-pub overflow_mul-rows : goal.overflow_mul-rows
-overflow_mul-rows c =
-    let rows_are : size_accepted c.args.rows ≡ true = sym c.is_size.ensures ∙ c.if-not-is_size.false in
-    let columns-are : size_accepted c.args.columns ≡ true = sym c.is_size-2.ensures ∙ c.if-not-is_size-2.false in
-    let a = c.args in omega
-    (arith, area-few a.rows a.columns rows_are columns-are)
-
-pub returns-then-not-are_long : goal.returns-then-not-are_long
-returns-then-not-are_long c =
-    let rows_are : size_accepted c.args.rows ≡ true = sym c.is_size.ensures ∙ c.if-not-is_size.false in
-    let columns-are : size_accepted c.args.columns ≡ true = sym c.is_size-2.ensures ∙ c.if-not-is_size-2.false in
+pub returns : goal.returns
+returns c =
     let a = c.args in
-    farms-refused a.rows a.columns a.first a.second a.marks.now a.count.now a.factors.now c.unsound_farms-then-not-are_long.ensures
-    (long-fails (map_of c.args.rows c.args.columns (two c.args.first c.args.second c.args.marks.now) c.args.count.now c.args.factors.now) rows_are columns-are (sym c.are_long.ensures ∙ c.if-not-are_long.true))
-
-pub returns-in-Accepted : goal.returns-in-Accepted
-returns-in-Accepted c =
-    let rows_are : size_accepted c.args.rows ≡ true = sym c.is_size.ensures ∙ c.if-not-is_size.false in
-    let columns-are : size_accepted c.args.columns ≡ true = sym c.is_size-2.ensures ∙ c.if-not-is_size-2.false in
-    let long-are : let a = c.args in all_long (a.rows * a.columns) (length a.marks.now ∷ length a.count.now ∷ length a.factors.now ∷ []) ≡ true = sym c.are_long.ensures ∙ c.if-not-are_long.false in
-    let a = c.args in
-    farms-rest a.rows a.columns a.first a.second a.marks.now a.count.now a.factors.now
-    (farms-left (map_of c.args.rows c.args.columns (two c.args.first c.args.second c.args.marks.now) c.args.count.now c.args.factors.now) rows_are columns-are long-are)
-    long-are (sym c.judge-judged.ensures ∙ c.in-Accepted.is) c.judge_rest.ensures
-
-pub returns-in-Refused : goal.returns-in-Refused
-returns-in-Refused c =
-    let rows_are : size_accepted c.args.rows ≡ true = sym c.is_size.ensures ∙ c.if-not-is_size.false in
-    let columns-are : size_accepted c.args.columns ≡ true = sym c.is_size-2.ensures ∙ c.if-not-is_size-2.false in
-    let long-are : let a = c.args in all_long (a.rows * a.columns) (length a.marks.now ∷ length a.count.now ∷ length a.factors.now ∷ []) ≡ true = sym c.are_long.ensures ∙ c.if-not-are_long.false in
-    let a = c.args in
-    farms-settings a.rows a.columns a.first a.second a.marks.now a.count.now a.factors.now
-    (farms-left (map_of c.args.rows c.args.columns (two c.args.first c.args.second c.args.marks.now) c.args.count.now c.args.factors.now) rows_are columns-are long-are)
-    c.unsound_farms-in-Refused.ensures (sym c.judge-judged.ensures ∙ c.in-Refused.is)
+    let l = length a.marks.now ∷ length a.count.now ∷ length a.factors.now ∷ [] in
+    let m = map_of a.rows a.columns (two a.first a.second a.marks.now) a.count.now a.factors.now in
+    farms-rest a.rows a.columns a.first a.second a.marks.now a.count.now a.factors.now (shape-passes m c.in_ok-judge_shape.ensures)
+    (shape-long a.rows a.columns l c.in_ok-judge_shape.ensures) (found-rules a.first c.in_ok-rules.ensures) c.judge_rest.ensures

@@ -3,4 +3,4 @@ use Rattle.terrain.specs.InnerDownhill.{Awaiting}
 use Rattle.terrain.proofs.downhill.await_all.Given as goal
 
 abbrev pub invariant-loop-x : goal.invariant-loop-x
-invariant-loop-x l = Awaiting l.rows l.columns l.direction l.waiting l.x
+invariant-loop-x l = Awaiting l.drawing.rows l.drawing.columns l.drawing.direction.now l.waiting l.x

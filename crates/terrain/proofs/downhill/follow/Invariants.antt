@@ -3,8 +3,8 @@ use Rattle.std.proofs.Common.{◌+◌, ◌-◌, ◌*◌, ◌<◌}
 use Rattle.terrain.specs.InnerDownhill.{Peeled}
 use Rattle.terrain.proofs.downhill.follow.Given as goal
 
-abbrev pub invariant-loop-rows : goal.invariant-loop-rows
-invariant-loop-rows l = Peeled l.rows l.columns l.direction l.order l.waiting l.at (l.start + 1) l.x × (l.x < l.rows * l.columns)
+abbrev pub invariant-loop-place : goal.invariant-loop-place
+invariant-loop-place l = Peeled l.drawing.rows l.drawing.columns l.drawing.direction.now l.order l.waiting l.at (l.start + 1) l.x × (l.x < l.drawing.rows * l.drawing.columns)
 
-abbrev pub decreases-loop-rows : goal.decreases-loop-rows
-decreases-loop-rows l = l.rows * l.columns - l.at
+abbrev pub decreases-loop-place : goal.decreases-loop-place
+decreases-loop-place l = l.drawing.rows * l.drawing.columns - l.at

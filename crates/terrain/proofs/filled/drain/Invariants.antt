@@ -4,4 +4,4 @@ use Rattle.std.proofs.Common.{◌≡◌}
 use Rattle.terrain.proofs.filled.drain.Given as goal
 
 abbrev pub invariant-turns : goal.invariant-turns
-invariant-turns l = FloodedTo l.rows l.columns l.initial.words l.words l.level × (l.level ≡ level_in l.band l.list)
+invariant-turns l = FloodedTo l.ground.rows l.ground.columns l.initial.words l.words l.level × (l.level ≡ level_in l.band l.list)

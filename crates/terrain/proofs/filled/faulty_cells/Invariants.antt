@@ -4,7 +4,7 @@ use Rattle.terrain.specs.InnerFlood.{Faulty}
 use Rattle.terrain.proofs.filled.faulty_cells.Given as goal
 
 abbrev pub invariant-loop-x : goal.invariant-loop-x
-invariant-loop-x l = (l.x ≤ length l.level) × Faulty l.rows l.columns l.elevation l.level 0 l.x l.sum
+invariant-loop-x l = (l.x ≤ length l.level) × Faulty l.ground.rows l.ground.columns l.ground.elevation.now l.level 0 l.x l.sum
 
 abbrev pub decreases-loop-x : goal.decreases-loop-x
 decreases-loop-x l = length l.level - l.x

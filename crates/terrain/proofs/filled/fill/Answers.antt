@@ -4,4 +4,4 @@ use Rattle.terrain.proofs.InnerWords.{flood-filled}
 use Rattle.terrain.proofs.filled.fill.Goals as goal
 
 pub returns-else-faulty_cells-gt0 : goal.returns-else-faulty_cells-gt0
-returns-else-faulty_cells-gt0 c = flood-filled c.requires.0 _ _ (c.start.ensures.0 c.args.rows c.args.columns c.requires.1) c.flood.ensures (λ x h. c.faulty_cells.ensures.all (omega arith) x (omega arith) h)
+returns-else-faulty_cells-gt0 c = flood-filled c.args.ground.ready _ _ (c.start.ensures.0) c.flood.ensures (λ x h. c.faulty_cells.ensures.all (omega arith) x (omega arith) h)

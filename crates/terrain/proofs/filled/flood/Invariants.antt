@@ -3,4 +3,4 @@ use Rattle.terrain.specs.InnerFlood.{FloodedTo, level_in}
 use Rattle.terrain.proofs.filled.flood.Given as goal
 
 abbrev pub invariant-loop-band : goal.invariant-loop-band
-invariant-loop-band l = FloodedTo l.rows l.columns l.initial.words l.words (level_in l.band 1024)
+invariant-loop-band l = FloodedTo l.ground.rows l.ground.columns l.initial.words l.words (level_in l.band 1024)

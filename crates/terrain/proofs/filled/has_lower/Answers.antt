@@ -1,23 +1,19 @@
 -- `terrain::filled::has_lower` meets its contract. Assumes nothing.
-use Rattle.std.proofs.Common.{◌<◌, length, ◌∙◌, arith}
+use Rattle.std.proofs.Common.{◌∙◌, arith}
 use Rattle.terrain.proofs.InnerInterior.{inside_is, inside-lt}
 use Rattle.terrain.proofs.InnerFlooding.{lower-none, lower-more}
 use Rattle.terrain.proofs.filled.has_lower.Goals as goal
 
 pub loop-k-init : goal.loop-k-init
-loop-k-init c = let a = c.args in λ rows i. lower-none rows a.columns a.level.now a.x a.v
+loop-k-init c = let a = c.args in lower-none a.ground.rows a.ground.columns a.level.now a.x a.v
 
 pub offset_bounds-level-beside : goal.offset_bounds-level-beside
-offset_bounds-level-beside c =
-    let read : c.beside.result < length c.args.level.now = omega (arith, c.requires.2, inside-lt c.requires.0 c.args.columns c.args.x c.loop-k.k c.beside.result c.requires.3 (omega arith) c.beside.ensures) in
-    let h = read in omega arith
+offset_bounds-level-beside c = omega (arith, inside-lt c.args.ground.rows c.args.ground.columns c.args.x c.loop-k.k c.beside.result c.requires.1 (omega arith) c.beside.ensures)
 
 pub bounds-level-beside : goal.bounds-level-beside
-bounds-level-beside c =
-    let read : c.beside.result < length c.args.level.now = omega (arith, c.requires.2, inside-lt c.requires.0 c.args.columns c.args.x c.loop-k.k c.beside.result c.requires.3 (omega arith) c.beside.ensures) in
-    let h = read in omega arith
+bounds-level-beside c = omega (arith, inside-lt c.args.ground.rows c.args.ground.columns c.args.x c.loop-k.k c.beside.result c.requires.1 (omega arith) c.beside.ensures)
 
 pub loop-k-preserved : goal.loop-k-preserved
 loop-k-preserved c =
     let a = c.args in
-    λ rows i. lower-more rows a.columns a.level.now a.x a.v c.loop-k.k (c.loop-k.invariant rows i) (c.beside.ensures ∙ inside_is rows a.columns a.x c.loop-k.k i (omega arith))
+    lower-more a.ground.rows a.ground.columns a.level.now a.x a.v c.loop-k.k c.loop-k.invariant (c.beside.ensures ∙ inside_is a.ground.rows a.ground.columns a.x c.loop-k.k c.requires.1 (omega arith))

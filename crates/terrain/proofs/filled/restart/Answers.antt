@@ -7,7 +7,7 @@ use Rattle.std.proofs.Common.{ℕ, ◌*◌, cond, ◌∙◌, arith}
 use Rattle.terrain.proofs.filled.restart.Goals as goal
 
 pub start_word-requires : goal.start_word-requires
-start_word-requires c = omega (arith, c.ground_level.ensures, level-top c.requires.2 c.loop-x.x)
+start_word-requires c = omega (arith, c.level_at.ensures, level-top c.args.ground.ready c.loop-x.x)
 
 pub returns : goal.returns
-returns c = λ rows columns e. agrees-tab (λ (i : ℕ). cond (valid_at (levels_of c.args.elevation.now) i) top 0) 0 c.loop-x.level (rows * columns) (c.loop-x.auto.level ∙ e) (λ j h. c.loop-x.invariant j (omega arith))
+returns c = agrees-tab (λ (i : ℕ). cond (valid_at (levels_of c.args.ground.elevation.now) i) top 0) 0 c.loop-x.level (c.args.ground.rows * c.args.ground.columns) (c.loop-x.auto.level ∙ c.requires) (λ j h. c.loop-x.invariant j (omega arith))

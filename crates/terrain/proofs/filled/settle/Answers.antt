@@ -9,11 +9,11 @@ use Rattle.terrain.proofs.filled.settle.Goals as goal
 
 pub loop-init : goal.loop-init
 loop-init c =
-    let e = c.restart.ensures c.args.rows c.args.columns c.requires.1 in
-    subst (FillKept c.args.rows c.args.columns c.args.elevation.now) (sym e) (start-kept _ _ (filling-rule _ _ _ c.requires.0))
+    let g = c.args.ground in
+    subst (FillKept g.rows g.columns g.elevation.now) (sym c.restart.ensures) (start-kept _ _ (filling-rule _ _ _ g.ready))
 
 pub returns : goal.returns
 returns c =
-    let a = c.args in
-    let s = settling-more (filling a.rows a.columns (levels_of a.elevation.now)) (Stands a.rows a.columns a.elevation.now) (filling-rule _ _ _ c.requires.0) c.loop.level c.sweep.new.level c.sweep.result c.loop.invariant c.sweep.ensures in
-    filled_is _ _ _ c.requires.0 c.sweep.new.level s.kept (s.still c.loop-test.false)
+    let g = c.args.ground in
+    let s = settling-more (filling g.rows g.columns (levels_of g.elevation.now)) (Stands g.rows g.columns g.elevation.now) (filling-rule _ _ _ g.ready) c.loop.level c.sweep.new.level c.sweep.result c.loop.invariant c.sweep.ensures in
+    filled_is _ _ _ g.ready c.sweep.new.level s.kept (s.still c.loop-test.false)

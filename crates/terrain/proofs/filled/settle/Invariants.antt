@@ -4,7 +4,7 @@ use Rattle.terrain.specs.InnerFlood.{FillKept}
 use Rattle.terrain.proofs.filled.settle.Given as goal
 
 abbrev pub invariant-loop : goal.invariant-loop
-invariant-loop l = FillKept l.rows l.columns l.elevation l.level
+invariant-loop l = FillKept l.ground.rows l.ground.columns l.ground.elevation.now l.level
 
 abbrev pub decreases-loop : goal.decreases-loop
 decreases-loop l = total l.level

@@ -3,4 +3,4 @@ use Rattle.terrain.specs.InnerFlood.{FillSweeping}
 use Rattle.terrain.proofs.filled.sweep.Given as goal
 
 abbrev pub invariant-loop-x : goal.invariant-loop-x
-invariant-loop-x l = FillSweeping l.rows l.columns l.elevation l.initial.level l.level l.x l.lowered
+invariant-loop-x l = FillSweeping l.ground.rows l.ground.columns l.ground.elevation.now l.initial.level l.level l.x l.lowered

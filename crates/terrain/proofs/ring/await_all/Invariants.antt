@@ -3,4 +3,4 @@ use Rattle.terrain.specs.InnerGiven.{SameLevels, Counting}
 use Rattle.terrain.proofs.ring.await_all.Given as goal
 
 abbrev pub invariant-loop-x : goal.invariant-loop-x
-invariant-loop-x l = Counting l.rows l.columns l.direction l.words l.x × SameLevels l.initial.words l.words
+invariant-loop-x l = Counting l.drawing.rows l.drawing.columns l.drawing.direction.now l.words l.x × SameLevels l.initial.words l.words

@@ -3,8 +3,8 @@ use Rattle.std.proofs.Common.{◌+◌, ◌-◌, ◌*◌, ◌<◌}
 use Rattle.terrain.specs.InnerGiven.{SameLevels, Searching}
 use Rattle.terrain.proofs.ring.follow.Given as goal
 
-abbrev pub invariant-loop-rows : goal.invariant-loop-rows
-invariant-loop-rows l = Searching l.rows l.columns l.direction l.words l.at (l.start + 1) l.x × SameLevels l.initial.words l.words × (l.x < l.rows * l.columns)
+abbrev pub invariant-loop-place : goal.invariant-loop-place
+invariant-loop-place l = Searching l.drawing.rows l.drawing.columns l.drawing.direction.now l.words l.at (l.start + 1) l.x × SameLevels l.initial.words l.words × (l.x < l.drawing.rows * l.drawing.columns)
 
-abbrev pub decreases-loop-rows : goal.decreases-loop-rows
-decreases-loop-rows l = l.rows * l.columns - l.at
+abbrev pub decreases-loop-place : goal.decreases-loop-place
+decreases-loop-place l = l.drawing.rows * l.drawing.columns - l.at

@@ -4,4 +4,4 @@ use Rattle.std.proofs.Common.{◌*◌}
 use Rattle.terrain.proofs.ring.peel.Given as goal
 
 abbrev pub invariant-loop-x : goal.invariant-loop-x
-invariant-loop-x l = Searching l.rows l.columns l.direction l.words l.place l.x (l.rows * l.columns) × SameLevels l.initial.words l.words
+invariant-loop-x l = Searching l.drawing.rows l.drawing.columns l.drawing.direction.now l.words l.place l.x (l.drawing.rows * l.drawing.columns) × SameLevels l.initial.words l.words

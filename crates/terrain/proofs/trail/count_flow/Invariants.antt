@@ -3,4 +3,4 @@ use Rattle.terrain.proofs.InnerPassing.{Passing}
 use Rattle.terrain.proofs.trail.count_flow.Given as goal
 
 abbrev pub invariant-loop-place : goal.invariant-loop-place
-invariant-loop-place l = Passing l.rows l.columns l.direction l.order l.count l.place
+invariant-loop-place l = Passing l.drawing.rows l.drawing.columns l.drawing.direction.now l.order l.count l.place

@@ -5,7 +5,7 @@ use Rattle.std.proofs.Common.{◌-◌, refl, arith}
 use Rattle.terrain.proofs.trail.longest_trail.Goals as goal
 
 pub receiver-y-requires : goal.receiver-y-requires
-receiver-y-requires c = (c.requires.0.drawn, place-valid c.requires.0.drawn c.requires.1 (omega arith) refl, c.requires.3)
+receiver-y-requires c = place-valid c.requires.0.drawn c.requires.1 (omega arith) refl
 
 pub overflow_add-cells : goal.overflow_add-cells
 overflow_add-cells c = omega (arith, back-small c.requires.0 c.requires.1 c.loop-place.invariant (omega arith) c.loop-place.auto.place refl c.receiver-y.ensures c.value_at-cells.ensures, c.requires.0.drawn.sized.small)

@@ -2,7 +2,7 @@
 use mathlib.Core.Path.{sym, ◌∙◌}
 use mathlib.Core.Bool.{true≢false}
 use Rattle.text.proofs.Ends.{first-solid}
-use Rattle.text.proofs.InnerSteps.{count_none, count-empty, count-off, count-size, count-on, size-few}
+use Rattle.text.proofs.InnerSteps.{count_none, count-empty, count-off, count-size, count-good, size-few}
 use Rattle.text.proofs.numbers.read_count.Goals.{then-e-a-via-then-e-a, then-e-a-via-else-e-a+then-not-ends}
 use Rattle.text.proofs.numbers.read_count.Goals as goal
 
@@ -38,6 +38,6 @@ returns-then-not-is_size c = (
 pub returns : goal.returns
 returns c =
     let t = sym c.is_size.ensures ∙ c.if-not-is_size.false in (
-      count-on _ _ _ c.word_start-a.ensures c.if-s-a.false _ _ c.read_digits-d.ensures c.if-e-a.false (sym c.ends.ensures ∙ c.if-not-ends.false) t,
+      count-good _ _ _ c.word_start-a.ensures c.if-s-a.false _ _ c.read_digits-d.ensures c.if-e-a.false (sym c.ends.ensures ∙ c.if-not-ends.false) t,
       size-few _ t,
     )

@@ -1,7 +1,0 @@
--- What the loops of `terrain::given::first_broken` keep. Assumes nothing.
-use Rattle.std.proofs.Common.{◌≡◌, ℕ, ◌<◌, false, not}
-use Rattle.terrain.specs.Given.{kept_at}
-use Rattle.terrain.proofs.given.first_broken.Given as goal
-
-abbrev pub invariant-loop-x : goal.invariant-loop-x
-invariant-loop-x l = ((j : ℕ) → j < l.x → not (kept_at l.rows l.columns l.level l.direction j) ≡ false)
