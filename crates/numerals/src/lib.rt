@@ -8,7 +8,7 @@ ghost use Rattle.std.specs.Prelude.{[], ◌∷◌, ◌≡◌, ◌+◌, ◌≤◌
 ghost use Rattle.numerals.specs.Words.{decimal, padded};
 ghost use Rattle.numerals.specs.Writing.{overlay, Lays};
 
-// One byte.
+// One byte. No `get_mut`: its contract doesn't say what the room holds afterwards, so that the proof doesn't close.
 pub fn put(out: &mut [u8], at: usize, b: u8)
     ensures { out.new ≡ overlay out.old at (b ∷ []) }
 {
