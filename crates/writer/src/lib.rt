@@ -48,7 +48,8 @@ fn write<W: Word>(frame: Frame, cells: &[W::Cell], room: &mut [u8]) -> Result<us
     put_text::<W>(frame, cells, room)
 }
 
-// Writes heights in cm, ground or filled, into the lent room.
+// Writes heights in cm, ground or filled, into the lent room. This call and the three below take no Frame: what they promise is of
+// these parameters.
 pub fn write_heights(
     rows: usize,
     columns: usize,
@@ -155,7 +156,7 @@ pub fn write_directions(
     write::<Directions>(frame, directions, room)
 }
 
-// How many bytes a room needs for any text of a shape.
+// How many bytes a room needs for any text of a shape; 0 for a shape that is refused, as `room_for` says, and not an Option.
 pub fn room(rows: usize, columns: usize) -> usize
     ensures is { result ≡ room_for rows columns }
     ensures holds { Holds rows columns result }
