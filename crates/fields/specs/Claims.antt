@@ -1,5 +1,5 @@
 -- RULES 8: What is claimed of small fields, lengths and factors, and when a claim holds: by the definitions that the map call promises. Assumes nothing.
-use Rattle.std.specs.Prelude.{◌≡◌, List, [], ◌∷◌, ℕ, ◌*◌, replicate, ℤ, pos}
+use Rattle.std.specs.Prelude.{◌≡◌, List, [], ◌∷◌, ℕ, ◌*◌, replicate, ℤ, pos, Ok, Err}
 use Rattle.settings.specs.declared.Channel.TheVariants.{NoChannel}
 use Rattle.settings.specs.declared.Formula.{Formula}
 use Rattle.settings.specs.declared.Formula.TheVariants.{Older, Newer}
@@ -15,7 +15,7 @@ use Rattle.factor.specs.Steepness.{sine_of, steepness_factor}
 use Rattle.factor.specs.Cell.{factor_of}
 use Rattle.factor.specs.Farms.{Farms, one, two}
 use Rattle.factor.specs.Answers.{Grids, map_of, answer, after}
-use Rattle.factor.specs.declared.Answer.TheVariants.{Accepted, Refused}
+use Rattle.text.specs.Faults.{fault_of}
 
 -- what a map is claimed to be
 pub record Maps : Type 0 where
@@ -84,7 +84,7 @@ lent n = lent_with n (replicate n 7) 7
 module _ (rows cols side : ℕ) (farms : Farms) (source : Source) (elevation : List ℤ) (g : Grids) where
   abbrev Gives : Maps → Type 0
   Gives m =
-      (answer rows cols side farms source elevation g ≡ Accepted m.valids m.longest)
+      (answer rows cols side farms source elevation g ≡ Ok (record { valid = m.valids; longest = m.longest }))
       × (after rows cols side farms source elevation g
       ≡ record {
         filled = m.filled;
@@ -98,7 +98,7 @@ module _ (rows cols side : ℕ) (farms : Farms) (source : Source) (elevation : L
   -- or this number and place, and leaves the grids h
   abbrev Refuses : ℕ → ℕ → Grids → Type 0
   Refuses number place h =
-      (answer rows cols side farms source elevation g ≡ Refused (record { number = number; place = place }))
+      (answer rows cols side farms source elevation g ≡ Err (record { fault = fault_of number; place = place }))
       × (after rows cols side farms source elevation g ≡ h)
 
 abbrev pub Holds : Claim → Type 0
