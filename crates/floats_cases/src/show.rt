@@ -1,5 +1,6 @@
 // Writes what both calls answer for one grid: its name, then for each call number, place, rows, columns, side and NoData number,
 // and after those of the floats the lent heights.
+use output::Answers;
 use std::io;
 
 // What every lent height is beforehand, so that an untouched grid shows.
@@ -29,9 +30,14 @@ impl Case {
     pub(crate) fn show(self, rt: &impl Print) -> io::Result<()> {
         let mut lent = [MARK; MOST];
         let heights = &mut lent[..self.cells.min(MOST)];
-        let alone = text::read_lone_header(self.header);
-        let read = floats::read_floats(self.header, self.floats, heights);
-        println!(rt; "{}", self.name)?;
-        output::write_answers(rt, alone, "floats", read, heights)
+        let header = text::read_lone_header(self.header);
+        let cells = floats::read_floats(self.header, self.floats, heights);
+        let answers = Answers {
+            header,
+            call: "floats",
+            cells,
+            heights,
+        };
+        println!(rt; "{}\n{answers}", self.name)
     }
 }

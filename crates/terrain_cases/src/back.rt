@@ -1,7 +1,7 @@
 // Our own directions given back: the map call must then leave what it left with its own.
 use crate::drawn::LEVEL_BOWL;
 use crate::land::Land;
-use crate::show::{MOST, Places, Room, map, write_workspace};
+use crate::show::{MOST, Places, Room, became, map};
 use factor::Source;
 use std::io;
 
@@ -32,7 +32,7 @@ fn field_back(
     map(rt, rows, columns, Source::Own, ground, &mut own)?;
     back.give(own.direction);
     map(rt, rows, columns, Source::Given, ground, &mut back)?;
-    write_workspace(rt, back.workspace)?;
+    println!(rt; "\nworkspace {}", became(back.workspace))?;
     let same = *back.filled == *own.filled
         && *back.direction == *own.direction
         && *back.count == *own.count

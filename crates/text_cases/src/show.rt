@@ -1,5 +1,6 @@
 // Writes what both calls of `text` answer for one text. An answer is number, place, rows, columns, side and NoData
 // number, and after the reader call's stand the lent heights.
+use output::Answers;
 use std::io;
 
 // What every lent height is beforehand, so that an untouched grid shows.
@@ -21,8 +22,13 @@ impl Case {
         let mut lent = [MARK; MOST];
         let heights = &mut lent[..self.cells.min(MOST)];
         let header = text::read_header(self.text).map(|head| head.header);
-        let grid = text::read_grid(self.text, heights);
-        println!(rt; "{}", self.name)?;
-        output::write_answers(rt, header, "grid", grid, heights)
+        let cells = text::read_grid(self.text, heights);
+        let answers = Answers {
+            header,
+            call: "grid",
+            cells,
+            heights,
+        };
+        println!(rt; "{}\n{answers}", self.name)
     }
 }
