@@ -21,35 +21,95 @@ pub(crate) enum Land<'a> {
     Fall,
 }
 
-pub(crate) fn shapes(rt: &impl Print) -> io::Result<()> {
-    draw(rt, "spiral outwards", Land::SpiralOut, 40, 40, 1600)?;
-    draw(rt, "spiral inwards", Land::SpiralIn, 40, 40, 1600)?;
-    draw(rt, "comb", Land::Comb, 40, 40, 1600)?;
-    draw(rt, "plane", Land::Plane, 40, 40, 1600)?;
-    draw(rt, "bowl", Land::Bowl, 40, 40, 1600)
+// A field of a kind.
+#[derive(Clone, Copy)]
+pub(crate) struct Field<'a> {
+    pub(crate) name: &'a str,
+    pub(crate) land: Land<'a>,
+    pub(crate) rows: usize,
+    pub(crate) columns: usize,
 }
 
-pub(crate) fn strips_and_noise(rt: &impl Print) -> io::Result<()> {
-    draw(rt, "falling strip", Land::Fall, 1, 1024, 1024)?;
-    draw(rt, "noise", Land::Noise, 40, 40, 1600)?;
-    draw(rt, "noise of all heights", Land::WideNoise, 30, 20, 600)?;
-    draw(rt, "noise and NoData", Land::StepNoise, 20, 30, 600)?;
-    draw(rt, "strip and NoData", Land::StepNoise, 1024, 1, 1024)
-}
+pub(crate) const SHAPES: &[Field] = &[
+    Field {
+        name: "spiral outwards",
+        land: Land::SpiralOut,
+        rows: 40,
+        columns: 40,
+    },
+    Field {
+        name: "spiral inwards",
+        land: Land::SpiralIn,
+        rows: 40,
+        columns: 40,
+    },
+    Field {
+        name: "comb",
+        land: Land::Comb,
+        rows: 40,
+        columns: 40,
+    },
+    Field {
+        name: "plane",
+        land: Land::Plane,
+        rows: 40,
+        columns: 40,
+    },
+    Field {
+        name: "bowl",
+        land: Land::Bowl,
+        rows: 40,
+        columns: 40,
+    },
+];
 
-// Maps a field of a kind, of so many cells.
-pub(crate) fn draw(
-    rt: &impl Print,
-    name: &str,
-    land: Land,
-    rows: usize,
-    columns: usize,
-    cells: usize,
-) -> io::Result<()> {
-    let mut heights = [0; MOST];
-    let ground = &mut heights[..cells.min(MOST)];
-    land.shape(columns, ground);
-    field(rt, name, rows, columns, ground)
+pub(crate) const STRIPS_AND_NOISE: &[Field] = &[
+    Field {
+        name: "falling strip",
+        land: Land::Fall,
+        rows: 1,
+        columns: 1024,
+    },
+    Field {
+        name: "noise",
+        land: Land::Noise,
+        rows: 40,
+        columns: 40,
+    },
+    Field {
+        name: "noise of all heights",
+        land: Land::WideNoise,
+        rows: 30,
+        columns: 20,
+    },
+    Field {
+        name: "noise and NoData",
+        land: Land::StepNoise,
+        rows: 20,
+        columns: 30,
+    },
+    Field {
+        name: "strip and NoData",
+        land: Land::StepNoise,
+        rows: 1024,
+        columns: 1,
+    },
+];
+
+impl Field<'_> {
+    // Maps the field.
+    pub(crate) fn show(self, rt: &impl Print) -> io::Result<()> {
+        let mut heights = [0; MOST];
+        let ground = &mut heights[..self.cells()];
+        self.land.shape(self.columns, ground);
+        field(rt, self.name, self.rows, self.columns, ground)
+    }
+
+    pub(crate) fn cells(self) -> usize
+        ensures { result ≤ MOST }
+    {
+        self.rows.saturating_mul(self.columns).min(MOST)
+    }
 }
 
 impl Land<'_> {
