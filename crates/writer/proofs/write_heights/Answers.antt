@@ -18,17 +18,12 @@ returns-in_err-judge c =
 pub returns-in-Some : goal.returns-in-Some
 returns-in-Some c =
     let a = c.args in
-    let f = frame a.rows a.columns a.side a.x.now a.y.now in
-    let p = heights-refuse f a.heights.now a.room.now (sym c.in_ok-judge.ensures) c.in-Some.ensures in
+    let p = heights-refuse _ a.heights.now a.room.now (sym c.in_ok-judge.ensures) c.in-Some.ensures in
     record { answers = p.answers; leaves = p.leaves }
-
-pub put_text-requires : goal.put_text-requires
-put_text-requires c = sym c.in_ok-judge.ensures
 
 pub returns : goal.returns
 returns c =
     let a = c.args in
-    let f = frame a.rows a.columns a.side a.x.now a.y.now in
-    let p = heights-good f a.heights.now a.room.now (sym c.in_ok-judge.ensures) (sym c.in_default.is ∙ c.first_bad.ensures)
+    let p = heights-good _ a.heights.now a.room.now (sym c.in_ok-judge.ensures) (sym c.in_default.is ∙ c.first_bad.ensures)
     (record { answers = c.put_text.ensures.answers; leaves = c.put_text.ensures.leaves }) in
     record { answers = p.answers; leaves = p.leaves }
