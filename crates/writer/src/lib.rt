@@ -82,6 +82,7 @@ pub fn write_heights(
 }
 
 // Writes flow counts into the lent room.
+#[tactic(auto, unfolding(crate::specs::Answers::count_cells, crate::specs::Answers::number_cells))]
 pub fn write_counts(
     rows: usize,
     columns: usize,
@@ -107,6 +108,7 @@ pub fn write_counts(
 }
 
 // Writes LS, in hundred-thousandths, into the lent room.
+#[tactic(auto, unfolding(crate::specs::Answers::factor_cells, crate::specs::Answers::number_cells))]
 pub fn write_factors(
     rows: usize,
     columns: usize,
@@ -132,6 +134,7 @@ pub fn write_factors(
 }
 
 // Writes directions, as their codes, into the lent room.
+#[tactic(auto, unfolding(crate::specs::Answers::direction_cells, crate::specs::Answers::number_cells))]
 pub fn write_directions(
     rows: usize,
     columns: usize,

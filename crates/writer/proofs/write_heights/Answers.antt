@@ -27,17 +27,12 @@ returns-in_err-judge c =
 pub returns-then-bad-heights : goal.returns-then-bad-heights
 returns-then-bad-heights c =
     let a = c.args in
-    let f = frame a.rows a.columns a.side a.x.now a.y.now in
-    let p = heights-refuse f a.heights.now a.room.now (sym c.in_ok-judge.ensures) (omega (arith, c.first_bad-bad.ensures, c.if-bad-heights.true)) in
+    let p = heights-refuse _ a.heights.now a.room.now (sym c.in_ok-judge.ensures) (omega (arith, c.first_bad-bad.ensures, c.if-bad-heights.true)) in
     record { answers = ap refusal c.first_bad-bad.ensures ∙ p.answers; leaves = p.leaves }
-
-pub put_text-requires : goal.put_text-requires
-put_text-requires c = sym c.in_ok-judge.ensures
 
 pub returns : goal.returns
 returns c =
     let a = c.args in
-    let f = frame a.rows a.columns a.side a.x.now a.y.now in
-    let p = heights-good f a.heights.now a.room.now (sym c.in_ok-judge.ensures) (omega (arith, c.first_bad-bad.ensures, c.if-bad-heights.false))
+    let p = heights-good _ a.heights.now a.room.now (sym c.in_ok-judge.ensures) (omega (arith, c.first_bad-bad.ensures, c.if-bad-heights.false))
     (record { answers = c.put_text.ensures.answers; leaves = c.put_text.ensures.leaves }) in
     record { answers = p.answers; leaves = p.leaves }
