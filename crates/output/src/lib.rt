@@ -1,4 +1,5 @@
-// What the calls that read a text answer, printed, for the programs that run stored cases. What is written no contract can say.
+// What the calls that read a text answer, printed, for the programs that run stored cases. What is printed no contract
+// says, and the file `stdout` of each of those programs has it.
 #![tactic(auto)]
 
 use std::fmt;
