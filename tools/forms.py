@@ -49,7 +49,7 @@ def line_of(text, at):
 def bare(text):
     """The text with comments and strings blanked, so that places stay."""
     blank = lambda m: re.sub(r'[^\n]', ' ', m[0])
-    return re.sub(r'//[^\n]*|b?"(?:[^"\\]|\\.)*"', blank, text)
+    return re.sub(r'//[^\n]*|b?"(?:[^"\\]|\\[\s\S])*"', blank, text)
 
 
 class Function:

@@ -2,9 +2,9 @@
 use mathlib.Core.Path.{◌≡◌, refl, sym, ap, ap₂, subst, ◌∙◌, fun_ext}
 use mathlib.Core.List.{List}
 use mathlib.Core.Bool.{Bool, true, false, cond, true≢false}
-use Prim.Native.Nat.{ℕ, ◌*◌}
+use Prim.Native.Nat.{ℕ, ◌*◌, ◌≤◌}
 use native.Mathlib.Omega.{arith}
-use lib.ListN.{length, replicate}
+use lib.ListN.{length, replicate, take}
 use lib.IntN.{ℤ}
 use Rattle.laws.specs.Tests.{Test, passed, failed, verdict}
 use Rattle.text.specs.Faults.{number_of, fault_of}
@@ -24,8 +24,9 @@ use Rattle.terrain.specs.declared.Source.{Source}
 use Rattle.terrain.specs.Answers as terrain
 use Rattle.terrain.specs.declared.Summary.{Summary}
 use Rattle.std.specs.Borrow.{Bor}
+use Rattle.std.proofs.lemmas.List.{length-take-le}
 use Rattle.std.proofs.Common.{Some, None, Result, Ok, Err}
-use Rattle.terrain.proofs.Public.{accepted-ready, accepted-directed, filled-small, counts-long}
+use Rattle.terrain.proofs.Public.{accepted-ready, accepted-directed, filled-small, counts-long, downhill-taken}
 use Rattle.factor.specs.Farms.{Farms, one, two, farm_at, Marked, of_farm, rules_in}
 use Rattle.factor.specs.Length.{lengths_of}
 use Rattle.factor.specs.Grid.{factors_of}
@@ -181,8 +182,14 @@ module _ (rows cols side : ℕ) (farms : Farms) (source : Source) (elevation : L
       ready : Ready rows cols elevation
       ready = accepted-ready rows cols source elevation (lent_on g) found.passes
 
+      -- the order has room in the workspace, and so many places
+      pub accepted-room : (summary.valid ≤ length t.workspace) × (summary.valid ≡ length (take summary.valid t.workspace))
+      accepted-room =
+          let h : summary.valid ≤ length t.workspace = omega (arith, found.mapped.order.room, found.valid-is) in
+          (h, sym (length-take-le summary.valid t.workspace h))
+
       -- what the pass assumes
-      pub accepted-measuring : Measuring rows cols side (filled_levels rows cols elevation) t.direction t.count t.workspace summary.valid g.lengths t.falls
+      pub accepted-measuring : Measuring rows cols side (filled_levels rows cols elevation) t.direction t.count (take summary.valid t.workspace) g.lengths t.falls
       accepted-measuring =
           let m = found.mapped in
           let s = first-side rows cols side farms elevation g e in
@@ -192,7 +199,7 @@ module _ (rows cols side : ℕ) (farms : Farms) (source : Source) (elevation : L
             side-some = s.0;
             side-small = s.1;
             count_long = ap length m.count-is ∙ counts-long rows cols dir;
-            order_is = rw (m.direction-is, found.valid-is) m.order;
+            order_is = downhill-taken (rw (m.direction-is, found.valid-is) m.order);
             lengths-long = first-lengths rows cols side farms elevation g e;
             falls-are = m.falls-are ∙ ap (falls_of rows cols lv) (sym m.direction-is);
           }

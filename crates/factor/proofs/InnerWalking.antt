@@ -55,15 +55,14 @@ module _ (rows cols side : ℕ) (rules : ℕ → Rules) (lv dir count : List ℕ
         (length_at rows cols side rules lv dir count z)
 
 -- what the pass assumes of a map: its levels lv, the rules and the farm of each cell, directions, counts, and an order of its cells
-pub record Charted (rows : ℕ) (lv : List ℕ) (rules : ℕ → Rules) (terms : Terms) (farm : ℕ → Farm) (dir count order : List ℕ)
-    (places : ℕ) : Type 0 where
+pub record Charted (rows : ℕ) (lv : List ℕ) (rules : ℕ → Rules) (terms : Terms) (farm : ℕ → Farm) (dir count order : List ℕ) : Type 0 where
   pub directed : Directed rows terms.columns dir
   pub capped : (x : ℕ) → get_or lv x 0 ≤ top
   pub sided : Sided terms.side
   pub ruled : (x : ℕ) → Ruled (rules x) (farm x)
   pub count_long : length count ≡ rows * terms.columns
   pub channel : (x : ℕ) → x < rows * terms.columns → ltb (farm x).most (get_or count x 0) ≡ channel_at rows terms.columns (rules x) count x
-  pub order_is : Downhill rows terms.columns dir order places
+  pub order_is : Downhill rows terms.columns dir order (length order)
 
 -- ---- the map as the code reads it
 
@@ -94,8 +93,8 @@ module _ (rows cols : ℕ) (lv dir : List ℕ) (capped : (x : ℕ) → get_or lv
 
 -- ---- the turn of one cell
 
-module _ {rows : ℕ} {lv dir count order : List ℕ} {places : ℕ} {rules : ℕ → Rules} {farm : ℕ → Farm} {terms : Terms}
-    (c : Charted rows lv rules terms farm dir count order places) where
+module _ {rows : ℕ} {lv dir count order : List ℕ} {rules : ℕ → Rules} {farm : ℕ → Farm} {terms : Terms}
+    (c : Charted rows lv rules terms farm dir count order) where
   abbrev cols : ℕ
   cols = terms.columns
 
@@ -120,7 +119,7 @@ module _ {rows : ℕ} {lv dir count order : List ℕ} {places : ℕ} {rules : �
   abbrev Turns : List ℕ → List ℕ → ℕ → Type 0
   Turns = Turn max size to (given_by rows cols terms.side rules lv dir count) whole (final_at rows cols terms.side rules lv dir count)
 
-  module _ {lengths factors : List ℕ} {p x : ℕ} (w : Walks lengths factors p) (h : p < places) (e : x ≡ get_or order p 0) where
+  module _ {lengths factors : List ℕ} {p x : ℕ} (w : Walks lengths factors p) (h : p < length order) (e : x ≡ get_or order p 0) where
     here-valid : mapped_at rows cols dir x ≡ true
     here-valid = ap (mapped_at rows cols dir) e ∙ order-cell c.order_is.cells p h
 
@@ -267,13 +266,13 @@ terms-farmed {largest} terms first second f s farm = go (eqb farm 0)
     go true = f
     go false = s
 
-module _ {rows cols side : ℕ} {lv dir count order lengths factors : List ℕ} {places : ℕ}
-    (m : Measuring rows cols side lv dir count order places lengths factors) where
+module _ {rows cols side : ℕ} {lv dir count order lengths factors : List ℕ}
+    (m : Measuring rows cols side lv dir count order lengths factors) where
   -- two farms, which may be the same, chart the map for any choice of a farm for each cell
   pub measure-charted : (first second : Rules) (farm : ℕ → ℕ) {f s : Farm} →
       Farmed first (largest_of (length count) count) f → Farmed second (largest_of (length count) count) s →
       Charted rows lv (λ x. of_farm first second (farm x)) (record { columns = cols; side = side; first = f; second = s })
-      (λ x. farm_in (record { columns = cols; side = side; first = f; second = s }) (farm x)) dir count order places
+      (λ x. farm_in (record { columns = cols; side = side; first = f; second = s }) (farm x)) dir count order
   measure-charted first second farm {f} {s} a b =
       let farmed = (λ (x : ℕ). terms-farmed (record { columns = cols; side = side; first = f; second = s }) first second a b (farm x)) in
       record {
@@ -287,8 +286,8 @@ module _ {rows cols side : ℕ} {lv dir count order lengths factors : List ℕ} 
         order_is = m.order_is;
       }
 
-module _ {rows cols side : ℕ} {lv dir count order lengths factors : List ℕ} {places : ℕ}
-    (m : Measuring rows cols side lv dir count order places lengths factors) (rules : ℕ → Rules) where
+module _ {rows cols side : ℕ} {lv dir count order lengths factors : List ℕ}
+    (m : Measuring rows cols side lv dir count order lengths factors) (rules : ℕ → Rules) where
   abbrev cells : ℕ
   cells = rows * cols
 
@@ -317,7 +316,7 @@ module _ {rows cols side : ℕ} {lv dir count order lengths factors : List ℕ} 
       zero-at : (z : ℕ) → z < cells → get_or zeros z 0 ≡ 0
       zero-at z h = ap (λ (l : List ℕ). get_or l z 0) e ∙ get_or-replicate (length lengths) z 0 0 (omega (arith, m.lengths-long))
 
-  module _ {lengths' factors' : List ℕ} (w : Walking rows cols side rules lv dir count order lengths' factors' places) where
+  module _ {lengths' factors' : List ℕ} (w : Walking rows cols side rules lv dir count order lengths' factors' (length order)) where
     abbrev valid-at : ℕ → Bool
     valid-at = mapped_at rows cols dir
 

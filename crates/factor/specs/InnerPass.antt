@@ -138,13 +138,13 @@ module _ (terms : Terms) (farm : ℕ → Farm) (dir count lengths factors : List
 
 -- ---- the pass
 
--- what the pass assumes of a map: its levels lv, directions and counts, an order of its cells at the first places, and the grids that lengths and LS go to
-pub record Measuring (rows cols side : ℕ) (lv dir count order : List ℕ) (places : ℕ) (lengths factors : List ℕ) : Type 0 where
+-- what the pass assumes of a map: its levels lv, directions and counts, an order of its cells, and the grids that lengths and LS go to
+pub record Measuring (rows cols side : ℕ) (lv dir count order lengths factors : List ℕ) : Type 0 where
   pub directed : Directed rows cols dir
   pub capped : (x : ℕ) → get_or lv x 0 ≤ top
   pub side-some : 1 ≤ side
   pub side-small : side ≤ 100000
   pub count_long : length count ≡ rows * cols
-  pub order_is : Downhill rows cols dir order places
+  pub order_is : Downhill rows cols dir order (length order)
   pub lengths-long : length lengths ≡ rows * cols
   pub falls-are : factors ≡ falls_of rows cols lv dir

@@ -63,17 +63,9 @@ fn map_sound(
     let summary = terrain::map(
         rows, columns, source, elevation, filled, direction, count, factors, workspace,
     )?;
+    let order = &workspace[..summary.valid as usize];
     pass::measure(
-        columns,
-        side,
-        rules,
-        marks,
-        direction,
-        count,
-        workspace,
-        summary.valid as usize,
-        lengths,
-        factors,
+        columns, side, rules, marks, direction, count, order, lengths, factors,
     );
     workspace.fill(0);
     Ok(summary)

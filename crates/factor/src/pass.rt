@@ -217,8 +217,8 @@ fn turn(
     );
 }
 
-// The length and the LS of every cell by the rules of the farm that it names, from the falls in `factors`, along the order of the valid
-// cells at the first places.
+// The length and the LS of every cell by the rules of the farm that it names, from the falls in `factors`, along the order of the
+// valid cells.
 pub(crate) fn measure(
     columns: usize,
     side: u32,
@@ -227,14 +227,13 @@ pub(crate) fn measure(
     direction: &[u8],
     count: &[u32],
     order: &[u32],
-    places: usize,
     lengths: &mut [u64],
     factors: &mut [u32],
 )
-    requires { (rows : ℕ) × (lv : List ℕ) × Measuring rows columns side lv direction.now count.now order.now places lengths.old factors.old
+    requires { (rows : ℕ) × (lv : List ℕ) × Measuring rows columns side lv direction.now count.now order.now lengths.old factors.old
         × Naming (rows * columns) marks }
     ensures { (rows : ℕ) (lv : List ℕ) →
-        Measuring rows columns side lv direction.now count.now order.now places
+        Measuring rows columns side lv direction.now count.now order.now
         lengths.old factors.old →
         Naming (rows * columns) marks.entry →
         (lengths.new
@@ -253,7 +252,7 @@ pub(crate) fn measure(
     let lists = thresholds::all();
     let mut guesses: Guesses = [0; 7708];
     lengths.fill(0);
-    for place in 0..places {
+    for &cell in order {
         turn(
             &terms,
             marks,
@@ -261,7 +260,7 @@ pub(crate) fn measure(
             count,
             lengths,
             factors,
-            order[place] as usize,
+            cell as usize,
             &shifts,
             &lists,
             &mut guesses,

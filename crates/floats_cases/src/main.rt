@@ -11,8 +11,15 @@ mod show;
 use std::io;
 
 fn main(rt: HostRuntime) -> io::Result<()> {
-    rounding::run(&rt)?;
-    faults::run(&rt)?;
-    no_data::run(&rt)?;
-    refusals::run(&rt)
+    for cases in [
+        rounding::CASES,
+        faults::CASES,
+        no_data::CASES,
+        refusals::CASES,
+    ] {
+        for case in cases {
+            case.show(&rt)?;
+        }
+    }
+    Ok(())
 }

@@ -1,86 +1,65 @@
 // What is tested before the cells: the header, a word after it, the lent heights, the bytes. But for what a name says, a grid is two
 // cells that are 1, with two heights lent.
-use crate::show::case;
-use std::io;
+use crate::show::Case;
 
-pub(crate) fn run(rt: &impl Print) -> io::Result<()> {
-    bytes(rt)?;
-    lent(rt)?;
-    after_header(rt)?;
-    in_header(rt)
-}
-
-fn bytes(rt: &impl Print) -> io::Result<()> {
-    case(
-        rt,
-        "a byte too few",
-        b"ncols 2 nrows 1 xllcorner 0 yllcorner 0 cellsize 10\n",
-        2,
-        b"\x00\x00\x80\x3f\
+pub(crate) const CASES: &[Case] = &[
+    // The bytes.
+    Case {
+        name: "a byte too few",
+        header: b"ncols 2 nrows 1 xllcorner 0 yllcorner 0 cellsize 10\n",
+        cells: 2,
+        floats: b"\x00\x00\x80\x3f\
         \x00\x00\x80",
-    )?;
-    case(
-        rt,
-        "a byte too many, before NaN",
-        b"ncols 2 nrows 1 xllcorner 0 yllcorner 0 cellsize 10\n",
-        2,
-        b"\x00\x00\xc0\x7f\
+    },
+    Case {
+        name: "a byte too many, before NaN",
+        header: b"ncols 2 nrows 1 xllcorner 0 yllcorner 0 cellsize 10\n",
+        cells: 2,
+        floats: b"\x00\x00\xc0\x7f\
         \x00\x00\x80\x3f\
         \x00",
-    )
-}
-
-fn lent(rt: &impl Print) -> io::Result<()> {
-    case(
-        rt,
-        "one height lent, before no bytes",
-        b"ncols 2 nrows 1 xllcorner 0 yllcorner 0 cellsize 10\n",
-        1,
-        b"",
-    )?;
-    case(
-        rt,
-        "three heights lent",
-        b"ncols 2 nrows 1 xllcorner 0 yllcorner 0 cellsize 10\n",
-        3,
-        b"\x00\x00\x80\x3f\
+    },
+    // The lent heights.
+    Case {
+        name: "one height lent, before no bytes",
+        header: b"ncols 2 nrows 1 xllcorner 0 yllcorner 0 cellsize 10\n",
+        cells: 1,
+        floats: b"",
+    },
+    Case {
+        name: "three heights lent",
+        header: b"ncols 2 nrows 1 xllcorner 0 yllcorner 0 cellsize 10\n",
+        cells: 3,
+        floats: b"\x00\x00\x80\x3f\
         \x00\x00\x80\x3f",
-    )
-}
-
-fn after_header(rt: &impl Print) -> io::Result<()> {
-    case(
-        rt,
-        "a height after the header, before one height lent",
-        b"ncols 2 nrows 1 xllcorner 0 yllcorner 0 cellsize 10\n1 2\n",
-        1,
-        b"\x00\x00\x80\x3f\
+    },
+    // A word after the header.
+    Case {
+        name: "a height after the header, before one height lent",
+        header: b"ncols 2 nrows 1 xllcorner 0 yllcorner 0 cellsize 10\n1 2\n",
+        cells: 1,
+        floats: b"\x00\x00\x80\x3f\
         \x00\x00\x80\x3f",
-    )?;
-    case(
-        rt,
-        "a word after the NoData number, before no bytes",
-        b"ncols 2 nrows 1 xllcorner 0 yllcorner 0 cellsize 10\nnodata_value -9999 x\n",
-        2,
-        b"",
-    )
-}
-
-fn in_header(rt: &impl Print) -> io::Result<()> {
-    case(
-        rt,
-        "side 12,5, before a word after the header",
-        b"ncols 2 nrows 1 xllcorner 0 yllcorner 0 cellsize 12,5\n1\n",
-        2,
-        b"\x00\x00\x80\x3f\
+    },
+    Case {
+        name: "a word after the NoData number, before no bytes",
+        header: b"ncols 2 nrows 1 xllcorner 0 yllcorner 0 cellsize 10\nnodata_value -9999 x\n",
+        cells: 2,
+        floats: b"",
+    },
+    // The header.
+    Case {
+        name: "side 12,5, before a word after the header",
+        header: b"ncols 2 nrows 1 xllcorner 0 yllcorner 0 cellsize 12,5\n1\n",
+        cells: 2,
+        floats: b"\x00\x00\x80\x3f\
         \x00\x00\x80\x3f",
-    )?;
-    case(
-        rt,
-        "NoData number -9999x, before no heights lent",
-        b"ncols 2 nrows 1 xllcorner 0 yllcorner 0 cellsize 10\nnodata_value -9999x\n",
-        0,
-        b"\x00\x00\x80\x3f\
+    },
+    Case {
+        name: "NoData number -9999x, before no heights lent",
+        header: b"ncols 2 nrows 1 xllcorner 0 yllcorner 0 cellsize 10\nnodata_value -9999x\n",
+        cells: 0,
+        floats: b"\x00\x00\x80\x3f\
         \x00\x00\x80\x3f",
-    )
-}
+    },
+];

@@ -1,37 +1,43 @@
 // Writes what both calls answer for one grid: its name, then for each call number, place, rows, columns, side and NoData number,
 // and after those of the floats the lent heights.
-ghost use Rattle.std.specs.Prelude.{◌≤◌};
-
+use output::Answers;
 use std::io;
 
 // What every lent height is beforehand, so that an untouched grid shows.
 const MARK: i32 = 7;
 
-// Three cells in a row, with the NoData number absent.
-pub(crate) fn row(rt: &impl Print, name: &str, floats: &[u8]) -> io::Result<()> {
-    case(
-        rt,
-        name,
-        b"ncols 3 nrows 1 xllcorner 0 yllcorner 0 cellsize 10\n",
-        3,
-        floats,
-    )
+// The most heights that a case lends.
+const MOST: usize = 4;
+
+// A header and floats, with the name of their case and how many heights are lent.
+#[derive(Clone, Copy)]
+pub(crate) struct Case {
+    pub(crate) name: &'static str,
+    pub(crate) header: &'static [u8],
+    pub(crate) cells: usize,
+    pub(crate) floats: &'static [u8],
 }
 
-// One case, with so many lent heights.
-pub(crate) fn case(
-    rt: &impl Print,
-    name: &str,
-    header: &[u8],
-    cells: usize,
-    floats: &[u8],
-) -> io::Result<()>
-    requires { cells ≤ 4 }
-{
-    let mut lent = [MARK; 4];
-    let heights = &mut lent[..cells];
-    let alone = text::read_lone_header(header);
-    let read = floats::read_floats(header, floats, heights);
-    println!(rt; "{name}")?;
-    output::write_answers(rt, alone, "floats", read, heights)
+// Three cells in a row, with the NoData number absent.
+pub(crate) const ROW: Case = Case {
+    name: "",
+    header: b"ncols 3 nrows 1 xllcorner 0 yllcorner 0 cellsize 10\n",
+    cells: 3,
+    floats: b"",
+};
+
+impl Case {
+    pub(crate) fn show(self, rt: &impl Print) -> io::Result<()> {
+        let mut lent = [MARK; MOST];
+        let heights = &mut lent[..self.cells.min(MOST)];
+        let header = text::read_lone_header(self.header);
+        let cells = floats::read_floats(self.header, self.floats, heights);
+        let answers = Answers {
+            header,
+            call: "floats",
+            cells,
+            heights,
+        };
+        println!(rt; "{}\n{answers}", self.name)
+    }
 }

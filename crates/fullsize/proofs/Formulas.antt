@@ -5,11 +5,11 @@ use mathlib.Core.Bool.{Bool, true, false, cond}
 use Prim.Native.Nat.{ℕ, ◌≤◌, ◌<◌}
 use native.Mathlib.Omega.{arith}
 use native.Mathlib.Decide.{dec_lt}
-use lib.Dec.{leb, eqb}
+use lib.Dec.{eqb}
 use Rattle.std.specs.Prelude.{None, Some}
 use borrow.Author.Tests.{le-leb, lt-leb}
 use Rattle.laws.specs.Tests.{Test, passed, failed, verdict}
-use Rattle.laws.proofs.Verdicts.{test-yes, test-no, verdict-none, verdict-next, verdict-stops, verdict-before, verdict-after, OfNumber, test-number, verdict-number}
+use Rattle.laws.proofs.Verdicts.{test-yes, test-no, verdict-none, verdict-next, verdict-stops, verdict-before, verdict-after, OfNumber}
 use Rattle.fullsize.specs.Crossing.{formula_test, one_formula, two_formulas}
 use Rattle.fullsize.specs.InnerMapping.{before_marks, formula_place}
 
@@ -21,10 +21,6 @@ pub formula-fails : (place n : ℕ) → 1 < n → formula_test place n ≡ faile
 unfolding formula_test
 formula-fails place n h = test-no 4 place (lt-leb n 1 h)
 
-formula-number : (P : ℕ → Type 0) (place n : ℕ) → P 4 → OfNumber P (formula_test place n)
-unfolding formula_test
-formula-number P place n four = test-number P (leb n 1) 4 place four
-
 -- ---- the formula of one farm
 
 pub one_passes : (n : ℕ) → n ≤ 1 → verdict (one_formula n) ≡ passed
@@ -32,10 +28,6 @@ one_passes n h = verdict-next [] (formula-passes 7 n h) ∙ verdict-none
 
 pub one-fails : (n : ℕ) → 1 < n → verdict (one_formula n) ≡ failed 4 7
 one-fails n h = verdict-stops [] (formula-fails 7 n h)
-
-pub one_number : (P : ℕ → Type 0) (n : ℕ) → P 4 → OfNumber P (verdict (one_formula n))
-unfolding verdict
-one_number P n four = verdict-number P (formula_test 7 n) [] (formula-number P 7 n four) tt
 
 -- ---- the formulas of two farms, by the place of the first number that is none
 
@@ -77,11 +69,6 @@ module _ (n m : ℕ) where
               | no g ↦ absurd (let q : None ≡ Some place = sym (place_none (omega arith) (omega arith)) ∙ e in cc)
             ]
       ]
-
-  pub two-number : (P : ℕ → Type 0) → P 4 → OfNumber P (verdict (two_formulas n m))
-  unfolding verdict
-  two-number P four = verdict-number P (formula_test 7 n) (formula_test 8 m ∷ []) (formula-number P 7 n four)
-      (verdict-number P (formula_test 8 m) [] (formula-number P 8 m four) tt)
 
 -- ---- tests of formulas between two lists of tests
 

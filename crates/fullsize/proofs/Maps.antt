@@ -1,25 +1,20 @@
--- What a map call promises, with the formulas' numbers judged between 4 and 19, and told of the numbers that are handed out and of the settings that
--- numbers stand for. Assumes
--- nothing.
-use mathlib.Core.Path.{◌≡◌, refl, sym, ap, ap₂, subst, ◌∙◌}
+-- What a map call promises, with the formulas' numbers judged between 4 and 19. Assumes nothing.
+use mathlib.Core.Path.{◌≡◌, refl, sym, ap, ◌∙◌}
 use mathlib.Core.Bool.{Bool, true, false, cond}
 use mathlib.Core.List.{List, ◌∷◌, ◌++◌}
-use Prim.Native.Nat.{ℕ, ◌*◌, ◌≤◌}
-use native.Mathlib.Omega.{arith}
+use Prim.Native.Nat.{ℕ, ◌*◌}
 use lib.IntN.{ℤ}
 use lib.Dec.{eqb}
 use Rattle.laws.specs.Tests.{Test, passed, failed, verdict}
-use Rattle.laws.proofs.Verdicts.{OfNumber}
 use Rattle.text.specs.declared.Refusal.{Refusal}
 use Rattle.text.specs.Ranges.{height_test}
 use Rattle.terrain.specs.Filled.{filled_levels}
-use Rattle.terrain.specs.Drainage.{Totals}
 use Rattle.terrain.specs.Answers.{source_tests, directions_by}
 use Rattle.terrain.specs.declared.Source.{Source}
 use Rattle.settings.specs.declared.Settings.{Settings}
 use Rattle.factor.specs.Farms.{Farms, two, mark_tests}
 use Rattle.factor.specs.declared.tests.FarmRules.{FarmRules}
-use Rattle.factor.specs.Answers.{Grids, tests, judged, answer_of, grids_of, answer, after, found, early_tests, first_tests, JudgesFarms, Numbers, told, accepts}
+use Rattle.factor.specs.Answers.{Grids, tests, judged, answer_of, grids_of, answer, after, found, early_tests, first_tests, JudgesFarms}
 use Rattle.std.specs.Prelude.{Some, Result, Ok, Err}
 use Rattle.std.specs.Result.{result_err}
 use Rattle.text.specs.Faults.{number_of, fault_of}
@@ -27,7 +22,7 @@ use Rattle.text.specs.declared.faults.Fault.{Fault}
 use Rattle.text.specs.declared.faults.Fault.TheVariants.{Setting}
 use Rattle.text.proofs.FaultNumbers.{back-fault}
 use Rattle.terrain.specs.declared.Summary.{Summary}
-use Rattle.factor.proofs.Judging.{answer-some, first-kept, early-number, marks-number, later-number, joined_number, is-numbered}
+use Rattle.factor.proofs.Judging.{first-kept, early-number, marks-number}
 use Rattle.fullsize.specs.Crossing.{two_formulas}
 use Rattle.fullsize.specs.Mapping.{judged_by, answer_by, after_by}
 use Rattle.fullsize.specs.InnerMapping.{before_marks, formula_place, refusal_before}
@@ -93,33 +88,6 @@ module _ (rows cols side : ℕ) (farms : Farms) (formulas : List Test) (source :
         kept passed q = refl
         kept (failed number at) q = cases (eqb number 19) number at (first-kept rows cols side farms elevation g (sym q))
 
-  -- ---- a call that hands out the number 0 is accepted
-
-  judged-numbered : ((P : ℕ → Type 0) → P 4 → OfNumber P (verdict formulas)) → OfNumber (λ n. 1 ≤ n) (judged_by rows cols side farms formulas source elevation g)
-  unfolding judged_by
-  judged-numbered f =
-      joined_number (λ n. 1 ≤ n) early (formulas ++ (marks ++ rest))
-      (early-number rows cols side farms elevation g (λ n. 1 ≤ n) (omega arith) (omega arith) (omega arith) (omega arith))
-      (joined_number (λ n. 1 ≤ n) formulas (marks ++ rest) (f (λ n. 1 ≤ n) (omega arith))
-      (joined_number (λ n. 1 ≤ n) marks rest (marks-number (λ n. 1 ≤ n) (rows * cols) farms (omega arith))
-      (later-number rows cols side farms elevation g (λ n. 1 ≤ n) (omega arith) (omega arith) (omega arith) source)))
-
-  module _ (f : (P : ℕ → Type 0) → P 4 → OfNumber P (verdict formulas)) {n : Numbers} {a : Result Summary Refusal} (e : n ≡ told a)
-      (p : a ≡ answer_by rows cols side farms formulas source elevation g) (z : n.number ≡ 0) where
-    accepted : accepts (answer_by rows cols side farms formulas source elevation g) ≡ true
-    unfolding answer_by
-    accepted =
-        answer-some rows cols elevation dir (judged_by rows cols side farms formulas source elevation g)
-        (is-numbered (judged_by rows cols side farms formulas source elevation g) (judged-numbered f))
-        (sym (ap (λ (x : Numbers). x.number) (e ∙ ap told p)) ∙ z)
-
-    pub accepts-of : accepts a ≡ true
-    accepts-of = ap accepts p ∙ accepted
-
-    -- the totals hold of the number that is handed out
-    pub totals-of : {direction count : List ℕ} → Totals rows cols elevation direction count (told a).valids → Totals rows cols elevation direction count n.valids
-    totals-of {direction} {count} t = subst (Totals rows cols elevation direction count) (sym (ap (λ (x : Numbers). x.valids) e)) t
-
 -- ---- without a formula: a refusal that was found before it, or its own
 
 module _ (rows cols : ℕ) (elevation : List ℤ) (dir : List ℕ) (place : ℕ) where
@@ -154,13 +122,3 @@ module _ (rows cols side : ℕ) (first second : Settings) (marks : List ℕ) (n 
 
   pub two-leaves : g ≡ after_by rows cols side (two first second marks) (two_formulas n m) source elevation g
   two-leaves = without-leaves rows cols side (two first second marks) (two_formulas n m) source elevation g (two-fails n m h) j judges.verdict-is
-
--- ---- the numbers that are handed out
-
-module _ (rows cols side : ℕ) (formulas : List Test) (elevation : List ℤ) (g : Grids) {s t : Farms} {p q : Source} (same : s ≡ t) (alike : p ≡ q) where
-  pub answers_of : {n : Numbers} {a : Result Summary Refusal} → n ≡ told a → a ≡ answer_by rows cols side s formulas p elevation g →
-      n ≡ told (answer_by rows cols side t formulas q elevation g)
-  answers_of e h = e ∙ ap told (h ∙ ap₂ (λ (x : Farms) (y : Source). answer_by rows cols side x formulas y elevation g) same alike)
-
-  pub leaves_of : {left : Grids} → left ≡ after_by rows cols side s formulas p elevation g → left ≡ after_by rows cols side t formulas q elevation g
-  leaves_of h = h ∙ ap₂ (λ (x : Farms) (y : Source). after_by rows cols side x formulas y elevation g) same alike

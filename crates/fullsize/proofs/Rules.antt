@@ -51,5 +51,5 @@ pub other-refused : (low high : Float) (kind cells : ℕ) (percentage : Float) (
     2 < kind → judged_of (settings_of low high kind cells percentage formula) ≡ Err setting.Channel
 unfolding settings_of
 other-refused low high kind cells percentage formula l h k =
-    sym (judged-channel (settings_of low high kind cells percentage formula) refl l refl h (threshold_of no_rule)
+    sym (judged-channel (settings_of low high kind cells percentage formula) (refl, l) refl h (threshold_of no_rule)
     (sym (ap threshold_of (other-rule kind cells percentage k))) no-rule)

@@ -31,6 +31,7 @@ fn formula_of(number: u32) -> Formula
     }
 }
 
+#[tactic(auto, unfolding(crate::specs::Crossing::formula_number))]
 fn formula_number(formula: Formula) -> u32
     ensures { result ≡ formula_number formula }
 {

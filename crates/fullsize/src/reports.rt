@@ -13,6 +13,7 @@ use settings::Settings;
 use text::Refusal;
 
 // The greatest of four numbers; the first says whether there is one.
+#[tactic(auto, unfolding(crate::specs::Reporting::greatest_from))]
 fn greatest_of(some: u64, factor: u64, map: u64, cell: u64) -> Option<Greatest>
     ensures { result ≡ greatest_from some factor map cell }
 {
@@ -23,6 +24,7 @@ fn greatest_of(some: u64, factor: u64, map: u64, cell: u64) -> Option<Greatest>
 }
 
 // The report of fourteen numbers.
+#[tactic(auto, unfolding(crate::specs::Reporting::report_from))]
 pub(crate) fn report_of(numbers: &[u64; 14]) -> Report
     ensures { result ≡ report_from numbers.now }
 {
@@ -42,6 +44,7 @@ pub(crate) fn report_of(numbers: &[u64; 14]) -> Report
 }
 
 // The four numbers of a greatest.
+#[tactic(auto, unfolding(crate::specs::Reporting::greatest_numbers))]
 fn greatest_numbers(greatest: Option<Greatest>) -> [u64; 4]
     ensures { result ≡ greatest_numbers greatest }
 {

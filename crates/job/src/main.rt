@@ -3,6 +3,7 @@
 
 use std::io;
 
+// One call, as in `printer`: each program has its own file.
 fn main(rt: HostRuntime) -> io::Result<()> {
     programs::print(&rt, programs::job_settings())
 }

@@ -59,6 +59,23 @@ unfolding padded
 padded-more zero n h = absurd (omega arith)
 padded-more (suc k) n h = let z : k ≡ suc k - 1 = omega arith in ap (λ (j : ℕ). padded j (n / 10) ++ ((48 + n % 10) ∷ [])) z
 
+-- the last digits are all of them where a number has so many
+pub padded-decimal : (k n : ℕ) → k ≡ length (decimal n) → padded k n ≡ decimal n
+unfolding padded
+padded-decimal zero n e =
+    elim (dec_lt n 10) [
+      | yes s ↦ absurd (omega (arith, e, ap length (decimal_digit n s)))
+      | no f ↦ absurd (omega (arith, e, decimal-longer n (omega arith)))
+    ]
+padded-decimal (suc k) n e =
+    elim (dec_lt n 10) [
+      | yes s ↦ (let one : k ≡ 0 = omega (arith, e, ap length (decimal_digit n s)) in
+          let same : n % 10 ≡ n = omega arith in
+          ap (λ (j : ℕ). padded j (n / 10) ++ ((48 + n % 10) ∷ [])) one ∙ ap (λ (d : ℕ). (48 + d) ∷ []) same ∙ sym (decimal_digit n s))
+      | no f ↦ (let l : 10 ≤ n = omega arith in
+          ap (λ (w : List ℕ). w ++ ((48 + n % 10) ∷ [])) (padded-decimal k (n / 10) (omega (arith, e, decimal-longer n l))) ∙ sym (decimal-more n l))
+    ]
+
 -- the last k digits are k
 pub padded-length : (k n : ℕ) → length (padded k n) ≡ k
 unfolding padded

@@ -8,7 +8,7 @@ ghost use Rattle.std.specs.Prelude.{[], ◌∷◌, ◌≡◌, ◌+◌, ◌≤◌
 ghost use Rattle.numerals.specs.Words.{decimal, padded};
 ghost use Rattle.numerals.specs.Writing.{overlay, Lays};
 
-// One byte.
+// One byte. No `get_mut`: its contract doesn't say what the room holds afterwards, so that the proof doesn't close.
 pub fn put(out: &mut [u8], at: usize, b: u8)
     ensures { out.new ≡ overlay out.old at (b ∷ []) }
 {
@@ -51,23 +51,14 @@ pub fn digit_count(n: u64) -> usize
     count
 }
 
-// `n` in decimal digits, the last one first.
+// `n` in decimal digits.
 pub fn put_natural(out: &mut [u8], at: usize, n: u64) -> usize
     ensures { Lays out at (decimal n) result × (result ≤ 20) }
 {
-    let count = digit_count(n);
-    let mut i = count;
-    let mut left = n;
-    while 10 <= left {
-        i -= 1;
-        put_past(out, at, i, b'0' + (left % 10) as u8);
-        left /= 10;
-    }
-    put(out, at, b'0' + left as u8);
-    count
+    put_padded(out, at, n, digit_count(n))
 }
 
-// The last `count` decimal digits of `n`, zeros too.
+// The last `count` decimal digits of `n`, zeros too, the last one first.
 pub fn put_padded(out: &mut [u8], at: usize, n: u64, count: usize) -> usize
     ensures { Lays out at (padded count n) result }
 {

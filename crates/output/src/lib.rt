@@ -1,8 +1,8 @@
-// Writes what the calls that read a text answer to standard output, for the programs that run stored cases. What is written no contract
-// can say.
+// What the calls that read a text answer, printed, for the programs that run stored cases. What is printed no contract
+// says, and the file `stdout` of each of those programs has it.
 #![tactic(auto)]
 
-use std::{fmt, io};
+use std::fmt;
 use text::{Header, Refusal};
 
 // Number, place, rows, columns, side and NoData number, zeros where there is none.
@@ -19,18 +19,22 @@ impl fmt::Display for Answer {
 }
 
 // The answer of the call that reads the header, then that of the call that reads the cells, its name before it and the lent heights
-// behind. Hands up the error of the first write that fails.
-pub fn write_answers(
-    rt: &impl Print,
-    header: Result<Header, Refusal>,
-    call: &str,
-    cells: Result<Header, Refusal>,
-    heights: &[i32],
-) -> io::Result<()> {
-    println!(rt; "header {}", Answer(header))?;
-    print!(rt; "{call} {}:", Answer(cells))?;
-    for height in heights {
-        print!(rt; " {height}")?;
+// behind.
+#[derive(Drop)]
+pub struct Answers<'a> {
+    pub header: Result<Header, Refusal>,
+    pub call: &'a str,
+    pub cells: Result<Header, Refusal>,
+    pub heights: &'a [i32],
+}
+
+impl fmt::Display for Answers<'_> {
+    fn fmt<W: fmt::Write>(&self, f: &mut fmt::Formatter<W>) -> fmt::Result {
+        writeln!(f, "header {}", Answer(self.header))?;
+        write!(f, "{} {}:", self.call, Answer(self.cells))?;
+        for height in self.heights {
+            write!(f, " {height}")?;
+        }
+        Ok(())
     }
-    println!(rt)
 }

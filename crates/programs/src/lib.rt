@@ -38,5 +38,6 @@ pub fn print(rt: &(impl Input + Print), rules: Settings) -> io::Result<()> {
     let mut lines = sheet::room();
     let length = input::read_full(&mut rt.reader(), &mut text)?;
     let end = sheet::print(&text[..length], rules, &mut lines);
+    // By `write_all`, since the sheet is bytes, and `print!` takes text.
     rt.write_all(&lines[..end])
 }

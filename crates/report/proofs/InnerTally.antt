@@ -1,5 +1,5 @@
 -- Laws of the tally: from one block to the next, and what it gives of a whole map. Assumes nothing.
-use mathlib.Core.Path.{◌≡◌, sym, ap, subst, ◌∙◌}
+use mathlib.Core.Path.{◌≡◌, sym, ap, ◌∙◌}
 use mathlib.Core.List.{List, ◌++◌}
 use Prim.Native.Nat.{ℕ, ◌+◌, ◌≤◌}
 use native.Mathlib.Omega.{arith}
@@ -47,10 +47,6 @@ block-is l rest block left from p q h =
 
 pub left-is : (l rest block left : List ℕ) (from : ℕ) → rest ≡ drop from l → rest ≡ block ++ left → left ≡ drop (from + length block) l
 left-is l rest block left from p q = sym (drop_past l from block left (sym p ∙ q))
-
--- all cells, where none is left
-pub tallied-end : {l rest : List ℕ} {n : ℕ} {t : Tally} → rest ≡ drop n l → length rest ≡ 0 → n ≤ length l → Tallied l n t → Tallied l (length l) t
-tallied-end {l} {rest} {n} {t} e z h k = subst (λ (m : ℕ). Tallied l m t) (omega (arith, ap length e, length-drop n l)) k
 
 -- a block more
 abbrev pub more_of : Tally → Counts → ℕ → Lead → Tally

@@ -1,13 +1,29 @@
 // Writes a report after its name: maps, valid cells, channel cells, cells with LS 0, cells too long, the sum, the four classes, then 0 for
 // none or 1, the greatest LS, its map and its cell, zeros where there is none.
 use report::Report;
-use std::io;
+use std::{fmt, io};
 use text::Refusal;
+
+// The numbers of a report.
+#[derive(Drop)]
+struct Numbers(Report);
+
+impl fmt::Display for Numbers {
+    fn fmt<W: fmt::Write>(&self, f: &mut fmt::Formatter<W>) -> fmt::Result {
+        let r = self.0;
+        write!(f, "{} {} {} {}", r.maps, r.valid, r.channel, r.zero)?;
+        write!(f, " {} {}", r.long, r.sum)?;
+        write!(f, " {} {} {} {}", r.under1, r.from1, r.from5, r.from10)?;
+        match r.greatest {
+            None => write!(f, " 0 0 0 0"),
+            Some(g) => write!(f, " 1 {} {} {}", g.factor, g.map, g.cell),
+        }
+    }
+}
 
 // The report alone.
 pub(crate) fn report(rt: &impl Print, name: &str, r: Report) -> io::Result<()> {
-    println!(rt; "{name}")?;
-    write_numbers(rt, r)
+    println!(rt; "{name}\nreport {}", Numbers(r))
 }
 
 // Number and place of what a call answers, then the report.
@@ -22,19 +38,5 @@ pub(crate) fn answered(
         Ok(()) => println!(rt; "answer 0 0")?,
         Err(refusal) => println!(rt; "answer {} {}", refusal.fault.number(), refusal.place)?,
     }
-    write_numbers(rt, r)
-}
-
-fn write_numbers(rt: &impl Print, r: Report) -> io::Result<()> {
-    print!(rt;
-        "report {} {} {} {} {} {}",
-        r.maps, r.valid, r.channel, r.zero, r.long, r.sum
-    )?;
-    print!(rt; " {} {} {} {}", r.under1, r.from1, r.from5, r.from10)?;
-    match r.greatest {
-        None => println!(rt; " 0 0 0 0"),
-        Some(greatest) => {
-            println!(rt; " 1 {} {} {}", greatest.factor, greatest.map, greatest.cell)
-        }
-    }
+    println!(rt; "report {}", Numbers(r))
 }

@@ -151,9 +151,12 @@ module _ (d top : ℕ) (rising : Rising d top) where
 pub whole-none : {top n : ℕ} {o : Option ℕ} → o ≡ whole_up_to top n → o ≡ None → top < n
 whole-none {top} {n} e z = ⊎_elim (λ t. absurd (let q : Some n ≡ None = ap (λ (b : Bool). cond b (Some n) None) (sym t) ∙ sym e ∙ z in cc)) (λ t. leb-false n top t) (two (leb n top))
 
-pub whole-some : {top n k : ℕ} {o : Option ℕ} → o ≡ whole_up_to top n → o ≡ Some k → (k ≡ n) × (n ≤ top)
+pub whole-some : {top n k : ℕ} {o : Option ℕ} → o ≡ whole_up_to top n → o ≡ Some k → (k ≡ n) × (k ≤ top)
 whole-some {top} {n} {k} e z = ⊎_elim
-    (λ t. let q : Some n ≡ Some k = ap (λ (b : Bool). cond b (Some n) None) (sym t) ∙ sym e ∙ z in (cc, leb-true n top t))
+    (λ t.
+    let q : Some n ≡ Some k = ap (λ (b : Bool). cond b (Some n) None) (sym t) ∙ sym e ∙ z in
+    let same : k ≡ n = cc in
+    (same, omega (arith, leb-true n top t)))
     (λ t. absurd (let q : None ≡ Some k = ap (λ (b : Bool). cond b (Some n) None) (sym t) ∙ sym e ∙ z in cc)) (two (leb n top))
 
 pub none-whole : (top n : ℕ) → top < n → None ≡ whole_up_to top n
@@ -206,19 +209,19 @@ module _ (s : Settings) where
   unfolding verdict_of
   judged-low e h = rw (judged-is s, ← e, lt-leb _ 100 h)
 
-  module _ {low high : ℕ} (el : low ≡ whole_of 100 100 s.low) (l : low ≤ 100) (eh : high ≡ whole_of 100 100 s.high) where
+  module _ {low high : ℕ} (l : (low ≡ whole_of 100 100 s.low) × (low ≤ 100)) (eh : high ≡ whole_of 100 100 s.high) where
     pub judged-high : 100 < high → Err setting.High ≡ judged_of s
     unfolding verdict_of
-    judged-high h = rw (judged-is s, ← el, ← eh, le-leb low 100 l, lt-leb high 100 h)
+    judged-high h = rw (judged-is s, ← l.0, ← eh, le-leb low 100 l.1, lt-leb high 100 h)
 
     module _ (h : high ≤ 100) (t : Threshold) (et : t ≡ threshold_of s.channel) where
       pub judged-channel : threshold_accepted t ≡ false → Err setting.Channel ≡ judged_of s
       unfolding verdict_of
-      judged-channel a = rw (judged-is s, ← el, ← eh, ← et, le-leb low 100 l, le-leb high 100 h, a)
+      judged-channel a = rw (judged-is s, ← l.0, ← eh, ← et, le-leb low 100 l.1, le-leb high 100 h, a)
 
       pub judged-rules : threshold_accepted t ≡ true → Ok (record { low = low; high = high; threshold = t; formula = s.formula }) ≡ judged_of s
       unfolding verdict_of
-      judged-rules a = rw (judged-is s, ← el, ← eh, ← et, le-leb low 100 l, le-leb high 100 h, a)
+      judged-rules a = rw (judged-is s, ← l.0, ← eh, ← et, le-leb low 100 l.1, le-leb high 100 h, a)
 
 -- ---- examples
 

@@ -4,6 +4,7 @@
 
 use std::io;
 
+// One call, as in `job_cases`: each program has its own file.
 fn main(rt: HostRuntime) -> io::Result<()> {
     streams::print_sheets(&rt, programs::printer_settings())
 }

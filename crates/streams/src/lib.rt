@@ -14,6 +14,7 @@ fn print_case(rt: &impl Print, number: usize, text: &[u8], rules: Settings) -> i
     let mut lines = sheet::room();
     let end = sheet::print(text, rules, &mut lines);
     println!(rt; "case {number}")?;
+    // By `write_all`, since the sheet is bytes, and `print!` takes text.
     rt.write_all(&lines[..end])
 }
 

@@ -1,10 +1,10 @@
 -- The tests of terrain's call: what each decides, what an accepted ground and accepted directions are, and the promise from the answer and the grids. Assumes nothing.
-use Rattle.std.proofs.Common.{◌≡◌, ℕ, ◌*◌, ◌<◌, ◌≤◌, Bool, true, false, cond, not, ◌&&◌, ltb, List, [], ◌∷◌, length, get_or, replicate, ℤ, pos, Result, Err, sym, refl, ap, ◌∙◌, subst, true≢false, arith}
+use Rattle.std.proofs.Common.{◌≡◌, ℕ, ◌*◌, Bool, true, false, cond, not, ◌&&◌, ltb, List, [], ◌∷◌, length, get_or, replicate, ℤ, pos, Some, None, Result, Err, sym, refl, ap, ◌∙◌, subst, true≢false, arith}
 use Rattle.laws.specs.Tests.{Test, passed, failed, verdict}
 use Rattle.laws.proofs.Lists.{get_or_any}
 use Rattle.laws.proofs.Verdicts.{verdict-none, verdict-next, verdict-stops, verdict-passed, verdict-parts, verdict-before, verdict-after, OfNumber, test-number, verdict-number}
-use Rattle.text.specs.Ranges.{size_accepted, first_bad, all_long, size_test, length_test, height_test}
-use Rattle.text.proofs.Accepted.{size_is, area_small, size-passed, size-passes, rows-fail, columns-fail, length-passed, lengths-pass, lengths-fail, height-passed, height-passes, height-fails}
+use Rattle.text.specs.Ranges.{size_accepted, first_bad, bad_cell, all_long, size_test, length_test, height_test}
+use Rattle.text.proofs.Accepted.{size_is, area_small, size-passed, size-passes, rows-fail, columns-fail, length-passed, lengths-pass, lengths-fail, height-passed, height-passes, height-fails, bad-some, bad-none}
 use Rattle.terrain.specs.Cells.{no_data, Fine}
 use Rattle.terrain.specs.InnerCells.{Ready}
 use Rattle.terrain.specs.Filled.{filled_levels}
@@ -66,19 +66,23 @@ module _ (rows cols : ℕ) (elevation : List ℤ) (g : Grids) where
     unfolding ground_judged ground_tests
     judged-long e = verdict-next (long ∷ heights ∷ []) (size-passes rows cols r c) ∙ verdict-stops (heights ∷ []) (lengths-fail (rows * cols) (places_of elevation g) e)
 
-    module _ (l : all_long (rows * cols) (places_of elevation g) ≡ true) {p : ℕ} (b : p ≡ first_bad (length elevation) elevation) where
+    module _ (l : all_long (rows * cols) (places_of elevation g) ≡ true) where
       rest : ground_judged rows cols elevation g ≡ verdict (heights ∷ [])
       unfolding ground_judged ground_tests
       rest = verdict-next (long ∷ heights ∷ []) (size-passes rows cols r c) ∙ verdict-next (heights ∷ []) (lengths-pass (rows * cols) (places_of elevation g) l)
 
-      bad-is : p ≡ first_bad (rows * cols) elevation
-      bad-is = b ∙ ap (λ (n : ℕ). first_bad n elevation) (length-passed (rows * cols) _ _ (lengths-pass (rows * cols) (places_of elevation g) l)).0
+      many : length elevation ≡ rows * cols
+      many = (length-passed (rows * cols) _ _ (lengths-pass (rows * cols) (places_of elevation g) l)).0
 
-      pub judged-height : p < rows * cols → ground_judged rows cols elevation g ≡ failed 5 p
-      judged-height h = rest ∙ verdict-stops [] (height-fails (rows * cols) elevation (omega (arith, bad-is))) ∙ ap (failed 5) (sym bad-is)
+      pub judged-height : {p : ℕ} → Some p ≡ bad_cell (length elevation) elevation → ground_judged rows cols elevation g ≡ failed 5 p
+      judged-height {p} b =
+          let w = bad-some (rows * cols) elevation (subst (λ (n : ℕ). Some p ≡ bad_cell n elevation) many b) in
+          rest ∙ verdict-stops [] (height-fails (rows * cols) elevation (omega (arith, w.0, w.1))) ∙ ap (failed 5) (sym w.0)
 
-      pub judged-passes : rows * cols ≤ p → ground_judged rows cols elevation g ≡ passed
-      judged-passes h = rest ∙ verdict-next [] (height-passes (rows * cols) elevation (omega (arith, bad-is))) ∙ verdict-none
+      pub judged-passes : None ≡ bad_cell (length elevation) elevation → ground_judged rows cols elevation g ≡ passed
+      judged-passes b =
+          let h = bad-none (rows * cols) elevation (subst (λ (n : ℕ). None ≡ bad_cell n elevation) many b) in
+          rest ∙ verdict-next [] (height-passes (rows * cols) elevation h) ∙ verdict-none
 
   -- ---- an accepted call
 

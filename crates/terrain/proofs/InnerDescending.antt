@@ -1,11 +1,12 @@
 -- The order from the ridges down as the code makes it: what cells wait for, taking a cell, and that the end is an order of the valid cells. Assumes nothing.
-use Rattle.std.proofs.Common.{◌≡◌, ℕ, ◌+◌, ◌-◌, ◌*◌, ◌<◌, ◌≤◌, Bool, true, cond, eqb, List, length, get_or, set, sym, refl, ap, ◌∙◌, subst, ⊎_elim, arith, length-set, get_or-set_other, get_or-set_same, eq-eqb, ne_eqb}
+use Rattle.std.proofs.Common.{◌≡◌, ℕ, ◌+◌, ◌-◌, ◌*◌, ◌<◌, ◌≤◌, Bool, true, cond, eqb, List, length, get_or, set, take, sym, refl, ap, ◌∙◌, subst, ⊎_elim, arith, length-set, get_or-set_other, get_or-set_same, eq-eqb, ne_eqb}
 use native.Mathlib.Decide.{dec_lt, ℕ_discrete}
-use Rattle.std.proofs.lemmas.List.{set_past}
+use Rattle.std.proofs.lemmas.List.{set_past, get_or-take, length-take-le}
 use Rattle.laws.specs.Lists.{tab}
 use Rattle.laws.specs.Sums.{sum_to, when}
 use Rattle.laws.specs.Peel.{Taking}
-use Rattle.laws.proofs.Sums.{sum-none, sum_more, sum_ones, when-yes, when-no, when-under}
+use Rattle.laws.specs.Orders.{stands_in}
+use Rattle.laws.proofs.Sums.{sum-ext, sum-none, sum_more, sum_ones, when-yes, when-no, when-under}
 use Rattle.laws.proofs.Lists.{length-tab, get_or-tab}
 use Rattle.laws.proofs.Tests.{two}
 use Rattle.laws.proofs.Orders.{order-cell, order-places}
@@ -160,3 +161,22 @@ peeled-all {rows} {cols} {dir} d h s =
     let o = peel-all (pointing d.drawn) s h (omega arith) (λ z r. falling-ringless r (falling d)) in
     let e = order-places o (pointing d.drawn).within in
     record { room = omega (arith, e, s.long, sum_ones (rows * cols) (λ x. when (mapped_at rows cols dir x) 1) (λ x l. when-under (mapped_at rows cols dir x) 1)); cells = o }
+
+-- ---- the first places of an order, alone
+
+taken-stands : (m : ℕ) (order : List ℕ) (j x : ℕ) → j ≤ m → stands_in (take m order) j x ≡ stands_in order j x
+unfolding stands_in
+taken-stands m order j x h =
+    sum-ext j (λ i. when (eqb (get_or (take m order) i 0) x) 1) (λ i. when (eqb (get_or order i 0) x) 1) (λ i l. ap (λ (z : ℕ). when (eqb z x) 1) (get_or-take m order i 0 (omega arith)))
+
+pub downhill-taken : {rows cols : ℕ} {dir order : List ℕ} {m : ℕ} → Downhill rows cols dir order m → Downhill rows cols dir (take m order) (length (take m order))
+downhill-taken {rows} {cols} {dir} {order} {m} d =
+    let e = length-take-le m order d.room in
+    record {
+      room = omega arith;
+      cells =
+          record {
+            once = (λ x. ap (λ (n : ℕ). stands_in (take m order) n x) e ∙ taken-stands m order m x (omega arith) ∙ d.cells.once x);
+            after = (λ j x h t. omega (arith, taken-stands m order j x (omega arith), d.cells.after j x (omega arith) (t ∙ get_or-take m order j 0 (omega arith))));
+          };
+    }

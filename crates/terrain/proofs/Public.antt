@@ -10,6 +10,6 @@ pub use Rattle.terrain.proofs.Trails.{mapped-is, steps-le, counts-long}
 pub use Rattle.terrain.proofs.Receivers.{pointing, code_read, receiver-leaves, receiver-beside, receiver-bearing, receiver-near}
 pub use Rattle.terrain.proofs.Inflows.{into-above, inflow-greatest}
 -- an order from the ridges down
-pub use Rattle.terrain.proofs.InnerDescending.{place-cell, downhill-few}
+pub use Rattle.terrain.proofs.InnerDescending.{place-cell, downhill-few, downhill-taken}
 -- our own directions, given back
 pub use Rattle.terrain.proofs.Owning.{own-accepted}

@@ -1,5 +1,4 @@
--- What the functions of `filled` and `queue` answer: only inner functions cite this file. A function that is not told the rows requires that there is a
--- number of them, and ensures for every number that fits. Assumes nothing.
+-- What the functions of `filled` and `queue` answer: only inner functions cite this file. Assumes nothing.
 use Rattle.std.specs.Prelude.{◌≡◌, ℕ, ◌+◌, ◌*◌, ◌<◌, ◌≤◌, min, max, Bool, List, map, length, ℤ, nat_lt, slice_index, slice_index_or}
 use Rattle.laws.specs.Search.{Failing}
 use Rattle.laws.specs.Settle.{Kept, Sweeping, relaxed_of}
@@ -69,7 +68,7 @@ pub record OnLine (from step to z : ℕ) : Type 0 where
 pub record Waiting (rows cols : ℕ) (l : List ℕ) (b : ℕ) : Type 0 where
   pub low : (y : ℕ) → queued_from ≤ slice_index l y → lowest_of rows cols l y 8 ≤ b
 
--- from l₀ to l rim cells were queued, and nothing else
+-- from l₀ to l rim cells were queued, and nothing else: for every number of rows that fits, so that one step follows another with no length told between
 pub record Rimming (cols : ℕ) (l₀ l : List ℕ) : Type 0 where
   pub same : done_of l ≡ done_of l₀
   pub waiting : (rows : ℕ) → Sized rows cols → length l₀ ≡ rows * cols → Waiting rows cols l₀ 0 → Waiting rows cols l 0

@@ -12,7 +12,7 @@ ghost use Rattle.terrain.specs.InnerFlood.{FaultyCell, Faulty, FillSweeping, Low
 
 use crate::cells::{beside, near, run_end, value_at};
 use crate::ground::{DATUM, Ground};
-use crate::queue::{level_of, open_band, pop, reach_rims, spread, start_word};
+use crate::queue::{Lists, level_of, start_word};
 
 // Above every level: the flood has not come here yet.
 const UNREACHED: u32 = 1900000;
@@ -60,34 +60,36 @@ fn start(ground: Ground, words: &mut [u32])
     }
 }
 
-// Takes the cells of the list of a level, until it is empty: each is done at this level, and reaches its neighbours.
-fn drain(ground: Ground, heads: &mut [u32; 2048], words: &mut [u32], band: usize, list: usize)
-    requires { (length words.old ≡ ground.rows * ground.columns) × (band < 1024) × (list < 2048)
-        × Waiting ground.rows ground.columns words.old (level_in band list) }
-    ensures { FloodedTo ground.entry.rows ground.entry.columns words.old words.new (level_in band list) }
-{
-    let level = level_of(band, list);
-    'turns: for _ in 0..words.len() {
-        let Some(x) = pop(heads, words, list) else {
-            return;
-        };
-        words[x] = level;
-        spread(ground.columns, heads, words, band, level, x);
+impl Lists {
+    // Takes the cells of the list of a level, until it is empty: each is done at this level, and reaches its neighbours.
+    fn drain(&mut self, ground: Ground, words: &mut [u32], band: usize, list: usize)
+        requires { (length words.old ≡ ground.rows * ground.columns) × (band < 1024) × (list < 2048)
+            × Waiting ground.rows ground.columns words.old (level_in band list) }
+        ensures { FloodedTo ground.entry.rows ground.entry.columns words.old words.new (level_in band list) }
+    {
+        let level = level_of(band, list);
+        'turns: for _ in 0..words.len() {
+            let Some(x) = self.heads[list].pop(words) else {
+                return;
+            };
+            words[x] = level;
+            self.spread(ground, words, band, level, x);
+        }
     }
-}
 
-// Takes the cells of a band, the lowest first.
-fn flood_band(ground: Ground, heads: &mut [u32; 2048], words: &mut [u32], band: usize)
-    requires { (length words.old ≡ ground.rows * ground.columns) × (band < 1024)
-        × Waiting ground.rows ground.columns words.old (level_in band 1024) }
-    ensures { FloodedTo ground.entry.rows ground.entry.columns words.old words.new (level_in (band + 1) 1024) }
-{
-    if heads[band] < 1 {
-        return;
-    }
-    open_band(heads, words, band);
-    for list in 1024..2048 {
-        drain(ground, heads, words, band, list);
+    // Takes the cells of a band, the lowest first.
+    fn flood_band(&mut self, ground: Ground, words: &mut [u32], band: usize)
+        requires { (length words.old ≡ ground.rows * ground.columns) × (band < 1024)
+            × Waiting ground.rows ground.columns words.old (level_in band 1024) }
+        ensures { FloodedTo ground.entry.rows ground.entry.columns words.old words.new (level_in (band + 1) 1024) }
+    {
+        if self.heads[band].is_empty() {
+            return;
+        }
+        self.open_band(words, band);
+        for list in 1024..2048 {
+            self.drain(ground, words, band, list);
+        }
     }
 }
 
@@ -96,10 +98,10 @@ fn flood(ground: Ground, words: &mut [u32])
     requires { (length words.old ≡ ground.rows * ground.columns) × ((x : ℕ) → slice_index words.old x < queued_from) }
     ensures { Flooded ground.entry.rows ground.entry.columns words.old words.new }
 {
-    let mut heads: [u32; 2048] = [0; 2048];
-    reach_rims(ground.columns, &mut heads, words);
+    let mut lists = Lists::new();
+    lists.reach_rims(ground, words);
     for band in 0..1024 {
-        flood_band(ground, &mut heads, words, band);
+        lists.flood_band(ground, words, band);
     }
 }
 

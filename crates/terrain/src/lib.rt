@@ -102,11 +102,10 @@ fn judge(
             place: 0,
         });
     }
-    let bad = text::first_bad(elevation);
-    if bad < cells {
+    if let Some(place) = text::first_bad(elevation) {
         return Err(Refusal {
             fault: Fault::Height,
-            place: bad,
+            place,
         });
     }
     Ok(())
@@ -202,8 +201,9 @@ fn route(
         direction,
     };
     let places = downhill::descend(drawing, count, workspace);
-    let longest = trail::longest_trail(drawing, workspace, places, count);
-    trail::count_flow(drawing, workspace, places, count);
+    let order = &workspace[..places];
+    let longest = trail::longest_trail(drawing, order, count);
+    trail::count_flow(drawing, order, count);
     Summary {
         valid: places as u32,
         longest: longest,

@@ -5,14 +5,15 @@
 //     2^30 + level                   fresh: the flood has not come here yet, and this is the level of its ground
 //     2^31 + low * 2^21 + link       queued: the last ten bits of its level, and the next cell of its list plus one, or 0
 //
-// A list's head is its first cell plus one, or 0. Lists 0 to 1,023 are of bands of 1,024 levels; lists 1,024 to 2,047 are of
-// the single levels of the band that is being emptied.
-ghost use Rattle.std.specs.Prelude.{◌≡◌, ◌<◌, ◌≤◌, min, length, if◌then◌else◌, nat_lt, slice_index, IfSome};
+// Lists 0 to 1,023 are of bands of 1,024 levels; lists 1,024 to 2,047 are of the single levels of the band that is being emptied.
+// Which cells wait where is not proved: it decides only how fast the flood is.
+ghost use Rattle.std.specs.Prelude.{◌≡◌, ◌*◌, ◌<◌, ◌≤◌, min, length, if◌then◌else◌, nat_lt, slice_index, IfSome};
 ghost use Rattle.terrain.specs.InnerCells.{Around};
 ghost use Rattle.terrain.specs.Filled.{top};
 ghost use Rattle.terrain.specs.InnerFlood.{Queueing, OnLine, Rimming, queued_from, level_in};
 
 use crate::cells::{around, value_at};
+use crate::ground::Ground;
 
 const FRESH: u32 = 1073741824;
 
@@ -28,11 +29,40 @@ pub(crate) fn start_word(g: u32) -> u32
     if g < 1 { 0 } else { FRESH + g }
 }
 
-// The word of a queued cell.
-fn queued_word(level: u32, link: u32) -> u32
-    ensures { top ≤ result }
-{
-    QUEUED + level % 1024 * LINKS + link % LINKS
+// The head of a list: its first cell plus one, or 0.
+#[derive(Clone, Copy)]
+pub(crate) struct Head {
+    first: u32,
+    ghost small: { first < 2097152 },
+}
+
+impl Head {
+    // Puts the cell x, which is not done, at the front of the list. The remainder is x + 1 on every grid; with it no contract has to
+    // bound the words' length.
+    fn push(&mut self, words: &mut [u32], level: u32, x: usize)
+        requires { top ≤ slice_index words.old x }
+        ensures { Queueing (λ z. z ≡ x) words.old words.new }
+    {
+        words[x] = QUEUED + level % 1024 * LINKS + self.first;
+        self.first = ((x + 1) % LINKS as usize) as u32;
+    }
+
+    pub(crate) fn is_empty(self) -> bool {
+        self.first < 1
+    }
+
+    // Takes the first cell off the list, if there is one.
+    pub(crate) fn pop(&mut self, words: &[u32]) -> Option<usize>
+        ensures { IfSome result (λ x. queued_from ≤ slice_index words.now x) }
+    {
+        let x = (self.first as usize).checked_sub(1)?;
+        let word = *words.get(x)?;
+        if word < QUEUED {
+            return None;
+        }
+        self.first = word % LINKS;
+        Some(x)
+    }
 }
 
 // The band of a level: 949,900, the lowest of a valid cell, is in band 0.
@@ -61,120 +91,111 @@ pub(crate) fn level_of(band: usize, list: usize) -> u32
     ((band + 926) * 1024 + list) as u32
 }
 
-// Puts the cell x, which is not done, at the front of a list.
-fn push(heads: &mut [u32; 2048], words: &mut [u32], list: usize, level: u32, x: usize)
-    requires { (length words.old ≤ 1048576) × (list < 2048) × (top ≤ slice_index words.old x) }
-    ensures { Queueing (λ z. z ≡ x) words.old words.new }
-{
-    words[x] = queued_word(level, heads[list]);
-    heads[list] = (x + 1) as u32;
+// The lists. They don't hold the words and the ground too: each method would have to promise that it kept the same ones. A band is a
+// number, with 1,024 for none, and no type of its own: the loops count bands, and an Option would be one more test for each cell.
+#[derive(Drop)]
+pub(crate) struct Lists {
+    pub(crate) heads: [Head; 2048],
 }
 
-// Takes the first cell off a list, if there is one.
-pub(crate) fn pop(heads: &mut [u32; 2048], words: &[u32], list: usize) -> Option<usize>
-    requires { list < 2048 }
-    ensures { IfSome result (λ x. queued_from ≤ slice_index words.now x) }
-{
-    let x = (heads[list] as usize).checked_sub(1)?;
-    let word = *words.get(x)?;
-    if word < QUEUED {
-        return None;
+impl Lists {
+    pub(crate) fn new() -> Self {
+        Lists {
+            heads: [Head { first: 0 }; 2048],
+        }
     }
-    heads[list] = word % LINKS;
-    Some(x)
-}
 
-// Moves the cells of a band's list to the lists of their levels.
-pub(crate) fn open_band(heads: &mut [u32; 2048], words: &mut [u32], band: usize)
-    requires { (length words.old ≤ 1048576) × (band < 1024) }
-    ensures { Queueing (λ z. ⊥) words.old words.new }
-{
-    'turns: for _ in 0..words.len() {
-        let Some(x) = pop(heads, words, band) else {
+    // Moves the cells of a band's list to the lists of their levels.
+    pub(crate) fn open_band(&mut self, words: &mut [u32], band: usize)
+        requires { band < 1024 }
+        ensures { Queueing (λ z. ⊥) words.old words.new }
+    {
+        'turns: for _ in 0..words.len() {
+            let Some(x) = self.heads[band].pop(words) else {
+                return;
+            };
+            let low = words[x] / LINKS % 1024;
+            self.heads[1024 + low as usize].push(words, low, x);
+        }
+    }
+
+    // Queues the cell y, if it is fresh, at the level that its ground and a neighbour of level h allow.
+    fn reach(&mut self, words: &mut [u32], band: usize, h: u32, y: usize)
+        ensures { Queueing (λ z. z ≡ y) words.old words.new }
+    {
+        let word = value_at(words, y);
+        if word < FRESH {
             return;
-        };
-        let low = words[x] / LINKS % 1024;
-        push(heads, words, 1024 + low as usize, low, x);
+        }
+        if QUEUED <= word {
+            return;
+        }
+        let level = h.max(word - FRESH);
+        self.heads[list_of(level, band)].push(words, level, y);
     }
-}
 
-// Queues the cell y, if it is fresh, at the level that its ground and a neighbour of level h allow.
-fn reach(heads: &mut [u32; 2048], words: &mut [u32], band: usize, h: u32, y: usize)
-    requires { length words.old ≤ 1048576 }
-    ensures { Queueing (λ z. z ≡ y) words.old words.new }
-{
-    let word = value_at(words, y);
-    if word < FRESH {
-        return;
+    // Reaches the neighbours of the cell x of level h. Past the edge of the grid these are cells of the edge, which have been reached
+    // before.
+    pub(crate) fn spread(
+        &mut self,
+        ground: Ground,
+        words: &mut [u32],
+        band: usize,
+        h: u32,
+        x: usize,
+    )
+        requires { (length words.old ≡ ground.rows * ground.columns) × (x < length words.old) }
+        ensures { Queueing (Around ground.entry.columns x) words.old words.new }
+    {
+        for k in 0..8 {
+            self.reach(words, band, h, around(ground.columns, x, k));
+        }
     }
-    if QUEUED <= word {
-        return;
-    }
-    let level = h.max(word - FRESH);
-    push(heads, words, list_of(level, band), level, y);
-}
 
-// Reaches the neighbours of the cell x of level h. Past the edge of the grid these are cells of the edge, which have been reached
-// before.
-pub(crate) fn spread(
-    columns: usize,
-    heads: &mut [u32; 2048],
-    words: &mut [u32],
-    band: usize,
-    h: u32,
-    x: usize,
-)
-    requires { (length words.old ≤ 1048576) × (columns ≤ 1024) × (x < 1048576) }
-    ensures { Queueing (Around columns x) words.old words.new }
-{
-    for k in 0..8 {
-        reach(heads, words, band, h, around(columns, x, k));
+    // Reaches every step-th cell of those from `from` up to `to`.
+    fn reach_line(&mut self, words: &mut [u32], from: usize, step: usize, to: usize)
+        requires { 0 < step }
+        ensures { Queueing (OnLine from step to) words.old words.new }
+    {
+        for y in (from..to).step_by(step) {
+            self.reach(words, 1024, 0, y);
+        }
     }
-}
 
-// Reaches every step-th cell of those from `from` up to `to`.
-fn reach_line(heads: &mut [u32; 2048], words: &mut [u32], from: usize, step: usize, to: usize)
-    requires { (length words.old ≤ 1048576) × (0 < step) × (step ≤ 1024) × (to ≤ 1048576) }
-    ensures { Queueing (OnLine from step to) words.old words.new }
-{
-    for y in (from..to).step_by(step) {
-        reach(heads, words, 1024, 0, y);
+    // Reaches the cells of the edge.
+    fn reach_edge(&mut self, ground: Ground, words: &mut [u32])
+        ensures { Rimming ground.entry.columns words.old words.new }
+    {
+        let columns = ground.columns;
+        let cells = words.len();
+        if cells < columns {
+            return;
+        }
+        self.reach_line(words, 0, 1, columns);
+        self.reach_line(words, cells - columns, 1, cells);
+        self.reach_line(words, 0, columns, cells);
+        self.reach_line(words, columns - 1, columns, cells);
     }
-}
 
-// Reaches the cells of the edge.
-fn reach_edge(columns: usize, heads: &mut [u32; 2048], words: &mut [u32])
-    requires { (length words.old ≤ 1048576) × (0 < columns) × (columns ≤ 1024) }
-    ensures { Rimming columns words.old words.new }
-{
-    let cells = words.len();
-    if cells < columns {
-        return;
+    // Reaches the neighbours of the cell x, if that has no data.
+    fn reach_from(&mut self, ground: Ground, words: &mut [u32], x: usize)
+        requires { (length words.old ≡ ground.rows * ground.columns) × (x < length words.old) }
+        ensures { Rimming ground.entry.columns words.old words.new }
+    {
+        if 0 < words[x] {
+            return;
+        }
+        self.spread(ground, words, 1024, 0, x);
     }
-    reach_line(heads, words, 0, 1, columns);
-    reach_line(heads, words, cells - columns, 1, cells);
-    reach_line(heads, words, 0, columns, cells);
-    reach_line(heads, words, columns - 1, columns, cells);
-}
 
-// Reaches the neighbours of the cell x, if that has no data.
-fn reach_from(columns: usize, heads: &mut [u32; 2048], words: &mut [u32], x: usize)
-    requires { (length words.old ≤ 1048576) × (columns ≤ 1024) × (x < length words.old) }
-    ensures { Rimming columns words.old words.new }
-{
-    if 0 < words[x] {
-        return;
-    }
-    spread(columns, heads, words, 1024, 0, x);
-}
-
-// Reaches every rim cell: those of the edge, then those beside NoData.
-pub(crate) fn reach_rims(columns: usize, heads: &mut [u32; 2048], words: &mut [u32])
-    requires { (length words.old ≤ 1048576) × (0 < columns) × (columns ≤ 1024) }
-    ensures { Rimming columns words.old words.new }
-{
-    reach_edge(columns, heads, words);
-    for x in 0..words.len() {
-        reach_from(columns, heads, words, x);
+    // Reaches every rim cell: those of the edge, then those beside NoData.
+    pub(crate) fn reach_rims(&mut self, ground: Ground, words: &mut [u32])
+        requires { length words.old ≡ ground.rows * ground.columns }
+        ensures { Rimming ground.entry.columns words.old words.new }
+    {
+        self.reach_edge(ground, words);
+        for x in 0..words.len() {
+            self.reach_from(ground, words, x);
+        }
     }
 }

@@ -9,15 +9,16 @@ ghost use Rattle.terrain.specs.Downhill.{Downhill};
 use crate::cells::value_at;
 use crate::drawing::{Drawing, hand_on};
 
-// The flow count of every cell, along the order of the valid cells at the first places.
-pub(crate) fn count_flow(drawing: Drawing, order: &[u32], places: usize, count: &mut [u32])
+// The flow count of every cell, along the order of the valid cells.
+pub(crate) fn count_flow(drawing: Drawing, order: &[u32], count: &mut [u32])
     requires { Directed drawing.rows drawing.columns drawing.direction.now
-        × Downhill drawing.rows drawing.columns drawing.direction.now order.now places × (length count.old ≡ drawing.rows * drawing.columns) }
+        × Downhill drawing.rows drawing.columns drawing.direction.now order.now (length order.now)
+        × (length count.old ≡ drawing.rows * drawing.columns) }
     ensures { count.new ≡ counts_of drawing.entry.rows drawing.entry.columns drawing.entry.direction.now }
 {
     drawing.mark(1, 0, count);
-    for place in 0..places {
-        let x = order[place] as usize;
+    for &cell in order {
+        let x = cell as usize;
         let y = drawing.receiver(x);
         let cells = count[x];
         hand_on(count, cells, y);
@@ -25,20 +26,15 @@ pub(crate) fn count_flow(drawing: Drawing, order: &[u32], places: usize, count: 
 }
 
 // The steps of the longest trail; 0 on an empty map. The order is as for counts, and the workspace is scratch.
-pub(crate) fn longest_trail(
-    drawing: Drawing,
-    order: &[u32],
-    places: usize,
-    workspace: &mut [u32],
-) -> u32
+pub(crate) fn longest_trail(drawing: Drawing, order: &[u32], workspace: &mut [u32]) -> u32
     requires { Directed drawing.rows drawing.columns drawing.direction.now
-        × Downhill drawing.rows drawing.columns drawing.direction.now order.now places
+        × Downhill drawing.rows drawing.columns drawing.direction.now order.now (length order.now)
         × (length workspace.old ≡ drawing.rows * drawing.columns) }
     ensures { result ≡ longest_of drawing.entry.rows drawing.entry.columns drawing.entry.direction.now }
 {
     let mut most: u32 = 0;
-    for place in (0..places).rev() {
-        let x = order[place] as usize;
+    for &cell in order.iter().rev() {
+        let x = cell as usize;
         let y = drawing.receiver(x);
         let cells = value_at(workspace, y) + 1;
         workspace[x] = cells;

@@ -1,27 +1,42 @@
 // Our own directions given back: the map call must then leave what it left with its own.
 use crate::drawn::LEVEL_BOWL;
-use crate::land::Land;
-use crate::show::{MOST, Places, Room, map, write_workspace};
+use crate::land::{Field, Land};
+use crate::show::{MOST, Places, Room, became, map};
 use factor::Source;
 use std::io;
 
 pub(crate) fn own(rt: &impl Print) -> io::Result<()> {
-    let bowl = Land::Drawn(LEVEL_BOWL);
-    field_back(rt, "bowl with a level rim", bowl, 7, 9, 63)?;
-    field_back(rt, "noise and NoData", Land::StepNoise, 20, 30, 600)
+    for field in OWN {
+        field_back(rt, *field)?;
+    }
+    Ok(())
 }
 
+const OWN: &[Field] = &[
+    Field {
+        name: "bowl with a level rim",
+        land: Land::Drawn(LEVEL_BOWL),
+        rows: 7,
+        columns: 9,
+    },
+    Field {
+        name: "noise and NoData",
+        land: Land::StepNoise,
+        rows: 20,
+        columns: 30,
+    },
+];
+
 // Gives each cell its height, and maps the field with our own directions, then with these given back.
-fn field_back(
-    rt: &impl Print,
-    name: &str,
-    land: Land,
-    rows: usize,
-    columns: usize,
-    cells: usize,
-) -> io::Result<()> {
+fn field_back(rt: &impl Print, field: Field) -> io::Result<()> {
+    let Field {
+        name,
+        land,
+        rows,
+        columns,
+    } = field;
     let mut heights = [0; MOST];
-    let ground = &mut heights[..cells.min(MOST)];
+    let ground = &mut heights[..field.cells()];
     land.shape(columns, ground);
     let places = Places::of(ground.len());
     let mut own_room = Room::new();
@@ -32,7 +47,7 @@ fn field_back(
     map(rt, rows, columns, Source::Own, ground, &mut own)?;
     back.give(own.direction);
     map(rt, rows, columns, Source::Given, ground, &mut back)?;
-    write_workspace(rt, back.workspace)?;
+    println!(rt; "\nworkspace {}", became(back.workspace))?;
     let same = *back.filled == *own.filled
         && *back.direction == *own.direction
         && *back.count == *own.count

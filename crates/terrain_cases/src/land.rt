@@ -1,8 +1,9 @@
 // The large fields, whose heights are worked out cell by cell: spirals, comb, plane, bowl, strips and noise.
 ghost use Rattle.std.specs.Prelude.{◌≡◌, pos, ◌≤◌, ◌<◌};
 
+use crate::drawn;
 use crate::show::{MOST, field};
-use crate::{drawn, spiral};
+use crate::spiral::Spot;
 use std::io;
 use text::NO_DATA;
 
@@ -21,35 +22,95 @@ pub(crate) enum Land<'a> {
     Fall,
 }
 
-pub(crate) fn shapes(rt: &impl Print) -> io::Result<()> {
-    draw(rt, "spiral outwards", Land::SpiralOut, 40, 40, 1600)?;
-    draw(rt, "spiral inwards", Land::SpiralIn, 40, 40, 1600)?;
-    draw(rt, "comb", Land::Comb, 40, 40, 1600)?;
-    draw(rt, "plane", Land::Plane, 40, 40, 1600)?;
-    draw(rt, "bowl", Land::Bowl, 40, 40, 1600)
+// A field of a kind.
+#[derive(Clone, Copy)]
+pub(crate) struct Field<'a> {
+    pub(crate) name: &'a str,
+    pub(crate) land: Land<'a>,
+    pub(crate) rows: usize,
+    pub(crate) columns: usize,
 }
 
-pub(crate) fn strips_and_noise(rt: &impl Print) -> io::Result<()> {
-    draw(rt, "falling strip", Land::Fall, 1, 1024, 1024)?;
-    draw(rt, "noise", Land::Noise, 40, 40, 1600)?;
-    draw(rt, "noise of all heights", Land::WideNoise, 30, 20, 600)?;
-    draw(rt, "noise and NoData", Land::StepNoise, 20, 30, 600)?;
-    draw(rt, "strip and NoData", Land::StepNoise, 1024, 1, 1024)
-}
+pub(crate) const SHAPES: &[Field] = &[
+    Field {
+        name: "spiral outwards",
+        land: Land::SpiralOut,
+        rows: 40,
+        columns: 40,
+    },
+    Field {
+        name: "spiral inwards",
+        land: Land::SpiralIn,
+        rows: 40,
+        columns: 40,
+    },
+    Field {
+        name: "comb",
+        land: Land::Comb,
+        rows: 40,
+        columns: 40,
+    },
+    Field {
+        name: "plane",
+        land: Land::Plane,
+        rows: 40,
+        columns: 40,
+    },
+    Field {
+        name: "bowl",
+        land: Land::Bowl,
+        rows: 40,
+        columns: 40,
+    },
+];
 
-// Maps a field of a kind, of so many cells.
-pub(crate) fn draw(
-    rt: &impl Print,
-    name: &str,
-    land: Land,
-    rows: usize,
-    columns: usize,
-    cells: usize,
-) -> io::Result<()> {
-    let mut heights = [0; MOST];
-    let ground = &mut heights[..cells.min(MOST)];
-    land.shape(columns, ground);
-    field(rt, name, rows, columns, ground)
+pub(crate) const STRIPS_AND_NOISE: &[Field] = &[
+    Field {
+        name: "falling strip",
+        land: Land::Fall,
+        rows: 1,
+        columns: 1024,
+    },
+    Field {
+        name: "noise",
+        land: Land::Noise,
+        rows: 40,
+        columns: 40,
+    },
+    Field {
+        name: "noise of all heights",
+        land: Land::WideNoise,
+        rows: 30,
+        columns: 20,
+    },
+    Field {
+        name: "noise and NoData",
+        land: Land::StepNoise,
+        rows: 20,
+        columns: 30,
+    },
+    Field {
+        name: "strip and NoData",
+        land: Land::StepNoise,
+        rows: 1024,
+        columns: 1,
+    },
+];
+
+impl Field<'_> {
+    // Maps the field.
+    pub(crate) fn show(self, rt: &impl Print) -> io::Result<()> {
+        let mut heights = [0; MOST];
+        let ground = &mut heights[..self.cells()];
+        self.land.shape(self.columns, ground);
+        field(rt, self.name, self.rows, self.columns, ground)
+    }
+
+    pub(crate) fn cells(self) -> usize
+        ensures { result ≤ MOST }
+    {
+        self.rows.saturating_mul(self.columns).min(MOST)
+    }
 }
 
 impl Land<'_> {
@@ -66,15 +127,17 @@ impl Land<'_> {
         if columns == 0 {
             return NO_DATA;
         }
-        let row = x / columns % 40;
-        let column = x % columns % 40;
+        let spot = Spot {
+            row: x / columns % 40,
+            column: x % columns % 40,
+        };
         match self {
             Land::Drawn(picture) => drawn::height(picture, x),
-            Land::SpiralOut => cm(spiral::falling_outwards(row, column)),
-            Land::SpiralIn => cm(spiral::falling_inwards(row, column)),
-            Land::Comb => cm(comb(row, column)),
-            Land::Plane => cm(100 * column + 42 * row),
-            Land::Bowl => cm(bowl(row, column)),
+            Land::SpiralOut => cm(spot.falling_outwards()),
+            Land::SpiralIn => cm(spot.falling_inwards()),
+            Land::Comb => cm(spot.comb()),
+            Land::Plane => cm(100 * spot.column + 42 * spot.row),
+            Land::Bowl => cm(spot.bowl()),
             Land::Noise => cm(seed / 65536 % 1000),
             Land::WideNoise => signed(seed / 4096 % 950001),
             Land::StepNoise => step_noise(seed / 65536 % 64),
@@ -105,45 +168,43 @@ fn step_noise(n: usize) -> i32
     if n < 3 { NO_DATA } else { cm(n % 8 * 100) }
 }
 
-// Teeth in the odd columns and a spine in row 38 that falls to its mouth at the east edge; each third tooth falls away
-// from the spine.
-fn comb(row: usize, column: usize) -> usize
-    requires row_bound { row < 40 }
-    requires column_bound { column < 40 }
-    ensures { result ≤ 3000 }
-{
-    if row == 38 {
-        return if column == 0 {
-            3000
-        } else {
-            1000 - column * 15
-        };
-    }
-    if row % 39 == 0 {
-        return 3000;
-    }
-    if column == 39 {
-        return 3000;
-    }
-    if column % 2 == 0 {
-        return 3000;
-    }
-    if column % 3 == 0 {
-        return 300 + row * 5;
-    }
-    1190 - row * 5
-}
-
-// The deeper the further in, with a notch in the east edge.
-fn bowl(row: usize, column: usize) -> usize
-    requires row_bound { row < 40 }
-    requires column_bound { column < 40 }
-    ensures { result ≤ 9000 }
-{
-    if row == 17 {
-        if 37 <= column {
-            return 8000;
+impl Spot {
+    // Teeth in the odd columns and a spine in row 38 that falls to its mouth at the east edge; each third tooth falls away
+    // from the spine.
+    fn comb(self) -> usize
+        ensures { result ≤ 3000 }
+    {
+        if self.row == 38 {
+            return if self.column == 0 {
+                3000
+            } else {
+                1000 - self.column * 15
+            };
         }
+        if self.row % 39 == 0 {
+            return 3000;
+        }
+        if self.column == 39 {
+            return 3000;
+        }
+        if self.column % 2 == 0 {
+            return 3000;
+        }
+        if self.column % 3 == 0 {
+            return 300 + self.row * 5;
+        }
+        1190 - self.row * 5
     }
-    9000 - spiral::ring(row, column) * 450
+
+    // The deeper the further in, with a notch in the east edge.
+    fn bowl(self) -> usize
+        ensures { result ≤ 9000 }
+    {
+        if self.row == 17 {
+            if 37 <= self.column {
+                return 8000;
+            }
+        }
+        9000 - self.ring() * 450
+    }
 }

@@ -15,25 +15,43 @@ use std::io;
 
 fn main(rt: HostRuntime) -> io::Result<()> {
     listed::drops(&rt)?;
-    drawn::basins(&rt)?;
-    drawn::slopes(&rt)?;
-    drawn::no_data(&rt)?;
-    drawn::strips(&rt)?;
-    drawn::pits_in_strips(&rt)?;
+    for fields in [
+        drawn::BASINS,
+        drawn::SLOPES,
+        drawn::HOLES,
+        drawn::STRIPS,
+        drawn::PITS_IN_STRIPS,
+    ] {
+        for field in fields {
+            field.show(&rt)?;
+        }
+    }
     refusals::sizes(&rt)?;
     refusals::lengths(&rt)?;
     refusals::heights(&rt)?;
     refusals::heights_near_no_data(&rt)?;
     refusals::of_two(&rt)?;
-    drawn::plateau(&rt)?;
-    land::shapes(&rt)?;
-    land::strips_and_noise(&rt)?;
-    given::sound(&rt)?;
-    given::sound_on_flats(&rt)?;
-    given::bad_codes(&rt)?;
-    given::bad_ways(&rt)?;
-    given::several_faults(&rt)?;
-    given::rings(&rt)?;
-    given::rings_in_hollows(&rt)?;
+    for fields in [drawn::PLATEAU, land::SHAPES, land::STRIPS_AND_NOISE] {
+        for field in fields {
+            field.show(&rt)?;
+        }
+    }
+    for cases in [
+        given::SOUND,
+        given::SOUND_ON_FLATS,
+        given::BAD_CODES,
+        given::BAD_WAYS,
+        given::SEVERAL_FAULTS,
+    ] {
+        for case in cases {
+            case.show(&rt)?;
+        }
+    }
+    given::bad_height(&rt)?;
+    for cases in [given::RINGS, given::RINGS_IN_HOLLOWS] {
+        for case in cases {
+            case.show(&rt)?;
+        }
+    }
     back::own(&rt)
 }

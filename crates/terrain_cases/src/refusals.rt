@@ -2,19 +2,19 @@
 use crate::show::{Places, field, lent};
 use std::io;
 
-// Rows and columns whose product wraps round to 1 are refused as well.
+// Rows and columns whose product wraps round to 1 are refused as well. One cell is lent, whatever they are.
 pub(crate) fn sizes(rt: &impl Print) -> io::Result<()> {
-    one_cell(rt, "rows 0", 0, 1)?;
-    one_cell(rt, "columns 0", 1, 0)?;
-    one_cell(rt, "rows 1025", 1025, 1)?;
-    one_cell(rt, "columns 1025", 1, 1025)?;
-    one_cell(rt, "a product of 1", usize::MAX, usize::MAX)?;
-    one_cell(rt, "few cells", 1024, 1024)
-}
-
-// One cell is lent, whatever the rows and columns are.
-fn one_cell(rt: &impl Print, name: &str, rows: usize, columns: usize) -> io::Result<()> {
-    field(rt, name, rows, columns, &[1])
+    for (name, rows, columns) in [
+        ("rows 0", 0, 1),
+        ("columns 0", 1, 0),
+        ("rows 1025", 1025, 1),
+        ("columns 1025", 1, 1025),
+        ("a product of 1", usize::MAX, usize::MAX),
+        ("few cells", 1024, 1024),
+    ] {
+        field(rt, name, rows, columns, &[1])?;
+    }
+    Ok(())
 }
 
 pub(crate) fn lengths(rt: &impl Print) -> io::Result<()> {

@@ -2,8 +2,7 @@
 // filled heights, directions and counts row by row; and what became of the workspace.
 use factor::Source;
 use settings::{Channel, Formula, Settings};
-use std::fmt::Display;
-use std::io;
+use std::{fmt, io};
 
 // The most cells that a field here has.
 pub(crate) const MOST: usize = 1600;
@@ -136,11 +135,11 @@ pub(crate) fn write_map(
     grids: &mut Grids,
 ) -> io::Result<()> {
     map(rt, rows, columns, source, ground, grids)?;
-    write_cells(rt, "ground", columns, ground)?;
-    write_cells(rt, "filled", columns, grids.filled)?;
-    write_cells(rt, "direction", columns, grids.direction)?;
-    write_cells(rt, "count", columns, grids.count)?;
-    write_workspace(rt, grids.workspace)
+    print!(rt; "\nground{}", Cells(columns, ground))?;
+    print!(rt; "\nfilled{}", Cells(columns, grids.filled))?;
+    print!(rt; "\ndirection{}", Cells(columns, grids.direction))?;
+    print!(rt; "\ncount{}", Cells(columns, grids.count))?;
+    println!(rt; "\nworkspace {}", became(grids.workspace))
 }
 
 // Works out the lent grids with cells of 10 m, cutoffs 0.5 and no channels, and writes the answer.
@@ -178,30 +177,30 @@ pub(crate) fn map(
     }
 }
 
-pub(crate) fn write_workspace(rt: &impl Print, workspace: &[u32]) -> io::Result<()> {
-    let became = if workspace.iter().all(|n| *n == 0) {
+// What became of a workspace.
+pub(crate) fn became(workspace: &[u32]) -> &'static str {
+    if workspace.iter().all(|n| *n == 0) {
         "zeros"
     } else if workspace.iter().all(|n| *n == u32::from(MARK)) {
         "untouched"
     } else {
         "changed"
-    };
-    print!(rt; "\nworkspace {became}\n")
+    }
 }
 
-// A label, and the cells row by row, a blank before each. Cells of one column stand on one line.
-fn write_cells<T: Display>(
-    rt: &impl Print,
-    label: &str,
-    columns: usize,
-    cells: &[T],
-) -> io::Result<()> {
-    print!(rt; "\n{label}")?;
-    for (x, cell) in cells.iter().enumerate() {
-        if 1 < columns && x % columns == 0 {
-            println!(rt)?;
+// So many columns, and the cells row by row, a blank before each. Cells of one column stand on one line.
+#[derive(Drop)]
+struct Cells<'a, T>(usize, &'a [T]);
+
+impl<T: fmt::Display> fmt::Display for Cells<'_, T> {
+    fn fmt<W: fmt::Write>(&self, f: &mut fmt::Formatter<W>) -> fmt::Result {
+        let Cells(columns, cells) = *self;
+        for (x, cell) in cells.iter().enumerate() {
+            if 1 < columns && x % columns == 0 {
+                writeln!(f)?;
+            }
+            write!(f, " {cell}")?;
         }
-        print!(rt; " {cell}")?;
+        Ok(())
     }
-    Ok(())
 }

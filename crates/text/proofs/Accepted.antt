@@ -1,7 +1,7 @@
 -- Laws of the ranges: what is known of a size, a side and heights that are accepted, and when each test of a call is passed. Assumes nothing.
 use mathlib.Core.Path.{◌≡◌, refl, sym, ap, ap₂, ◌∙◌}
 use mathlib.Core.List.{List, [], ◌∷◌}
-use mathlib.Core.Bool.{Bool, true, false, not, ◌&&◌, true≢false}
+use mathlib.Core.Bool.{Bool, true, false, not, cond, ◌&&◌, true≢false}
 use Prim.Native.Nat.{ℕ, ◌*◌, ◌≤◌, ◌<◌}
 use native.Mathlib.Nat.{le_trans, mul-le-mul_right}
 use native.Mathlib.Omega.{arith}
@@ -12,14 +12,15 @@ use lib.Dec.{ltb, leb, eqb}
 use mir.Syntax.{w32}
 use mir.Val.{SFits, to_z, of_z}
 use mir.Facts.{to_z-of_z}
-use borrow.Author.Tests.{leb-true, lt-leb, ltb-false, lt-ltb, le-ltb, eqb-true, not-false, not-true}
+use borrow.Author.Tests.{leb-true, lt-leb, ltb-true, ltb-false, lt-ltb, le-ltb, eqb-true, not-false, not-true}
+use Rattle.std.proofs.Common.{Option, Some, None}
 use Rattle.laws.specs.Tests.{passed, failed}
 use Rattle.laws.proofs.Tests.{and_both, and-false-left, and-false-right}
 use Rattle.laws.proofs.Verdicts.{test-yes, test-no, test-passed}
 use Rattle.laws.proofs.First.{first-before}
 use Rattle.text.specs.Quantities.{no_data_height}
 use Rattle.text.specs.Heights.{same}
-use Rattle.text.specs.Ranges.{size_accepted, side_accepted, height_accepted, first_bad, all_long, size_test, length_test, side_test, height_test}
+use Rattle.text.specs.Ranges.{size_accepted, side_accepted, height_accepted, first_bad, bad_cell, all_long, size_test, length_test, side_test, height_test}
 
 -- ---- sizes
 
@@ -157,3 +158,18 @@ module _ (n : ℕ) (elevation : List ℤ) where
   pub height-fails : first_bad n elevation < n → height_test n elevation ≡ failed 5 (first_bad n elevation)
   unfolding height_test
   height-fails h = test-no 5 (first_bad n elevation) (ap not (lt-ltb (first_bad n elevation) n h))
+
+  -- what the search for a bad cell tells
+  pub bad-some : {x : ℕ} → Some x ≡ bad_cell n elevation → (x ≡ first_bad n elevation) × (x < n)
+  bad-some {x} e = go (ltb (first_bad n elevation) n) refl e
+    where
+      go : (b : Bool) → ltb (first_bad n elevation) n ≡ b → Some x ≡ cond b (Some (first_bad n elevation)) None → (x ≡ first_bad n elevation) × (x < n)
+      go true q r = let z : x ≡ first_bad n elevation = cc in (z, omega (arith, z, ltb-true (first_bad n elevation) n q))
+      go false q r = absurd (let z : ◌≡◌ {A = Option ℕ} (Some x) None = r in cc)
+
+  pub bad-none : None ≡ bad_cell n elevation → n ≤ first_bad n elevation
+  bad-none e = go (ltb (first_bad n elevation) n) refl e
+    where
+      go : (b : Bool) → ltb (first_bad n elevation) n ≡ b → None ≡ cond b (Some (first_bad n elevation)) None → n ≤ first_bad n elevation
+      go true q r = absurd (let z : ◌≡◌ {A = Option ℕ} None (Some (first_bad n elevation)) = r in cc)
+      go false q r = ltb-false (first_bad n elevation) n q

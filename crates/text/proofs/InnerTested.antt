@@ -1,21 +1,22 @@
 -- The ranges as the code tests them: sizes, the cell side, heights, and the first bad cell. Assumes nothing.
 use mathlib.Core.Path.{◌≡◌, refl, sym, ap, ◌∙◌}
 use mathlib.Core.List.{List}
-use mathlib.Core.Bool.{Bool, true, false, not, ◌&&◌, ◌||◌}
+use mathlib.Core.Bool.{Bool, true, false, not, cond, ◌&&◌, ◌||◌}
 use Prim.Native.Nat.{ℕ, ◌+◌, ◌≤◌, ◌<◌}
 use native.Mathlib.Omega.{arith}
 use lib.ListN.{length, get_or}
 use lib.IntN.{ℤ, pos, negsuc}
 use lib.Signed.{lt_z, le_z}
-use lib.Dec.{leb}
-use borrow.Author.Tests.{leb-true, le-leb, lt-leb}
+use lib.Dec.{leb, ltb}
+use borrow.Author.Tests.{leb-true, le-leb, lt-leb, lt-ltb, le-ltb}
 use borrow.Author.Count.{below_more}
+use Rattle.std.proofs.Common.{Some, None}
 use Rattle.laws.proofs.Tests.{and-false-left, and-true-left}
 use Rattle.laws.proofs.Lists.{get_or_any}
 use Rattle.laws.proofs.Signed.{lt_not_le, not-lt-le}
 use Rattle.laws.proofs.First.{first-is, first-none}
 use Rattle.text.specs.Quantities.{height_in, no_data_height}
-use Rattle.text.specs.Ranges.{size_accepted, side_accepted, height_accepted, first_bad}
+use Rattle.text.specs.Ranges.{size_accepted, side_accepted, height_accepted, first_bad, bad_cell}
 
 pub size_none : (n : ℕ) → n < 1 → false ≡ size_accepted n
 unfolding size_accepted
@@ -76,3 +77,17 @@ first-bad elevation x h g e =
 pub all-good : (elevation : List ℤ) (x : ℕ) → x ≡ length elevation → GoodTo elevation x → x ≡ first_bad (length elevation) elevation
 unfolding first_bad
 all-good elevation x e g = e ∙ sym (first-none (λ y. not (height_accepted (get_or elevation y no_data_height))) (length elevation) (λ y l. ap not (g y (omega arith))))
+
+-- the same as the code answers it
+pub bad-found : (elevation : List ℤ) (x : ℕ) → x < length elevation → GoodTo elevation x → false ≡ height_accepted (get_or elevation x (pos 0))
+    → Some x ≡ bad_cell (length elevation) elevation
+bad-found elevation x h g e =
+    let q = first-bad elevation x h g e in
+    ap (λ (b : Bool). cond b (Some x) None) (sym (lt-ltb x (length elevation) h))
+    ∙ ap (λ (y : ℕ). cond (ltb y (length elevation)) (Some y) None) q
+
+pub none-found : (elevation : List ℤ) (x : ℕ) → x ≡ length elevation → GoodTo elevation x → None ≡ bad_cell (length elevation) elevation
+none-found elevation x e g =
+    let q = all-good elevation x e g in
+    ap (λ (b : Bool). cond b (Some x) None) (sym (le-ltb x (length elevation) (omega (arith, e))))
+    ∙ ap (λ (y : ℕ). cond (ltb y (length elevation)) (Some y) None) q

@@ -1,5 +1,5 @@
 -- RULES 1 and 3: what sizes, sides and heights are accepted, and the tests of a call that takes them. Assumes nothing.
-use Rattle.std.specs.Prelude.{List, [], ◌∷◌, Bool, true, not, ◌&&◌, ◌||◌, ℕ, get_or, ℤ, pos, ltb, eqb}
+use Rattle.std.specs.Prelude.{List, [], ◌∷◌, Option, Some, None, Bool, true, cond, not, ◌&&◌, ◌||◌, ℕ, get_or, ℤ, pos, ltb, eqb}
 use Rattle.laws.specs.First.{first_of}
 use Rattle.laws.specs.Tests.{Test, test}
 use Rattle.text.specs.Quantities.{extent_in, side_in, height_in, no_data_height}
@@ -21,6 +21,10 @@ height_accepted z = same z no_data_height || height_in z
 unfoldable pub first_bad : ℕ → List ℤ → ℕ
 unfolding first_of height_accepted
 first_bad n elevation = first_of (λ x. not (height_accepted (get_or elevation x no_data_height))) n
+
+-- that cell, if there is one
+abbrev pub bad_cell : ℕ → List ℤ → Option ℕ
+bad_cell n elevation = cond (ltb (first_bad n elevation) n) (Some (first_bad n elevation)) None
 
 -- each length is n
 unfoldable pub all_long : ℕ → List ℕ → Bool

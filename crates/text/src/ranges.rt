@@ -1,6 +1,6 @@
 // The ranges of rows, columns, cell side and heights, tested for every call that takes them as numbers. RULES 1.
 ghost use Rattle.std.specs.Prelude.{◌≡◌, length};
-ghost use Rattle.text.specs.Ranges.{size_accepted, side_accepted, height_accepted, first_bad};
+ghost use Rattle.text.specs.Ranges.{size_accepted, side_accepted, height_accepted, bad_cell};
 
 use crate::NO_DATA;
 
@@ -28,14 +28,15 @@ pub fn is_height(h: i32) -> bool
     h == NO_DATA || (-50000..=900000).contains(&h)
 }
 
-// The first cell whose height is not accepted; the number of cells where there is none.
-pub fn first_bad(heights: &[i32]) -> usize
-    ensures { result ≡ first_bad (length heights.now) heights.now }
+// The first cell whose height is not accepted, if there is one. A loop and not `position`: that its closure makes the test of the
+// definition, of a signed number, the check did not find.
+pub fn first_bad(heights: &[i32]) -> Option<usize>
+    ensures { result ≡ bad_cell (length heights.now) heights.now }
 {
     for (x, h) in heights.iter().enumerate() {
         if !is_height(*h) {
-            return x;
+            return Some(x);
         }
     }
-    heights.len()
+    None
 }

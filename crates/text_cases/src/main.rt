@@ -14,11 +14,18 @@ mod words;
 use std::io;
 
 fn main(rt: HostRuntime) -> io::Result<()> {
-    words::run(&rt)?;
-    names::run(&rt)?;
-    counts::run(&rt)?;
-    side::run(&rt)?;
-    forms::run(&rt)?;
-    heights::run(&rt)?;
-    ends::run(&rt)
+    for cases in [
+        words::CASES,
+        names::CASES,
+        counts::CASES,
+        side::CASES,
+        forms::CASES,
+        heights::CASES,
+        ends::CASES,
+    ] {
+        for case in cases {
+            case.show(&rt)?;
+        }
+    }
+    Ok(())
 }

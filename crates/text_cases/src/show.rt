@@ -1,20 +1,34 @@
 // Writes what both calls of `text` answer for one text. An answer is number, place, rows, columns, side and NoData
 // number, and after the reader call's stand the lent heights.
-ghost use Rattle.std.specs.Prelude.{◌≤◌};
-
+use output::Answers;
 use std::io;
 
 // What every lent height is beforehand, so that an untouched grid shows.
 const MARK: i32 = 77;
 
-// One case, with `cells` lent heights.
-pub(crate) fn case(rt: &impl Print, name: &str, cells: usize, text: &[u8]) -> io::Result<()>
-    requires { cells ≤ 9 }
-{
-    let mut lent = [MARK; 9];
-    let heights = &mut lent[..cells];
-    let header = text::read_header(text).map(|head| head.header);
-    let grid = text::read_grid(text, heights);
-    println!(rt; "{name}")?;
-    output::write_answers(rt, header, "grid", grid, heights)
+// The most heights that a case lends.
+const MOST: usize = 9;
+
+// A text, with the name of its case and how many heights are lent.
+#[derive(Clone, Copy)]
+pub(crate) struct Case {
+    pub(crate) name: &'static str,
+    pub(crate) cells: usize,
+    pub(crate) text: &'static [u8],
+}
+
+impl Case {
+    pub(crate) fn show(self, rt: &impl Print) -> io::Result<()> {
+        let mut lent = [MARK; MOST];
+        let heights = &mut lent[..self.cells.min(MOST)];
+        let header = text::read_header(self.text).map(|head| head.header);
+        let cells = text::read_grid(self.text, heights);
+        let answers = Answers {
+            header,
+            call: "grid",
+            cells,
+            heights,
+        };
+        println!(rt; "{}\n{answers}", self.name)
+    }
 }

@@ -9,14 +9,14 @@ use lib.IntN.{ℤ}
 use lib.ListN.{length, length-append, length-map}
 use Rattle.laws.specs.Tests.{passed, failed, verdict}
 use Rattle.laws.proofs.Verdicts.{test-yes, test-no, verdict-none, verdict-next, verdict-stops, verdict-before, verdict-after}
-use Rattle.std.specs.Prelude.{Result, Ok, Err}
+use Rattle.std.specs.Prelude.{Some, None, Result, Ok, Err}
 use Rattle.text.specs.declared.Refusal.{Refusal}
 use Rattle.text.specs.declared.faults.Fault.{Fault}
 use Rattle.text.specs.declared.faults.Fault.TheVariants.{Height, Room}
 use Rattle.text.specs.Faults.{number_of, fault_of}
-use Rattle.text.specs.Ranges.{first_bad, height_test}
+use Rattle.text.specs.Ranges.{first_bad, bad_cell, height_test}
 use Rattle.text.proofs.FaultNumbers.{back-fault}
-use Rattle.text.proofs.Accepted.{size_is, area-few, height-passes, height-fails}
+use Rattle.text.proofs.Accepted.{size_is, area-few, height-passes, height-fails, bad-some, bad-none}
 use Rattle.numerals.specs.Writing.{overlay, Wrote}
 use Rattle.numerals.proofs.Writing.{wrote_as, wrote_then}
 use Rattle.writer.specs.Words.{height_word}
@@ -122,16 +122,19 @@ module _ (f : Frame) (hs : List ℤ) (room : List ℕ) (frame_is : verdict (fram
   heights-pass h =
       subst (λ (n : ℕ). verdict (height_test n hs ∷ []) ≡ passed) heights-many (verdict-next [] (height-passes (length hs) hs h) ∙ verdict-none)
 
-  pub heights-refuse : first_bad (length hs) hs < length hs
-      → Promised f (height_cells f hs) room (Err (record { fault = Height; place = first_bad (length hs) hs })) room
+  pub heights-refuse : {x : ℕ} → Some x ≡ bad_cell (length hs) hs → Promised f (height_cells f hs) room (Err (record { fault = Height; place = x })) room
   unfolding height_cells fault_of
-  heights-refuse h = number-refuses f (height_cells f hs) room frame_is (heights-fail h)
+  heights-refuse b =
+      let w = bad-some (length hs) hs b in
+      subst (λ (x : ℕ). Promised f (height_cells f hs) room (Err (record { fault = Height; place = x })) room) (sym w.0)
+      (number-refuses f (height_cells f hs) room frame_is (heights-fail (omega (arith, w.0, w.1))))
 
   -- heights that are good are written as any cells
-  pub heights-good : {r : Result ℕ Refusal} {then : List ℕ} → length hs ≤ first_bad (length hs) hs → Promised f (good_cells height_word hs) room r then
+  pub heights-good : {r : Result ℕ Refusal} {then : List ℕ} → None ≡ bad_cell (length hs) hs → Promised f (good_cells height_word hs) room r then
       → Promised f (height_cells f hs) room r then
   unfolding height_cells answer after
-  heights-good h p =
+  heights-good b p =
+      let h = bad-none (length hs) hs b in
       let text = text_of f (map height_word hs) in
       let same = left-to-room f (good_cells height_word hs) room frame_is verdict-none ∙ sym (left-to-room f (height_cells f hs) room frame_is (heights-pass h)) in
       record { answers = p.answers ∙ ap (answer_of text) same; leaves = p.leaves ∙ ap (room_of text room) same }

@@ -7,7 +7,7 @@ use native.Mathlib.Omega.{arith}
 use lib.ListN.{length, get_or, drop, length-append, drop_of_length-le}
 use lib.Seq.{drop-cons, append_snoc}
 use Rattle.numerals.specs.Writing.{overlay, Wrote}
-use Rattle.numerals.proofs.Writing.{wrote-byte, wrote_then, Left, left-none, left-more, left-all}
+use Rattle.numerals.proofs.Writing.{wrote-byte, wrote_then, Left, left-more, left-all}
 use Rattle.writer.specs.InnerCells.{gap_of, column_after, cells_from, bytes_of}
 
 -- they have as many bytes as the words with one more for each, whatever the columns are
@@ -38,10 +38,6 @@ module _ {A : Type 0} (w : A → List ℕ) (cells : List A) where
     pub left : Left room at (cells_from columns 0 (map w cells)) now next (cells_from columns c (map w (drop x cells)))
     pub column : c + 1 ≤ columns
     pub within : x ≤ length cells
-
-  pub along-none : (columns : ℕ) (room : List ℕ) (at : ℕ) → 1 ≤ columns → Along columns room at room at 0 0
-  along-none columns room at h =
-      record { left = left-none room at (cells_from columns 0 (map w cells)); column = omega arith; within = omega arith }
 
 -- ---- the next cell, and the end
 

@@ -48,7 +48,8 @@ fn write<W: Word>(frame: Frame, cells: &[W::Cell], room: &mut [u8]) -> Result<us
     put_text::<W>(frame, cells, room)
 }
 
-// Writes heights in cm, ground or filled, into the lent room.
+// Writes heights in cm, ground or filled, into the lent room. This call and the three below take no Frame: what they promise is of
+// these parameters.
 pub fn write_heights(
     rows: usize,
     columns: usize,
@@ -71,17 +72,17 @@ pub fn write_heights(
         y,
     };
     frame.judge(heights.len())?;
-    let bad = text::first_bad(heights);
-    if bad < heights.len() {
+    if let Some(place) = text::first_bad(heights) {
         return Err(Refusal {
             fault: Fault::Height,
-            place: bad,
+            place,
         });
     }
     put_text::<Heights>(frame, heights, room)
 }
 
 // Writes flow counts into the lent room.
+#[tactic(auto, unfolding(crate::specs::Answers::count_cells, crate::specs::Answers::number_cells))]
 pub fn write_counts(
     rows: usize,
     columns: usize,
@@ -107,6 +108,7 @@ pub fn write_counts(
 }
 
 // Writes LS, in hundred-thousandths, into the lent room.
+#[tactic(auto, unfolding(crate::specs::Answers::factor_cells, crate::specs::Answers::number_cells))]
 pub fn write_factors(
     rows: usize,
     columns: usize,
@@ -132,6 +134,7 @@ pub fn write_factors(
 }
 
 // Writes directions, as their codes, into the lent room.
+#[tactic(auto, unfolding(crate::specs::Answers::direction_cells, crate::specs::Answers::number_cells))]
 pub fn write_directions(
     rows: usize,
     columns: usize,
@@ -156,7 +159,7 @@ pub fn write_directions(
     write::<Directions>(frame, directions, room)
 }
 
-// How many bytes a room needs for any text of a shape.
+// How many bytes a room needs for any text of a shape; 0 for a shape that is refused, as `room_for` says, and not an Option.
 pub fn room(rows: usize, columns: usize) -> usize
     ensures is { result ≡ room_for rows columns }
     ensures holds { Holds rows columns result }

@@ -56,6 +56,7 @@ pub(crate) fn answer(rt: &impl Print, given: Given, cells: Cells) -> io::Result<
         Err(refusal) => print!(rt; "answer {} {} 0", refusal.fault.number(), refusal.place)?,
     }
     println!(rt; ", room of {}", room.len())?;
+    // By `write_all`, since a room is bytes, and `print!` takes text.
     rt.write_all(room)?;
     println!(rt; "|")
 }

@@ -7,7 +7,7 @@ use Rattle.terrain.specs.Answers as terrain
 use Rattle.terrain.specs.Filled.{filled_levels}
 use Rattle.factor.specs.Answers.{lent}
 use Rattle.factor.proofs.Judging.{first-workspace}
-use Rattle.factor.proofs.Answers.{terrain-refused, accepted-measuring, accepted-promised}
+use Rattle.factor.proofs.Answers.{terrain-refused, accepted-room, accepted-measuring, accepted-promised}
 use Rattle.factor.proofs.map_sound.Goals as goal
 
 pub returns-in_err-summary : goal.returns-in_err-summary
@@ -17,6 +17,20 @@ returns-in_err-summary c =
     λ farms h.
     rw (p.1, p.2) (terrain-refused a.rows a.columns a.side farms a.source a.elevation.now (lent a.filled.now a.direction.now a.count.now a.lengths.now a.factors.now a.workspace.now) h.passes
     c.in_err-summary.field-0.0 c.in_err-summary.ensures.answers c.in_err-summary.ensures.leaves)
+
+pub slice_bounds-order-end : goal.slice_bounds-order-end
+slice_bounds-order-end c =
+    let a = c.args in
+    let r = accepted-room a.rows a.columns a.side c.requires.0.0 a.source a.elevation.now (lent a.filled.now a.direction.now a.count.now a.lengths.now a.factors.now a.workspace.now) c.requires.0.1.passes (terrain.lent c.map.new.filled c.map.new.direction c.map.new.count c.map.new.falls c.map.new.workspace)
+    c.in_ok-summary.ensures.answers c.in_ok-summary.ensures.leaves in
+    r.0
+
+pub slice_bounds-order-end-2 : goal.slice_bounds-order-end-2
+slice_bounds-order-end-2 c =
+    let a = c.args in
+    let r = accepted-room a.rows a.columns a.side c.requires.0.0 a.source a.elevation.now (lent a.filled.now a.direction.now a.count.now a.lengths.now a.factors.now a.workspace.now) c.requires.0.1.passes (terrain.lent c.map.new.filled c.map.new.direction c.map.new.count c.map.new.falls c.map.new.workspace)
+    c.in_ok-summary.ensures.answers c.in_ok-summary.ensures.leaves in
+    r.1
 
 pub measure-requires : goal.measure-requires
 measure-requires c =

@@ -2,8 +2,6 @@
 use mathlib.Core.Path.{sym, ap, ◌∙◌}
 use native.Mathlib.Omega.{arith}
 use Rattle.std.proofs.lemmas.Result.{err_from_is_err_and}
-use Rattle.factor.specs.Farms.{one}
-use Rattle.report.specs.Maps.{map_of}
 use Rattle.report.specs.Answers.{after_join}
 use Rattle.report.proofs.InnerAdditions.{judged-unsound, judged-sound, passed-long, passed-few}
 use Rattle.report.proofs.Additions.{add-joins}
@@ -11,24 +9,19 @@ use Rattle.report.proofs.add.Goals as goal
 
 pub report_of-requires : goal.report_of-requires
 report_of-requires c =
-    let a = c.args in
-    let m = map_of a.rows a.columns (one a.settings) a.count.now a.factors.now in
-    let p = (judged-sound m a.settings c.in_ok-rules.ensures).0 in
-    let w = passed-long m p in
-    (omega (arith, w.0, passed-few m p), w.1 ∙ sym w.0)
+    let p = (judged-sound _ _ c.in_ok-rules.ensures).0 in
+    let w = passed-long _ p in
+    (omega (arith, w.0, passed-few _ p), w.1 ∙ sym w.0)
 
 pub returns-in_err-rules : goal.returns-in_err-rules
 returns-in_err-rules c =
-    let a = c.args in
-    let m = map_of a.rows a.columns (one a.settings) a.count.now a.factors.now in
     let p = err_from_is_err_and c.from_residual.result c.from_residual.ensures.1 in
-    rw (p.1, p.2) (judged-unsound m a.settings a.report.now c.in_err-rules.ensures)
+    rw (p.1, p.2) (judged-unsound _ _ _ c.in_err-rules.ensures)
 
 pub returns : goal.returns
 returns c =
     let a = c.args in
-    let m = map_of a.rows a.columns (one a.settings) a.count.now a.factors.now in
-    let p = judged-sound m a.settings c.in_ok-rules.ensures in
+    let p = judged-sound _ _ c.in_ok-rules.ensures in
     c.join.ensures
-    ∙ ap (after_join a.report.now) (c.report_of.ensures a.rows a.columns a.settings p.1 (sym (passed-long m p.0).0))
-    ∙ sym (add-joins a.report.now m p.0)
+    ∙ ap (after_join a.report.now) (c.report_of.ensures a.rows a.columns a.settings p.1 (sym (passed-long _ p.0).0))
+    ∙ sym (add-joins a.report.now _ p.0)

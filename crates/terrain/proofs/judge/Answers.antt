@@ -29,13 +29,13 @@ returns-then-not-are_long c =
     let l = sym c.is_size-else-not-is_size.ensures ∙ c.if-not-is_size-2.false in
     sym (judged-long a.rows a.columns a.elevation.now g r l (sym c.are_long.ensures ∙ c.if-not-are_long.true))
 
-pub returns-then-bad-cells : goal.returns-then-bad-cells
-returns-then-bad-cells c =
+pub returns-in-Some : goal.returns-in-Some
+returns-in-Some c =
     let a = c.args in
     let g = lent a.filled.now a.direction.now a.count.now a.falls.now a.workspace.now in
     let r = sym c.is_size.ensures ∙ c.if-not-is_size.false in
     let l = sym c.is_size-else-not-is_size.ensures ∙ c.if-not-is_size-2.false in
-    sym (judged-height a.rows a.columns a.elevation.now g r l (sym c.are_long.ensures ∙ c.if-not-are_long.false) c.first_bad-bad.ensures c.if-bad-cells.true)
+    sym (judged-height a.rows a.columns a.elevation.now g r l (sym c.are_long.ensures ∙ c.if-not-are_long.false) c.in-Some.ensures)
 
 pub returns : goal.returns
 returns c =
@@ -43,4 +43,4 @@ returns c =
     let g = lent a.filled.now a.direction.now a.count.now a.falls.now a.workspace.now in
     let r = sym c.is_size.ensures ∙ c.if-not-is_size.false in
     let l = sym c.is_size-else-not-is_size.ensures ∙ c.if-not-is_size-2.false in
-    sym (judged-passes a.rows a.columns a.elevation.now g r l (sym c.are_long.ensures ∙ c.if-not-are_long.false) c.first_bad-bad.ensures c.if-bad-cells.false)
+    sym (judged-passes a.rows a.columns a.elevation.now g r l (sym c.are_long.ensures ∙ c.if-not-are_long.false) (sym c.in_default.is ∙ c.first_bad.ensures))

@@ -8,7 +8,14 @@ use Rattle.writer.specs.Text.{header_words, lines}
 use Rattle.writer.specs.InnerFrame.{frame_of}
 use Rattle.writer.specs.InnerCells.{bytes_of}
 use Rattle.writer.proofs.InnerAnswers.{good-few, good-columns, good-corners, good-refused, good-accepted}
+use Rattle.writer.proofs.put_text.Given as given
+use Rattle.writer.proofs.put_text.Goals.{After-length-2}
 use Rattle.writer.proofs.put_text.Goals as goal
+
+-- how long the text is
+bytes : (g : given.Over) (c : After-length-2 g) →
+    c.length.result + c.length-2.result ≡ length (lines (header_words (frame_of c.args.frame))) + bytes_of (map g.W.Word.word c.args.cells.now)
+bytes g c = omega (arith, c.length.ensures.0, c.length-2.ensures.0)
 
 pub length-requires : goal.length-requires
 length-requires g c = good-corners g.W.Word.word c.args.cells.now (frame_of c.args.frame) c.requires
@@ -22,7 +29,7 @@ overflow_add-length g c =
 
 pub returns-then-room-length : goal.returns-then-room-length
 returns-then-room-length g c =
-    let n : c.length.result + c.length-2.result ≡ length (lines (header_words (frame_of c.args.frame))) + bytes_of (map g.W.Word.word c.args.cells.now) = omega (arith, c.length.ensures.0, c.length-2.ensures.0) in
+    let n = bytes g (goal.at.returns-then-room-length g c).After-length-2 in
     let p = good-refused g.W.Word.word c.args.cells.now (frame_of c.args.frame) c.requires c.args.room.now n c.if-room-length.true in
     record { answers = p.answers; leaves = p.leaves }
 
@@ -38,6 +45,6 @@ put-requires g c =
 
 pub returns : goal.returns
 returns g c =
-    let n : c.length.result + c.length-2.result ≡ length (lines (header_words (frame_of c.args.frame))) + bytes_of (map g.W.Word.word c.args.cells.now) = omega (arith, c.length.ensures.0, c.length-2.ensures.0) in
+    let n = bytes g (goal.at.returns g c).After-length-2 in
     let p = good-accepted g.W.Word.word c.args.cells.now (frame_of c.args.frame) c.requires c.args.room.now n c.if-room-length.false c.put-next.ensures c.put.ensures in
     record { answers = p.answers; leaves = p.leaves }

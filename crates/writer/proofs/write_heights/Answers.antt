@@ -1,19 +1,10 @@
 -- `writer::write_heights` meets its contract. Assumes nothing.
-use mathlib.Core.Path.{sym, ap, ◌∙◌}
-use Prim.Native.Nat.{ℕ}
-use native.Mathlib.Omega.{arith}
+use mathlib.Core.Path.{sym, ◌∙◌}
 use Rattle.std.proofs.lemmas.Result.{err_from_is_err_and}
 use Rattle.writer.specs.Text.{frame}
 use Rattle.writer.specs.Answers.{height_cells}
-use Rattle.std.specs.Prelude.{Result, Err}
-use Rattle.text.specs.declared.Refusal.{Refusal}
-use Rattle.text.specs.declared.faults.Fault.TheVariants.{Height}
 use Rattle.writer.proofs.InnerAnswers.{frame-refuses, heights-refuse, heights-good}
 use Rattle.writer.proofs.write_heights.Goals as goal
-
--- the refusal of the height at x
-abbrev refusal : ℕ → Result ℕ Refusal
-refusal x = Err (record { fault = Height; place = x })
 
 pub returns-in_err-judge : goal.returns-in_err-judge
 unfolding height_cells
@@ -24,20 +15,15 @@ returns-in_err-judge c =
     let p = frame-refuses f (height_cells f a.heights.now) a.room.now c.in_err-judge.field-0.0 c.in_err-judge.ensures in
     rw (e.1, e.2) (record { answers = p.answers; leaves = p.leaves })
 
-pub returns-then-bad-heights : goal.returns-then-bad-heights
-returns-then-bad-heights c =
+pub returns-in-Some : goal.returns-in-Some
+returns-in-Some c =
     let a = c.args in
-    let f = frame a.rows a.columns a.side a.x.now a.y.now in
-    let p = heights-refuse f a.heights.now a.room.now (sym c.in_ok-judge.ensures) (omega (arith, c.first_bad-bad.ensures, c.if-bad-heights.true)) in
-    record { answers = ap refusal c.first_bad-bad.ensures ∙ p.answers; leaves = p.leaves }
-
-pub put_text-requires : goal.put_text-requires
-put_text-requires c = sym c.in_ok-judge.ensures
+    let p = heights-refuse _ a.heights.now a.room.now (sym c.in_ok-judge.ensures) c.in-Some.ensures in
+    record { answers = p.answers; leaves = p.leaves }
 
 pub returns : goal.returns
 returns c =
     let a = c.args in
-    let f = frame a.rows a.columns a.side a.x.now a.y.now in
-    let p = heights-good f a.heights.now a.room.now (sym c.in_ok-judge.ensures) (omega (arith, c.first_bad-bad.ensures, c.if-bad-heights.false))
+    let p = heights-good _ a.heights.now a.room.now (sym c.in_ok-judge.ensures) (sym c.in_default.is ∙ c.first_bad.ensures)
     (record { answers = c.put_text.ensures.answers; leaves = c.put_text.ensures.leaves }) in
     record { answers = p.answers; leaves = p.leaves }

@@ -1,8 +1,5 @@
 -- `floats::cells::fault_of` meets its contract. Assumes nothing.
-use mathlib.Core.Path.{◌≡◌, sym, ◌∙◌}
-use mathlib.Core.Bool.{false}
 use native.Mathlib.Omega.{arith}
-use Rattle.floats.specs.Floats.{equal}
 use Rattle.floats.proofs.InnerFaults.{fault-infinite, fault-no-data, plus-clear, plus-fault, minus-clear, minus-fault}
 use Rattle.floats.proofs.cells.fault_of.Goals.{then-bits-lt-MINUS, else-bits-lt-MINUS}
 use Rattle.floats.proofs.cells.fault_of.Goals.{then-is_equal-via-then-is_equal, then-is_equal-via-else-is_equal+then-m-most}
@@ -14,19 +11,17 @@ returns-then-m-ge-INFINITE c = fault-infinite _ _ c.if-m-ge-INFINITE.true
 pub returns-then-is_equal : goal.returns-then-is_equal
 returns-then-is_equal c =
     elim c.then-is_equal.branch [
-      | then-is_equal-via-then-is_equal w ↦ fault-no-data _ _ (omega (arith, c.if-m-ge-INFINITE.false)) (sym c.is_equal.ensures ∙ w.if-is_equal.true)
+      | then-is_equal-via-then-is_equal w ↦ fault-no-data _ _ (omega (arith, c.if-m-ge-INFINITE.false)) (cc)
       | then-is_equal-via-else-is_equal+then-m-most w ↦
-          let other : equal c.args.bits c.args.v ≡ false = sym c.is_equal.ensures ∙ w.if-is_equal.false in
           elim c.if-bits-lt-MINUS.branch [
-            | then-bits-lt-MINUS u ↦ plus-clear _ _ (omega (arith, c.if-m-ge-INFINITE.false)) other u.if-bits-lt-MINUS.true (omega (arith, w.if-m-most.true, u.most-is))
-            | else-bits-lt-MINUS u ↦ minus-clear _ _ (omega (arith, c.if-m-ge-INFINITE.false)) other u.if-bits-lt-MINUS.false (omega (arith, w.if-m-most.true, u.most-is))
+            | then-bits-lt-MINUS u ↦ plus-clear _ _ (omega (arith, c.if-m-ge-INFINITE.false)) (cc) u.if-bits-lt-MINUS.true (omega (arith, w.if-m-most.true, u.most-is))
+            | else-bits-lt-MINUS u ↦ minus-clear _ _ (omega (arith, c.if-m-ge-INFINITE.false)) (cc) u.if-bits-lt-MINUS.false (omega (arith, w.if-m-most.true, u.most-is))
           ]
     ]
 
 pub returns : goal.returns
 returns c =
-    let other : equal c.args.bits c.args.v ≡ false = sym c.is_equal.ensures ∙ c.if-is_equal.false in
     elim c.if-bits-lt-MINUS.branch [
-      | then-bits-lt-MINUS u ↦ plus-fault _ _ (omega (arith, c.if-m-ge-INFINITE.false)) other u.if-bits-lt-MINUS.true (omega (arith, c.if-m-most.false, u.most-is))
-      | else-bits-lt-MINUS u ↦ minus-fault _ _ (omega (arith, c.if-m-ge-INFINITE.false)) other u.if-bits-lt-MINUS.false (omega (arith, c.if-m-most.false, u.most-is))
+      | then-bits-lt-MINUS u ↦ plus-fault _ _ (omega (arith, c.if-m-ge-INFINITE.false)) (cc) u.if-bits-lt-MINUS.true (omega (arith, c.if-m-most.false, u.most-is))
+      | else-bits-lt-MINUS u ↦ minus-fault _ _ (omega (arith, c.if-m-ge-INFINITE.false)) (cc) u.if-bits-lt-MINUS.false (omega (arith, c.if-m-most.false, u.most-is))
     ]

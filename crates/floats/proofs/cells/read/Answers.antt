@@ -11,12 +11,18 @@ use Rattle.text.specs.Answers.{accepted, header_of}
 use Rattle.floats.specs.Rounding.{nearest_float}
 use Rattle.floats.proofs.InnerCells.{judged-good, body-judged, body-good}
 use borrow.Author.Rules.{rules}
+use Rattle.floats.proofs.cells.read.Goals.{After-nearest_float-v}
 use Rattle.floats.proofs.cells.read.Goals as goal
+
+-- the NoData float
+float_is : (c : After-nearest_float-v) → c.nearest_float-v.result ≡ nearest_float c.args.header.no_data
+float_is c =
+    let bits : to_z w64 (of_z w64 c.args.header.no_data) ≡ c.args.header.no_data = search rules in
+    c.nearest_float-v.ensures ∙ ap nearest_float bits
 
 pub returns-in_err-judge : goal.returns-in_err-judge
 returns-in_err-judge c =
-    let bits : to_z w64 (of_z w64 c.args.header.no_data) ≡ c.args.header.no_data = search rules in
-    let no-data : c.nearest_float-v.result ≡ nearest_float c.args.header.no_data = c.nearest_float-v.ensures ∙ ap nearest_float bits in
+    let no-data = float_is (goal.at.returns-in_err-judge c).After-nearest_float-v in
     let e : c.from_residual.result ≡ Err c.in_err-judge.field-0.0 = search rules in
     rw e (body-judged (header_of c.args.header) c.args.out.now _ c.if-out-header.false c.if-floats-out.false _ _ (rw no-data at c.in_err-judge.ensures))
 
@@ -29,8 +35,7 @@ store-requires c = (
 
 pub returns : goal.returns
 returns c =
-    let bits : to_z w64 (of_z w64 c.args.header.no_data) ≡ c.args.header.no_data = search rules in
-    let no-data : c.nearest_float-v.result ≡ nearest_float c.args.header.no_data = c.nearest_float-v.ensures ∙ ap nearest_float bits in
+    let no-data = float_is (goal.at.returns c).After-nearest_float-v in
     let h = header_of c.args.header in
     ap (λ (v : List ℤ). record { answer = accepted h; heights = v }) (rw no-data at c.store.ensures)
     ∙ body-good h c.args.out.now _ c.if-out-header.false c.if-floats-out.false (rw no-data at c.in_ok-judge.ensures)

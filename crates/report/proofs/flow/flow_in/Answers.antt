@@ -1,14 +1,10 @@
 -- `report::flow::flow_in` meets its contract. Assumes nothing.
 use mathlib.Core.Path.{◌∙◌}
 use mathlib.Core.List.{[], ◌∷◌}
-use native.Mathlib.Omega.{arith}
 use lib.ListN.{get_or}
 use Rattle.factor.specs.Farms.{farm_at}
 use Rattle.report.proofs.InnerFlow.{channels-shared}
 use Rattle.report.proofs.flow.flow_in.Goals as goal
-
-pub count_above-requires-clause-each : goal.count_above-requires-clause-each
-count_above-requires-clause-each c = λ x h. let m = c.requires.1 in (omega arith, m.few x)
 
 pub returns : goal.returns
 returns c =

@@ -1,6 +1,4 @@
 -- `report::single::sum_of` meets its contract. Assumes nothing.
-use mathlib.Core.Path.{ap, ap₂}
-use Prim.Native.Nat.{ℕ, ◌*◌}
 use native.Mathlib.Omega.{arith}
 use lib.ListN.{length}
 use Rattle.report.proofs.InnerCells.{all-few, parts_all}
@@ -9,26 +7,19 @@ use Rattle.report.proofs.single.sum_of.Goals as goal
 pub overflow_mul-result : goal.overflow_mul-result
 overflow_mul-result c =
     let l = c.args.factors.now in
-    let n = length l in
-    let long = ap (λ (m : ℕ). c.long_of-long.result * m) c.from.ensures in
-    omega (arith, all-few l c.requires.0 n, parts_all l c.requires.0 n, long)
+    rw c.from.ensures (omega (arith, all-few l c.requires.0 (length l), parts_all l c.requires.0 (length l)))
 
 pub overflow_sub-result : goal.overflow_sub-result
 overflow_sub-result c =
     let l = c.args.factors.now in
-    let long = ap (λ (m : ℕ). c.long_of-long.result * m) c.from.ensures in
-    omega (arith, parts_all l c.requires.0 (length l), long, c.requires.1.sum)
+    rw c.from.ensures (omega (arith, parts_all l c.requires.0 (length l), c.requires.1.sum))
 
 pub overflow_sub-result-2 : goal.overflow_sub-result-2
 overflow_sub-result-2 c =
     let l = c.args.factors.now in
-    let long = ap (λ (m : ℕ). c.long_of-long.result * m) c.from.ensures in
-    let no_data = ap₂ ◌*◌ c.from-2.ensures c.from-3.ensures in
-    omega (arith, parts_all l c.requires.0 (length l), long, no_data, c.requires.1.sum, c.requires.1.no-data)
+    rw (c.from.ensures, c.from-2.ensures, c.from-3.ensures) (omega (arith, parts_all l c.requires.0 (length l), c.requires.1.sum, c.requires.1.no-data))
 
 pub returns : goal.returns
 returns c =
     let l = c.args.factors.now in
-    let long = ap (λ (m : ℕ). c.long_of-long.result * m) c.from.ensures in
-    let no_data = ap₂ ◌*◌ c.from-2.ensures c.from-3.ensures in
-    omega (arith, parts_all l c.requires.0 (length l), long, no_data, c.requires.1.sum, c.requires.1.no-data)
+    rw (c.from.ensures, c.from-2.ensures, c.from-3.ensures) (omega (arith, parts_all l c.requires.0 (length l), c.requires.1.sum, c.requires.1.no-data))

@@ -3,7 +3,7 @@ use mathlib.Core.Path.{◌≡◌, ap, ◌∙◌}
 use native.Mathlib.Omega.{arith}
 use Rattle.std.specs.Slice.Iter.{chunks_rest, chunks_size}
 use Rattle.report.specs.InnerCells.{Block}
-use Rattle.report.proofs.InnerTally.{block-is, left-is, tallied-few, tallied-block, tallied-end}
+use Rattle.report.proofs.InnerTally.{block-is, left-is, tallied-few, tallied-block}
 use Rattle.report.proofs.tally.tally_of.Goals as goal
 
 pub loop-block-init : goal.loop-block-init
@@ -18,9 +18,6 @@ loop-block-init c =
       tallied = c.none-tally.ensures c.args.factors.now;
       few = tallied-few (λ x. omega (arith, c.type_inv.factors x)) (c.none-tally.ensures c.args.factors.now);
     }
-
-pub count_below-counts-requires : goal.count_below-counts-requires
-count_below-counts-requires c = omega (arith, c.in-Some.ensures.steps.1.1, c.loop-block.invariant.size)
 
 pub loop-block-preserved : goal.loop-block-preserved
 loop-block-preserved c =
@@ -41,8 +38,3 @@ loop-block-preserved c =
       tallied = tallied;
       few = tallied-few (λ x. omega (arith, c.type_inv.factors x)) tallied;
     }
-
-pub returns : goal.returns
-returns c =
-    let k = c.loop-block.invariant in
-    tallied-end k.rest c.in-None.ensures.steps.1.0 k.inside k.tallied

@@ -2,5 +2,5 @@
 use Rattle.terrain.proofs.InnerPassing.{Passing}
 use Rattle.terrain.proofs.trail.count_flow.Given as goal
 
-abbrev pub invariant-loop-place : goal.invariant-loop-place
-invariant-loop-place l = Passing l.drawing.rows l.drawing.columns l.drawing.direction.now l.order l.count l.place
+abbrev pub invariant-loop-cell : goal.invariant-loop-cell
+invariant-loop-cell l = Passing l.drawing.rows l.drawing.columns l.drawing.direction.now l.order l.count l.cell-index

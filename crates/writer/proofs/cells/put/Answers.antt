@@ -4,14 +4,11 @@ use Rattle.writer.proofs.InnerCells.{along-fits, along-more, along-all}
 use Rattle.writer.proofs.cells.put.Goals as goal
 
 pub put-end-requires : goal.put-end-requires
-put-end-requires g c =
-    let fits = along-fits c.loop-cell.invariant c.cell-item.result (omega arith) c.cell-item.is c.requires.1 in
-    omega (arith, fits)
+put-end-requires g c = omega (arith, along-fits c.loop-cell.invariant c.cell-item.result (omega arith) c.cell-item.is c.requires.1)
 
 pub overflow_add-next : goal.overflow_add-next
 overflow_add-next g c =
-    let fits = along-fits c.loop-cell.invariant c.cell-item.result (omega arith) c.cell-item.is c.requires.1 in
-    omega (arith, fits, c.put-end.ensures.ends, c.loop-cell.invariant.left.long)
+    omega (arith, along-fits c.loop-cell.invariant c.cell-item.result (omega arith) c.cell-item.is c.requires.1, c.put-end.ensures.ends, c.loop-cell.invariant.left.long)
 
 pub loop-cell-preserved : goal.loop-cell-preserved
 loop-cell-preserved g c =

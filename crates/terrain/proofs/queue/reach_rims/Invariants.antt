@@ -1,6 +1,0 @@
--- What the loops of `terrain::queue::reach_rims` keep. Assumes nothing.
-use Rattle.terrain.specs.InnerFlood.{Rimming}
-use Rattle.terrain.proofs.queue.reach_rims.Given as goal
-
-abbrev pub invariant-loop-x : goal.invariant-loop-x
-invariant-loop-x l = Rimming l.columns l.initial.words l.words
