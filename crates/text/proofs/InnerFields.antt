@@ -164,3 +164,17 @@ module _ (s : List ℕ) (at : ℕ) where
     pub head-on : (k : Corners) (i : ℕ) → corners s j ≡ got k i → (t : Step H.Head) → t ≡ side_and_no_data x k s i → t ≡ head s at
     unfolding head
     head-on k i q t o = rw (e, q) o
+
+-- ---- the laws by which the check finds the steps of a reader that its proof file leaves out
+
+pub ruleset of_name = (name-none, name-off, name-on)
+
+pub ruleset of_corner = (corner-none)
+
+pub ruleset of_length = (any_none, any-on)
+
+pub ruleset of_side = (side-none, side-off, side-on)
+
+pub ruleset of_no_data = (no-data-absent)
+
+pub ruleset of_head = (head-no-extent, head-no-corners, head-on)

@@ -202,3 +202,15 @@ module _ (lent : List ℤ) (s : List ℕ) where
       go : (y : Step (List ℤ)) → body_outcome x.header lent y ≡ grid_outcome lent (after y (λ hs. give (record { header = x.header; heights = hs })) s)
       go (got hs i) = refl
       go (refused n p) = refl
+
+-- ---- the laws by which the check finds the steps of a reader that its proof file leaves out
+
+pub ruleset of_height = (height-none, height-no-data, height-on, height-off)
+
+pub ruleset of_end = (end-off, end_on)
+
+pub ruleset of_body = (body-unlike, body_more, body-on)
+
+pub ruleset of_lone_header = (lone-off, lone-more, lone-on)
+
+pub ruleset of_grid = (grid-off)

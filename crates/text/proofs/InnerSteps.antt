@@ -4,7 +4,7 @@ use mathlib.Core.Bool.{Bool, true, false, cond, ◌&&◌}
 use mathlib.Core.List.{List}
 use Prim.Native.Nat.{ℕ, ◌+◌, ◌≤◌, ◌<◌}
 use native.Mathlib.Omega.{arith}
-use borrow.Author.Tests.{leb-true, le-leb, lt-leb, eq-eqb, ne_eqb, eqb-true}
+use borrow.Author.Tests.{leb-true, leb-false, le-leb, lt-leb, eq-eqb, ne_eqb, eqb-true}
 use lib.ListN.{length}
 use lib.Dec.{eqb, leb}
 use Rattle.laws.proofs.Tests.{and_both}
@@ -126,6 +126,13 @@ module _ (s : List ℕ) (at a : ℕ) (p : a ≡ word_start s at) where
         pub count-on : 1 ≤ v → v ≤ 1024 → got v d ≡ count s at
         count-on k l = count-good (sym (size-some v k) ∙ le-leb v 1024 l)
 
+pub size-many : (v : ℕ) → size_accepted v ≡ false → 1 ≤ v → 1024 < v
+size-many v h k = leb-false v 1024 (size-some v k ∙ h)
+
 pub size-few : (v : ℕ) → size_accepted v ≡ true → v ≤ 1024
 unfolding size_accepted
 size-few v h = leb-true v 1024 (and_both (leb 1 v) (leb v 1024) h).1
+
+-- ---- the laws by which the check finds the steps of the reader of a measure
+
+pub ruleset of_measure = (measure-none, measure-fine, measure-on)

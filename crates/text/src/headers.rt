@@ -49,7 +49,7 @@ fn is_named(s: &[u8], a: usize, e: usize, n: &[u8]) -> bool
 }
 
 // The header name `n`: the cursor after it.
-#[tactic(auto, unfolding(crate::specs::Headers::name))]
+#[tactic(auto, using(crate::proofs::InnerFields::of_name))]
 fn read_name(s: &[u8], k: Cursor, n: &[u8]) -> Result<Cursor, Refusal>
     ensures { moved_of result ≡ name n.now s.now k.at }
 {
@@ -69,7 +69,7 @@ fn read_name(s: &[u8], k: Cursor, n: &[u8]) -> Result<Cursor, Refusal>
 }
 
 // Where a corner number stands, of which only the form is judged.
-#[tactic(auto, unfolding(crate::specs::Headers::corner))]
+#[tactic(auto, using(crate::proofs::InnerFields::of_corner))]
 fn read_corner(s: &[u8], k: Cursor) -> Reading<Span>
     ensures { step_of (λ x. x) result ≡ corner s.now k.at }
 {
@@ -92,7 +92,7 @@ fn side_in(cm: i64) -> bool
 }
 
 // A cell side.
-#[tactic(auto, unfolding(crate::specs::Headers::side))]
+#[tactic(auto, using(crate::proofs::InnerFields::of_side))]
 fn read_side(s: &[u8], k: Cursor) -> Reading<u32>
     ensures { step_of pos result ≡ side s.now k.at }
 {
@@ -110,7 +110,7 @@ fn read_side(s: &[u8], k: Cursor) -> Reading<u32>
 }
 
 // A number in cm of any size.
-#[tactic(auto, unfolding(crate::specs::Headers::any_measure))]
+#[tactic(auto, using(crate::proofs::InnerFields::of_length))]
 fn read_length(s: &[u8], k: Cursor) -> Reading<i64>
     ensures { step_of (λ x. x) result ≡ any_measure s.now k.at }
 {
@@ -130,7 +130,7 @@ fn letter_next(s: &[u8], k: Cursor) -> bool
 }
 
 // The NoData number in cm: the one given, or -9999 m.
-#[tactic(auto, unfolding(crate::specs::Headers::no_data, crate::specs::Headers::field, crate::specs::Bytes::bytes))]
+#[tactic(auto, using(crate::proofs::InnerFields::of_no_data))]
 fn read_no_data(s: &[u8], k: Cursor) -> Reading<i64>
     ensures { step_of (λ x. x) result ≡ no_data s.now k.at }
 {
@@ -144,7 +144,6 @@ fn read_no_data(s: &[u8], k: Cursor) -> Reading<i64>
 }
 
 // The number of columns, then that of rows.
-#[tactic(auto, unfolding(crate::specs::Headers::extent, crate::specs::Headers::field, crate::specs::Bytes::bytes))]
 fn read_extent(s: &[u8], k: Cursor) -> Reading<Extent>
     ensures { (step_of extent_of result ≡ extent s.now k.at) × IfOk result (λ x. Fits x.value.rows x.value.columns) }
 {
@@ -160,7 +159,6 @@ fn read_extent(s: &[u8], k: Cursor) -> Reading<Extent>
 }
 
 // The two corner numbers.
-#[tactic(auto, unfolding(crate::specs::Headers::corners, crate::specs::Headers::field, crate::specs::Bytes::bytes))]
 fn read_corners(s: &[u8], k: Cursor) -> Reading<Corners>
     ensures { step_of (λ x. x) result ≡ corners s.now k.at }
 {
@@ -176,7 +174,6 @@ fn read_corners(s: &[u8], k: Cursor) -> Reading<Corners>
 }
 
 // The cell side and the NoData number, after the extent `e` and the corners.
-#[tactic(auto, unfolding(crate::specs::Headers::side_and_no_data, crate::specs::Headers::field, crate::specs::Bytes::bytes))]
 fn read_side_and_no_data(s: &[u8], k: Cursor, e: Extent, corners: Corners) -> Reading<Head>
     requires { Fits e.rows e.columns }
     ensures { (step_of head_of result ≡ side_and_no_data (extent_of e) corners s.now k.at) × HeadFits result }
@@ -198,7 +195,7 @@ fn read_side_and_no_data(s: &[u8], k: Cursor, e: Extent, corners: Corners) -> Re
 }
 
 // The header that begins at `k`.
-#[tactic(auto, unfolding(crate::specs::Headers::head))]
+#[tactic(auto, using(crate::proofs::InnerFields::of_head))]
 pub(crate) fn read(s: &[u8], k: Cursor) -> Reading<Head>
     ensures { (step_of head_of result ≡ head s.now k.at) × HeadFits result }
 {

@@ -18,7 +18,7 @@ fn height_in(cm: i64) -> bool
 }
 
 // The next height; `n` is the NoData number.
-#[tactic(auto, unfolding(crate::specs::Heights::height))]
+#[tactic(auto, using(crate::proofs::InnerGrids::of_height))]
 fn read_height(s: &[u8], k: Cursor, n: i64) -> Reading<i64>
     ensures { (step_of (λ x. x) result ≡ height n s.now k.at) × HeightFits result }
 {
@@ -54,7 +54,7 @@ fn judge_heights(s: &[u8], k: Cursor, n: i64, count: usize) -> Result<Cursor, Re
 }
 
 // Judges that no word is left.
-#[tactic(auto, unfolding(crate::specs::Heights::end, crate::specs::Words::word))]
+#[tactic(auto, using(crate::proofs::InnerGrids::of_end))]
 pub(crate) fn judge_end(s: &[u8], k: Cursor) -> Result<Cursor, Refusal>
     ensures { moved_of result ≡ end s.now k.at }
 {
@@ -84,7 +84,7 @@ fn store_heights(s: &[u8], k: Cursor, n: i64, out: &mut [i32])
 }
 
 // What follows the header: all heights are stored, or none.
-#[tactic(auto, unfolding(crate::specs::Heights::body))]
+#[tactic(auto, using(crate::proofs::InnerGrids::of_body))]
 pub(crate) fn read(s: &[u8], k: Cursor, header: Header, out: &mut [i32]) -> Result<Header, Refusal>
     requires { Fits header.rows header.columns }
     ensures { grid_outcome_of result out.new ≡ body_answer (header_of header) out.old s.now k.at }

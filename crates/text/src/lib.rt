@@ -70,7 +70,7 @@ pub fn read_header(text: &[u8]) -> Result<Head, Refusal>
 }
 
 // Reads a header that stands alone in its text, so that no word may follow it.
-#[tactic(auto, unfolding(crate::specs::Heights::lone_header, crate::specs::Headers::header))]
+#[tactic(auto, using(crate::proofs::InnerGrids::of_lone_header))]
 pub fn read_lone_header(text: &[u8]) -> Result<Header, Refusal>
     ensures { outcome_of result ≡ lone_header_answer text.now }
 {
@@ -80,7 +80,7 @@ pub fn read_lone_header(text: &[u8]) -> Result<Header, Refusal>
 }
 
 // Reads the whole text into the lent heights; a refusal leaves them as they were.
-#[tactic(auto, unfolding(crate::specs::Heights::grid, crate::specs::Headers::header))]
+#[tactic(auto, using(crate::proofs::InnerGrids::of_grid))]
 pub fn read_grid(text: &[u8], heights: &mut [i32]) -> Result<Header, Refusal>
     ensures { grid_outcome_of result heights.new ≡ grid_answer heights.old text.now }
 {

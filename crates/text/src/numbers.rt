@@ -325,7 +325,7 @@ pub(crate) struct Measure {
 }
 
 // The next number in whole cm.
-#[tactic(auto, unfolding(crate::specs::Numbers::measure))]
+#[tactic(auto, using(crate::proofs::InnerSteps::of_measure))]
 pub(crate) fn read_measure(s: &[u8], k: Cursor) -> Reading<Measure>
     ensures { step_of measure_of result ≡ D.measure s.now k.at }
 {

@@ -21,7 +21,6 @@ pub fn is_side(side: u32) -> bool
 }
 
 // Whether a height, in cm, is accepted.
-#[tactic(auto, unfolding(crate::specs::Ranges::height_accepted))]
 pub fn is_height(h: i32) -> bool
     ensures { result ≡ height_accepted h }
 {
