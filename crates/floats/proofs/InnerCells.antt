@@ -121,6 +121,9 @@ module _ (h : Header) (lent : List ℤ) (floats : List ℕ) (l : length lent ≡
       → record { answer = accepted h; heights = tab (length lent) (λ y. height_of v (bits_at floats y)) } ≡ body_answer h lent floats
   body-good e = body-on h lent floats l b v refl x refl (le_of_eq (sym (judged-good v floats (length lent) e)))
 
+-- the laws of a body of the wrong length, which the proof of its reader goes by
+pub ruleset of_body = (body-unlike, body_bytes)
+
 -- ---- the whole of a call
 
 -- where the header's text ends does not matter any more

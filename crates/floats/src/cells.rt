@@ -90,7 +90,7 @@ fn store(v: u32, floats: &[u8], out: &mut [i32])
 }
 
 // What follows a good header: all heights are stored, or none.
-#[tactic(auto, unfolding(crate::specs::Answers::body, crate::specs::Answers::cells))]
+#[tactic(auto, using(crate::proofs::InnerCells::of_body))]
 pub(crate) fn read(floats: &[u8], header: Header, out: &mut [i32]) -> Result<Header, Refusal>
     requires { Fits header.rows header.columns }
     ensures { grid_outcome_of result out.new ≡ body_answer (header_of header) out.old floats.now }
