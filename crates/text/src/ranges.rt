@@ -5,7 +5,6 @@ ghost use Rattle.text.specs.Ranges.{size_accepted, side_accepted, height_accepte
 use crate::NO_DATA;
 
 // Whether a number of rows or columns is accepted.
-#[tactic(auto, unfolding(crate::specs::Ranges::size_accepted))]
 pub fn is_size(n: usize) -> bool
     ensures { result ≡ size_accepted n }
 {
@@ -13,7 +12,6 @@ pub fn is_size(n: usize) -> bool
 }
 
 // Whether a cell side, in cm, is accepted.
-#[tactic(auto, unfolding(crate::specs::Ranges::side_accepted))]
 pub fn is_side(side: u32) -> bool
     ensures { result ≡ side_accepted side }
 {
