@@ -53,6 +53,28 @@ decimal-short (suc k) n h =
 pub decimal-longer : (n : ℕ) → 10 ≤ n → length (decimal n) ≡ length (decimal (n / 10)) + 1
 decimal-longer n h = ap length (decimal-more n h) ∙ length-append (decimal (n / 10)) ((48 + n % 10) ∷ [])
 
+-- a number has a digit, one alone below 10, and two or more from 10 on
+pub decimal-some : (n : ℕ) → 1 ≤ length (decimal n)
+decimal-some n =
+    elim (dec_lt n 10) [
+      | yes s ↦ omega (arith, ap length (decimal_digit n s))
+      | no f ↦ omega (arith, decimal-longer n (omega arith))
+    ]
+
+pub decimal-one : (n : ℕ) → length (decimal n) ≤ 1 → n < 10
+decimal-one n h =
+    elim (dec_lt n 10) [
+      | yes s ↦ s
+      | no f ↦ absurd (omega (arith, h, decimal-longer n (omega arith), decimal-some (n / 10)))
+    ]
+
+pub decimal-two : (n : ℕ) → 2 ≤ length (decimal n) → 10 ≤ n
+decimal-two n h =
+    elim (dec_lt n 10) [
+      | yes s ↦ absurd (omega (arith, h, ap length (decimal_digit n s)))
+      | no f ↦ omega arith
+    ]
+
 -- the last of the last k digits
 pub padded-more : (k n : ℕ) → 0 < k → padded k n ≡ padded (k - 1) (n / 10) ++ ((48 + n % 10) ∷ [])
 unfolding padded

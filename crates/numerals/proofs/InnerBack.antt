@@ -6,7 +6,7 @@ use native.Mathlib.Omega.{arith}
 use lib.ListN.{length, set, length-set, length-append}
 use Rattle.numerals.specs.Words.{decimal, padded}
 use Rattle.numerals.specs.Writing.{overlay}
-use Rattle.numerals.proofs.Decimal.{decimal_digit, decimal-longer, decimal-short, padded-more}
+use Rattle.numerals.proofs.Decimal.{decimal_digit, decimal-more, decimal-longer, decimal-short, decimal-one, decimal-two, padded-more}
 use Rattle.numerals.proofs.Writing.{overlay-back}
 
 -- ---- counting the digits of n: `count` of them are counted, and those of `left` come on top but for one
@@ -53,7 +53,23 @@ module _ (room : List ℕ) (at : ℕ) (word : List ℕ) where
           long = ap length l ∙ length-set now (at + (i - 1)) x ∙ b.long;
         }
 
--- a digit of `left` less, be it a zero
+-- a decimal digit of `left` less
+module _ (room : List ℕ) (at n : ℕ) {now : List ℕ} (i left : ℕ) (b : Back room at (decimal n) now i (decimal left)) where
+  pub natural-tens : 1 < i → 10 ≤ left
+  natural-tens h = decimal-two left (omega (arith, h, b.ends))
+
+  pub natural-more : {then : List ℕ} → 10 ≤ left → then ≡ set now (at + (i - 1)) (48 + left % 10)
+      → Back room at (decimal n) then (i - 1) (decimal (left / 10))
+  natural-more h l = back_more room at (decimal n) b (decimal (left / 10)) (48 + left % 10) (decimal-more left h) l
+
+  -- the first digit is left, and is laid last
+  pub natural-last : i ≤ 1 → left < 10
+  natural-last h = decimal-one left (omega (arith, h, b.ends))
+
+  pub natural-all : {then : List ℕ} → left < 10 → then ≡ set now at (48 + left) → then ≡ overlay room at (decimal n)
+  natural-all h l = l ∙ ap (overlay now at) (sym (decimal_digit left h)) ∙ b.lays
+
+-- the same with digits that may be zeros
 module _ (room : List ℕ) (at n count : ℕ) {now : List ℕ} (i left : ℕ) (b : Back room at (padded count n) now i (padded i left)) where
   pub padded-back : {then : List ℕ} → 0 < i → then ≡ set now (at + (i - 1)) (48 + left % 10)
       → Back room at (padded count n) then (i - 1) (padded (i - 1) (left / 10))

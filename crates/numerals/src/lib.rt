@@ -17,14 +17,12 @@ pub fn put(out: &mut [u8], at: usize, b: u8)
     }
 }
 
-// One byte, `i` places past `at`.
+// One byte, `i` places past `at`. One test of both: a test of `at` alone would make two loops of each loop over this.
 fn put_past(out: &mut [u8], at: usize, i: usize, b: u8)
     ensures { out.new ≡ set out.old (at + i) b }
 {
-    if at < out.len() {
-        if i < out.len() - at {
-            out[at + i] = b;
-        }
+    if i < out.len().saturating_sub(at) {
+        out[at + i] = b;
     }
 }
 
@@ -51,11 +49,18 @@ pub fn digit_count(n: u64) -> usize
     count
 }
 
-// `n` in decimal digits.
+// `n` in decimal digits, the last one first. The first is what is left: `put_padded` would divide once more for it.
 pub fn put_natural(out: &mut [u8], at: usize, n: u64) -> usize
     ensures { Lays out at (decimal n) result × (result ≤ 20) }
 {
-    put_padded(out, at, n, digit_count(n))
+    let count = digit_count(n);
+    let mut left = n;
+    for i in (1..count).rev() {
+        put_past(out, at, i, b'0' + (left % 10) as u8);
+        left /= 10;
+    }
+    put(out, at, b'0' + left as u8);
+    count
 }
 
 // The last `count` decimal digits of `n`, zeros too, the last one first.
