@@ -1,10 +1,11 @@
 -- Which floats have a fault, by their bits: rounding never falls as a float rises, so the range is one of bits. Assumes nothing.
 use mathlib.Core.Path.{◌≡◌, refl, sym, ap, ◌∙◌, subst}
-use mathlib.Core.Bool.{Bool, true, false, cond, ◌||◌}
+use mathlib.Core.Bool.{Bool, true, false, cond, ◌||◌, ◌&&◌}
 use Prim.Native.Nat.{ℕ, zero, suc, ◌*◌, ◌/◌, ◌^◌, ◌≤◌, ◌<◌}
 use native.Mathlib.Decide.{dec_le}
 use native.Mathlib.Omega.{arith}
-use borrow.Author.Tests.{lt-ltb, le-ltb, le-leb, lt-leb}
+use borrow.Author.Tests.{eq-eqb, lt-ltb, le-ltb, le-leb, lt-leb}
+use lib.Dec.{eqb}
 use lib.IntN.{ℤ, pos, neg_ℤ, ◌-ℤ◌, +ℤ_idl}
 use mir.Syntax.{w32}
 use mir.Val.{SFits, to_z, of_z}
@@ -59,6 +60,10 @@ module _ (v b : ℕ) where
   pub fault-infinite : 2139095040 ≤ magnitude b → 15 ≡ fault_of v b
   unfolding fault_of finite
   fault-infinite h = ap (λ (f : Bool). cond f (cond (equal b v || height_in (cm b)) 0 5) 15) (sym (le-ltb (magnitude b / 2 ^ 23) 255 (omega arith)))
+
+  pub equal-same : b ≡ v → equal b v ≡ true
+  unfolding equal
+  equal-same e = ap (λ (t : Bool). t || (eqb (magnitude b) 0 && eqb (magnitude v) 0)) (eq-eqb b v e)
 
   -- of a finite one
   module _ (h : magnitude b < 2139095040) where

@@ -38,10 +38,14 @@ fn is_equal(a: u32, b: u32) -> bool
     a == b || a % MINUS == 0 && b % MINUS == 0
 }
 
-// Why a float is refused, if it is; `v` is the NoData float.
+// Why a float is refused, if it is; `v` is the NoData float. The first test says no more than the others do: it is for grids of NoData,
+// where it is all that a cell takes.
 fn fault_of(v: u32, bits: u32) -> Option<Fault>
     ensures { number_or_none result ≡ fault_of v bits }
 {
+    if bits == v && v % MINUS < INFINITE {
+        return None;
+    }
     let m = bits % MINUS;
     if INFINITE <= m {
         return Some(Fault::NotFinite);

@@ -1,9 +1,12 @@
 -- `floats::cells::fault_of` meets its contract. Assumes nothing.
 use native.Mathlib.Omega.{arith}
-use Rattle.floats.proofs.InnerFaults.{fault-infinite, fault-no-data, plus-clear, plus-fault, minus-clear, minus-fault}
+use Rattle.floats.proofs.InnerFaults.{equal-same, fault-infinite, fault-no-data, plus-clear, plus-fault, minus-clear, minus-fault}
 use Rattle.floats.proofs.cells.fault_of.Goals.{then-bits-lt-MINUS, else-bits-lt-MINUS}
 use Rattle.floats.proofs.cells.fault_of.Goals.{then-is_equal-via-then-is_equal, then-is_equal-via-else-is_equal+then-m-most}
 use Rattle.floats.proofs.cells.fault_of.Goals as goal
+
+pub returns-then-v-lt-INFINITE : goal.returns-then-v-lt-INFINITE
+returns-then-v-lt-INFINITE c = fault-no-data _ _ (rw c.if-bits-v.true c.if-v-lt-INFINITE.true) (equal-same _ _ c.if-bits-v.true)
 
 pub returns-then-m-ge-INFINITE : goal.returns-then-m-ge-INFINITE
 returns-then-m-ge-INFINITE c = fault-infinite _ _ c.if-m-ge-INFINITE.true
