@@ -5,7 +5,7 @@ use mathlib.Core.List.{List, [], ◌∷◌, ◌++◌}
 use Prim.Native.Nat.{ℕ, ◌*◌}
 use lib.ListN.{length}
 use Rattle.std.specs.Prelude.{Result, Ok, Err}
-use Rattle.laws.specs.Tests.{passed, failed, verdict}
+use Rattle.laws.specs.Tests.{Test, passed, failed, verdict}
 use Rattle.laws.proofs.Verdicts.{passed-failed, test-passed, verdict-none, verdict-next, verdict-stops, verdict-passed, verdict-before, verdict-after}
 use Rattle.text.specs.Faults.{number_of}
 use Rattle.text.specs.Ranges.{size_accepted, all_long, length_test}
@@ -62,6 +62,11 @@ module _ (rows columns : ℕ) (lengths : List ℕ) where
   pub shape-long : passed ≡ verdict (shape_tests rows columns lengths) → all_long (rows * columns) lengths ≡ true
   unfolding length_test
   shape-long e = test-passed (all_long (rows * columns) lengths) 2 0 (verdict-passed _ _ (verdict-passed _ _ (sym e)).1).0
+
+-- lengths that are those of three lists, one by one
+pub same-lengths : (rows columns : ℕ) (marks count factors : List ℕ) {t : Test} {a b d : ℕ} → t ≡ verdict (shape_tests rows columns (a ∷ b ∷ d ∷ [])) →
+    a ≡ length marks → b ≡ length count → d ≡ length factors → t ≡ verdict (shape_tests rows columns (length marks ∷ length count ∷ length factors ∷ []))
+same-lengths rows columns marks count factors e p q r = rw (p, q, r) at e
 
 -- ---- one farm
 
