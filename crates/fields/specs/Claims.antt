@@ -1,5 +1,6 @@
 -- RULES 8: What is claimed of small fields, lengths and factors, and when a claim holds: by the definitions that the map call promises. Assumes nothing.
-use Rattle.std.specs.Prelude.{◌≡◌, List, [], ◌∷◌, ℕ, ◌*◌, replicate, ℤ, pos, Ok, Err}
+use Rattle.std.specs.Prelude.{◌≡◌, List, [], ◌∷◌, ℕ, ◌*◌, replicate, ℤ, pos, Ok}
+use Rattle.laws.specs.Tests.{failed}
 use Rattle.settings.specs.declared.Channel.TheVariants.{NoChannel}
 use Rattle.settings.specs.declared.Formula.{Formula}
 use Rattle.settings.specs.declared.Formula.TheVariants.{Older, Newer}
@@ -14,8 +15,7 @@ use Rattle.factor.specs.LengthFactor.{length_factor}
 use Rattle.factor.specs.Steepness.{sine_of, steepness_factor}
 use Rattle.factor.specs.Cell.{factor_of}
 use Rattle.factor.specs.Farms.{Farms, one, two}
-use Rattle.factor.specs.Answers.{Grids, map_of, answer, after}
-use Rattle.text.specs.Faults.{fault_of}
+use Rattle.factor.specs.Answers.{Grids, map_of, answer, after, found}
 
 -- what a map is claimed to be
 pub record Maps : Type 0 where
@@ -98,7 +98,7 @@ module _ (rows cols side : ℕ) (farms : Farms) (source : Source) (elevation : L
   -- or this number and place, and leaves the grids h
   abbrev Refuses : ℕ → ℕ → Grids → Type 0
   Refuses number place h =
-      (answer rows cols side farms source elevation g ≡ Err (record { fault = fault_of number; place = place }))
+      (found (answer rows cols side farms source elevation g) ≡ failed number place)
       × (after rows cols side farms source elevation g ≡ h)
 
 abbrev pub Holds : Claim → Type 0
