@@ -1,8 +1,8 @@
--- What is found by the first tests, from what the tests of sizes, places and sides left, what is found of the settings and the first bad mark.
--- Assumes nothing.
+-- What is found by the first tests: what each of them decides in its order, and then, from what the tests of sizes, places and sides left, what is
+-- found of the settings and the first bad mark. Assumes nothing.
 use mathlib.Core.Path.{◌≡◌, sym, ap, ◌∙◌}
-use mathlib.Core.List.{List, [], ◌∷◌}
-use mathlib.Core.Bool.{not}
+use mathlib.Core.List.{List, [], ◌∷◌, ◌++◌}
+use mathlib.Core.Bool.{true, false, not}
 use Prim.Native.Nat.{ℕ, ◌+◌, ◌*◌, ◌≤◌, ◌<◌}
 use native.Mathlib.Omega.{arith}
 use lib.ListN.{length}
@@ -11,15 +11,60 @@ use borrow.Author.Tests.{lt-ltb, le-ltb}
 use Rattle.std.proofs.Common.{Result, Ok, Err}
 use Rattle.laws.specs.Tests.{Test, failed, verdict}
 use Rattle.laws.proofs.Verdicts.{passed-failed, verdict-none, verdict-next, verdict-stops, test-yes, test-no}
+use Rattle.text.specs.Ranges.{size_accepted, side_accepted, all_long, length_test, side_test}
+use Rattle.text.proofs.Accepted.{size-passes, rows-fail, columns-fail, lengths-pass, lengths-fail, lengths-passed, side-passes, side-fails}
 use Rattle.settings.specs.declared.Settings.{Settings}
 use Rattle.settings.specs.declared.Rules.{Rules}
 use Rattle.settings.specs.declared.Setting.{Setting as Bad}
 use Rattle.settings.specs.Settings.{rules_of, judged_of, place_of, settings_test}
 use Rattle.settings.proofs.Verdicts.{judged-passed, judged-failed}
 use Rattle.text.specs.declared.Refusal.{Refusal}
-use Rattle.factor.specs.Farms.{one, two, second_places, first_mark, mark_test, farm_tests}
-use Rattle.factor.specs.Answers.{Grids, first_tests, found, Judges, JudgesFarms, JudgesRest}
+use Rattle.factor.specs.Farms.{Farms, one, two, mark_places, second_places, first_mark, mark_test, farm_tests}
+use Rattle.factor.specs.Answers.{Grids, places_of, early_tests, first_tests, found, Judges, JudgesFarms, JudgesRest}
 use Rattle.factor.specs.declared.tests.FarmRules.{FarmRules}
+
+-- ---- the cases in their order, as the code tests them
+
+module _ (rows cols side : ℕ) (farms : Farms) (elevation : List ℤ) (g : Grids) where
+  abbrev long : Test
+  long = length_test (rows * cols) (mark_places farms ++ places_of elevation g)
+
+  abbrev sided : Test
+  sided = side_test side
+
+  abbrev chosen : List Test
+  chosen = farm_tests (rows * cols) farms
+
+  -- what the first tests decide
+  abbrev decided : Test
+  decided = verdict (first_tests rows cols side farms elevation g)
+
+  pub rows-refused : size_accepted rows ≡ false → verdict (first_tests rows cols side farms elevation g) ≡ failed 1 0
+  unfolding first_tests early_tests
+  rows-refused e = verdict-stops (long ∷ sided ∷ chosen) (rows-fail rows cols e)
+
+  pub columns-refused : size_accepted cols ≡ false → verdict (first_tests rows cols side farms elevation g) ≡ failed 1 0
+  unfolding first_tests early_tests
+  columns-refused e = verdict-stops (long ∷ sided ∷ chosen) (columns-fail rows cols e)
+
+  module _ (r : size_accepted rows ≡ true) (c : size_accepted cols ≡ true) where
+    size-left : decided ≡ verdict (long ∷ sided ∷ chosen)
+    unfolding first_tests early_tests
+    size-left = verdict-next (long ∷ sided ∷ chosen) (size-passes rows cols r c)
+
+    pub long-refused : all_long (rows * cols) (mark_places farms ++ places_of elevation g) ≡ false →
+        verdict (first_tests rows cols side farms elevation g) ≡ failed 2 0
+    long-refused e = size-left ∙ verdict-stops (sided ∷ chosen) (lengths-fail (rows * cols) (mark_places farms ++ places_of elevation g) e)
+
+    module _ (l : all_long (rows * cols) (mark_places farms ++ places_of elevation g) ≡ true) where
+      long-left : decided ≡ verdict (sided ∷ chosen)
+      long-left = size-left ∙ verdict-next (sided ∷ chosen) (lengths-pass (rows * cols) (mark_places farms ++ places_of elevation g) l)
+
+      pub side-refused : side_accepted side ≡ false → verdict (first_tests rows cols side farms elevation g) ≡ failed 3 0
+      side-refused e = long-left ∙ verdict-stops chosen (side-fails side e)
+
+      pub farms-left : side_accepted side ≡ true → verdict (first_tests rows cols side farms elevation g) ≡ verdict (farm_tests (rows * cols) farms)
+      farms-left s = long-left ∙ verdict-next chosen (side-passes side s)
 
 -- ---- one farm
 
@@ -83,10 +128,25 @@ module _ (first : Rules) (second : Settings) (marks : List ℕ) where
 
 -- ---- all first tests of two farms
 
-module _ (rows cols side : ℕ) (first second : Settings) (marks : List ℕ) (elevation : List ℤ) (g : Grids)
-    (left : verdict (first_tests rows cols side (two first second marks) elevation g) ≡ verdict (farm_tests (rows * cols) (two first second marks))) where
-  pub farms-settings : {j : Result FarmRules Refusal} {bad : Bad} → found j ≡ failed 4 (place_of bad) → judged_of first ≡ Err bad →
-      JudgesFarms rows cols side first second marks elevation g j
-  farms-settings f e =
-      let v = left ∙ verdict-stops _ (judged-failed first e) in
-      record { verdict-is = f ∙ sym v; rules-are = (λ rules q. absurd (passed-failed (sym (ap found q) ∙ f))) }
+module _ (rows cols side : ℕ) (first second : Settings) (marks : List ℕ) (elevation : List ℤ) (g : Grids) where
+  pub farms-refused : {r : Result FarmRules Refusal} {number place : ℕ} → found r ≡ failed number place →
+      verdict (first_tests rows cols side (two first second marks) elevation g) ≡ failed number place →
+      JudgesFarms rows cols side first second marks elevation g r
+  farms-refused e f = record { verdict-is = e ∙ sym f; rules-are = (λ rules q. absurd (passed-failed (sym (ap found q) ∙ e))) }
+
+  module _ (left : verdict (first_tests rows cols side (two first second marks) elevation g) ≡ verdict
+      (farm_tests (rows * cols) (two first second marks))) where
+    pub farms-settings : {j : Result FarmRules Refusal} {bad : Bad} → found j ≡ failed 4 (place_of bad) → judged_of first ≡ Err bad →
+        JudgesFarms rows cols side first second marks elevation g j
+    farms-settings f e = farms-refused f (left ∙ verdict-stops _ (judged-failed first e))
+
+    pub farms-rest : {rules : Rules} {j : Result FarmRules Refusal} → all_long (rows * cols) (length marks ∷ places_of elevation g) ≡ true →
+        judged_of first ≡ Ok rules → JudgesRest rules second marks j → JudgesFarms rows cols side first second marks elevation g j
+    farms-rest l e r =
+        let w = judged-passed first e in
+        let n = (lengths-passed (rows * cols) (length marks ∷ places_of elevation g) (lengths-pass (rows * cols) (length marks ∷ places_of elevation g) l)).0 in
+        record {
+          verdict-is = r.verdict-is ∙ ap (λ (m : ℕ). verdict (second_places (settings_test second) ∷ mark_test m marks ∷ [])) n
+              ∙ sym (left ∙ verdict-next _ w.0);
+          rules-are = (λ given q. let s = r.rules-are given q in (s.0 ∙ w.1, s.1));
+        }

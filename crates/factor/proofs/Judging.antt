@@ -9,7 +9,7 @@ use native.Mathlib.Decide.{dec_lt}
 use lib.ListN.{length, get_or-eq_default}
 use lib.IntN.{ℤ}
 use lib.Dec.{ltb}
-use borrow.Author.Tests.{eq-eqb, lt-ltb, le-ltb, ltb-false, not-true}
+use borrow.Author.Tests.{eq-eqb, ltb-false, not-true}
 use Rattle.laws.specs.Tests.{Test, passed, failed, verdict}
 use Rattle.laws.proofs.First.{first-before, first-is, first-none}
 use Rattle.laws.proofs.Tests.{two as either}
@@ -17,23 +17,22 @@ use Rattle.std.specs.List.{position, position_or_len}
 use Rattle.std.proofs.lemmas.List.Quantifiers.{position-Some}
 use Rattle.std.proofs.lemmas.List.Sums.{fails_before_first}
 use Rattle.std.proofs.Common.{Option, Some, None, Result, Ok, Err, ◌⊎◌, inl, inr}
-use Rattle.laws.proofs.Verdicts.{verdict-none, verdict-next, verdict-stops, verdict-passed, verdict-parts, verdict-before, verdict-after, test-yes, test-no, test-passed, Numbered, OfNumber, test-number, verdict-number}
+use Rattle.laws.proofs.Verdicts.{verdict-next, verdict-passed, verdict-parts, verdict-before, verdict-after, test-passed, Numbered, OfNumber, test-number, verdict-number}
 use Rattle.text.specs.Ranges.{size_accepted, side_accepted, first_bad, all_long, size_test, length_test, side_test, height_test}
-use Rattle.text.proofs.Accepted.{size-passes, size-passed, area-few, rows-fail, columns-fail, AllLong, lengths-pass, lengths-fail, lengths-passed, side-is, side-passed, side-passes, side-fails}
+use Rattle.text.proofs.Accepted.{size-passed, area-few, AllLong, lengths-pass, lengths-passed, side-is, side-passed}
 use Rattle.settings.specs.declared.Settings.{Settings}
 use Rattle.settings.specs.declared.Rules.{Rules}
 use Rattle.settings.specs.declared.Setting.{Setting as Bad}
-use Rattle.settings.specs.Settings.{rules_of, judged_of, place_of, settings_test, told as test_of}
-use Rattle.settings.proofs.Verdicts.{judged-passed, judged-failed}
+use Rattle.settings.specs.Settings.{judged_of, place_of, settings_test, told as test_of}
 use Rattle.terrain.specs.Answers.{Grids as TerrainGrids, lent as lent_terrain, places_of as terrain_places, ground_tests, tests as terrain_tests, judged as terrain_judged, source_tests, directions_by}
 use Rattle.terrain.specs.Filled.{filled_levels}
 use Rattle.terrain.specs.Given.{first_broken, first_ring, code_test, ring_test}
 use Rattle.terrain.specs.declared.Source.{Source}
 use Rattle.terrain.specs.declared.Source.TheVariants.{Own, Given}
 use Rattle.factor.specs.Farms.{Farms, one, two, farm_at, Marked, mark_places, second_places, first_mark, mark_test, settings_tests, mark_tests, farm_tests}
-use Rattle.factor.specs.Answers.{Grids, places_of, tests, judged, answer_of, answer, refused_grids, early_tests, first_tests, Judges, JudgesFarms, JudgesRest, told, accepts}
-use Rattle.factor.specs.declared.tests.FarmRules.{FarmRules}
-use Rattle.factor.specs.Inner.{places_with, settings_found, shared_tests, JudgesGround}
+use Rattle.factor.specs.Answers.{Grids, places_of, tests, judged, answer_of, answer, refused_grids, early_tests, first_tests, Judges, JudgesRest, told, accepts}
+use Rattle.factor.specs.Inner.{places_with, settings_found, OfFarms, JudgesGround}
+use Rattle.factor.proofs.Judgements.{rows-refused, columns-refused, long-refused, side-refused, farms-left, judges-refused, judges-settings, judges-sound, rest-settings, rest-marks, rest-sound, farms-settings}
 use Rattle.text.specs.Faults.{number_of, fault_of}
 use Rattle.text.specs.declared.Refusal.{Refusal}
 use Rattle.text.specs.declared.faults.Fault.{Fault}
@@ -262,56 +261,57 @@ module _ (rows cols side : ℕ) (farms : Farms) (elevation : List ℤ) (g : Grid
 
 -- ---- the tests that both calls make first, in their order, as the code makes them
 
+-- of all farms that begin so, from the number of their marks
+of-farms : (settings : Settings) (marks : Option ℕ) {P : Farms → Type 0} → ((farms : Farms) → mark_places farms ≡ places_with marks → P farms) →
+    OfFarms settings marks P
+of-farms settings None h = h (one settings) refl
+of-farms settings (Some n) h = λ second m e. h (two settings second m) (ap (λ (k : ℕ). k ∷ []) e)
+
 module _ (rows cols side : ℕ) (settings : Settings) (marks : Option ℕ) (elevation : List ℤ) (g : Grids) where
-  abbrev ground : List Test
-  ground = shared_tests rows cols side settings marks elevation g
-
-  ground-refuses : (fault : Fault) (place : ℕ) → verdict (shared_tests rows cols side settings marks elevation g) ≡ failed (number_of fault) place →
-      JudgesGround rows cols side settings marks elevation g (Err (record { fault = fault; place = place }))
-  ground-refuses fault place f = record { verdict-is = sym f; rules-are = (λ rules q. absurd (let z : ◌≡◌ {A = Result Rules Refusal} (Err (record { fault = fault; place = place })) (Ok rules) = q in cc)) }
-
   pub ground-rows : size_accepted rows ≡ false → JudgesGround rows cols side settings marks elevation g (Err (record { fault = Size; place = 0 }))
-  ground-rows e = ground-refuses Size 0 (verdict-stops _ (rows-fail rows cols e))
+  ground-rows e = of-farms settings marks (λ farms p. rows-refused rows cols side farms elevation g e)
 
   pub ground-columns : size_accepted cols ≡ false → JudgesGround rows cols side settings marks elevation g (Err (record { fault = Size; place = 0 }))
-  ground-columns e = ground-refuses Size 0 (verdict-stops _ (columns-fail rows cols e))
+  ground-columns e = of-farms settings marks (λ farms p. columns-refused rows cols side farms elevation g e)
+
+  -- whether the lists are long is the same of all of them
+  long-of : (farms : Farms) → mark_places farms ≡ places_with marks →
+      all_long (rows * cols) (mark_places farms ++ places_of elevation g) ≡ all_long (rows * cols) (places_with marks ++ places_of elevation g)
+  long-of farms p = ap (λ (l : List ℕ). all_long (rows * cols) (l ++ places_of elevation g)) p
 
   module _ (r : size_accepted rows ≡ true) (c : size_accepted cols ≡ true) where
-    size-left : verdict ground ≡ verdict (length_test (rows * cols) (places_with marks ++ places_of elevation g) ∷ side_test side ∷ settings_test settings ∷ [])
-    size-left = verdict-next _ (size-passes rows cols r c)
-
     pub ground-long : all_long (rows * cols) (places_with marks ++ places_of elevation g) ≡ false →
         JudgesGround rows cols side settings marks elevation g (Err (record { fault = Length; place = 0 }))
-    ground-long e = ground-refuses Length 0 (size-left ∙ verdict-stops _ (lengths-fail (rows * cols) (places_with marks ++ places_of elevation g) e))
+    ground-long e = of-farms settings marks (λ farms p. long-refused rows cols side farms elevation g r c (long-of farms p ∙ e))
 
     module _ (l : all_long (rows * cols) (places_with marks ++ places_of elevation g) ≡ true) where
-      long-left : verdict ground ≡ verdict (side_test side ∷ settings_test settings ∷ [])
-      long-left = size-left ∙ verdict-next _ (lengths-pass (rows * cols) (places_with marks ++ places_of elevation g) l)
-
       pub ground-side : side_accepted side ≡ false → JudgesGround rows cols side settings marks elevation g (Err (record { fault = Side; place = 0 }))
-      ground-side e = ground-refuses Side 0 (long-left ∙ verdict-stops _ (side-fails side e))
+      ground-side e = of-farms settings marks (λ farms p. side-refused rows cols side farms elevation g r c (long-of farms p ∙ l) e)
 
       pub ground-settings : side_accepted side ≡ true → JudgesGround rows cols side settings marks elevation g (settings_found 0 (judged_of settings))
       ground-settings s = go (judged_of settings) refl
         where
-          left : verdict ground ≡ verdict (settings_test settings ∷ [])
-          left = long-left ∙ verdict-next _ (side-passes side s)
-
-          same : {rules : Rules} → rules ≡ rules_of settings → (given : Rules) → ◌≡◌ {A = Result Rules Refusal} (Ok rules) (Ok given) → given ≡ rules_of settings
-          same e given q = cc
+          refused : (marks : Option ℕ) (f : Refusal) {bad : Bad} → failed (number_of f.fault) f.place ≡ failed 4 (place_of bad) → judged_of settings ≡ Err bad →
+              OfFarms settings marks (λ farms. verdict (first_tests rows cols side farms elevation g) ≡ verdict (farm_tests (rows * cols) farms)) →
+              JudgesGround rows cols side settings marks elevation g (Err f)
+          refused None f q e left = sym (judges-settings rows cols side settings elevation g left {j = Err f} q e).verdict-is
+          refused (Some n) f q e left =
+              λ second m h. sym (farms-settings rows cols side settings second m elevation g (left second m h) {j = Err f} q e).verdict-is
 
           go : (j : Result Rules Bad) → judged_of settings ≡ j → JudgesGround rows cols side settings marks elevation g (settings_found 0 j)
           go (Ok rules) e =
-              let w = judged-passed settings e in
-              record { verdict-is = sym (left ∙ verdict-next [] w.0 ∙ verdict-none); rules-are = same w.1 }
-          go (Err bad) e = ground-refuses Setting (0 + place_of bad) (left ∙ verdict-stops [] (judged-failed settings e) ∙ ap (failed 4) (omega arith))
+              (e, of-farms settings marks (λ farms p. let h = long-of farms p ∙ l in (h, farms-left rows cols side farms elevation g r c h s)))
+          go (Err bad) e =
+              let same : 0 + place_of bad ≡ place_of bad = omega arith in
+              refused marks (record { fault = Setting; place = 0 + place_of bad }) (ap (failed 4) same) e
+              (of-farms settings marks (λ farms p. farms-left rows cols side farms elevation g r c (long-of farms p ∙ l) s))
 
 -- ---- the judgement of one farm
 
-pub one-judged : (rows cols side : ℕ) (settings : Settings) (elevation : List ℤ) (g : Grids) {r : Result Rules Refusal} →
+pub one-judged : (rows cols side : ℕ) (settings : Settings) (elevation : List ℤ) (g : Grids) (r : Result Rules Refusal) →
     JudgesGround rows cols side settings None elevation g r → Judges rows cols side settings elevation g r
-unfolding first_tests early_tests
-one-judged rows cols side settings elevation g j = record { verdict-is = j.verdict-is; rules-are = j.rules-are }
+one-judged rows cols side settings elevation g (Ok rules) j = judges-sound rows cols side settings elevation g j.1.1 j.0
+one-judged rows cols side settings elevation g (Err f) j = judges-refused rows cols side settings elevation g refl j
 
 -- ---- the judgement of two farms
 
@@ -335,14 +335,6 @@ marked-none marks e =
     long (inr t) = ltb-false at (length marks) t
 
 module _ (first : Rules) (second : Settings) (marks : List ℕ) where
-  abbrev rest : Test
-  rest = verdict (second_places (settings_test second) ∷ mark_test (length marks) marks ∷ [])
-
-  rest-refuses : (fault : Fault) (place : ℕ) → verdict (second_places (settings_test second) ∷ mark_test (length marks) marks ∷ []) ≡ failed (number_of fault) place →
-      JudgesRest first second marks (Err (record { fault = fault; place = place }))
-  rest-refuses fault place f =
-      record { verdict-is = sym f; rules-are = (λ rules q. absurd (let z : ◌≡◌ {A = Result FarmRules Refusal} (Err (record { fault = fault; place = place })) (Ok rules) = q in cc)) }
-
   pub rest-found : {f : Refusal} → Err f ≡ settings_found 3 (judged_of second) → JudgesRest first second marks (Err f)
   rest-found {f} q = go (judged_of second) refl q
     where
@@ -350,7 +342,7 @@ module _ (first : Rules) (second : Settings) (marks : List ℕ) where
       go (Ok rules) e q = absurd (let z : ◌≡◌ {A = Result Rules Refusal} (Err f) (Ok rules) = q in cc)
       go (Err bad) e q =
           let z : f ≡ record { fault = Setting; place = 3 + place_of bad } = cc in
-          rw z (rest-refuses Setting (3 + place_of bad) (verdict-stops _ (ap second_places (judged-failed second e))))
+          rw z (rest-settings first second marks {r = Err (record { fault = Setting; place = 3 + place_of bad })} refl e refl)
 
   module _ {rules : Rules} (q : Ok rules ≡ settings_found 3 (judged_of second)) where
     accepted : judged_of second ≡ Ok rules
@@ -360,50 +352,11 @@ module _ (first : Rules) (second : Settings) (marks : List ℕ) where
         go (Ok given) q = cc
         go (Err bad) q = absurd (let z : ◌≡◌ {A = Result Rules Refusal} (Ok rules) (Err (record { fault = Setting; place = 3 + place_of bad })) = q in cc)
 
-    rest-left : rest ≡ verdict (mark_test (length marks) marks ∷ [])
-    rest-left = verdict-next _ (ap second_places (judged-passed second accepted).0)
-
     pub rest-marked : {x : ℕ} → position (ltb 1) marks ≡ Some x → JudgesRest first second marks (Err (record { fault = Mark; place = x }))
-    unfolding mark_test
-    rest-marked {x} p =
-        let m = marked-at marks p in
-        rest-refuses Mark x (rest-left ∙ verdict-stops [] (rw (sym m.0) (test-no 19 x (ap not (lt-ltb x (length marks) m.1)))))
+    rest-marked p = let m = marked-at marks p in rest-marks first second marks accepted m.0 m.1 refl
 
     pub rest-passed : position (ltb 1) marks ≡ None → JudgesRest first second marks (Ok (record { first = first; second = rules }))
-    unfolding mark_test
-    rest-passed p =
-        let h = marked-none marks p in
-        let passes = test-yes 19 (first_mark (length marks) marks) (ap not (le-ltb (first_mark (length marks) marks) (length marks) (omega (arith, h)))) in
-        record { verdict-is = sym (rest-left ∙ verdict-next [] passes ∙ verdict-none); rules-are = same (judged-passed second accepted).1 }
-      where
-        same : rules ≡ rules_of second → (given : FarmRules) → ◌≡◌ {A = Result FarmRules Refusal} (Ok (record { first = first; second = rules })) (Ok given) →
-            (given.first ≡ first) × (given.second ≡ rules_of second)
-        same m given q = let z : record { first = first; second = rules } ≡ given = cc in (sym (ap (λ (f : FarmRules). f.first) z), sym (ap (λ (f : FarmRules). f.second) z) ∙ m)
-
-module _ (rows cols side : ℕ) (first second : Settings) (marks : List ℕ) (elevation : List ℤ) (g : Grids) where
-  pub farms-refused : {f : Refusal} → JudgesGround rows cols side first (Some (length marks)) elevation g (Err f) →
-      JudgesFarms rows cols side first second marks elevation g (Err f)
-  unfolding first_tests early_tests
-  farms-refused {f} j =
-      record {
-        verdict-is = sym (verdict-before (shared_tests rows cols side first (Some (length marks)) elevation g)
-            (second_places (settings_test second) ∷ mark_test (rows * cols) marks ∷ []) (sym j.verdict-is));
-        rules-are = (λ rules q. absurd (let z : ◌≡◌ {A = Result FarmRules Refusal} (Err f) (Ok rules) = q in cc));
-      }
-
-  pub farms-rest : {rules : Rules} {r : Result FarmRules Refusal} → JudgesGround rows cols side first (Some (length marks)) elevation g (Ok rules) →
-      JudgesRest rules second marks r → JudgesFarms rows cols side first second marks elevation g r
-  unfolding first_tests early_tests
-  farms-rest {rules} j r =
-      let e = sym j.verdict-is in
-      let long = (verdict-passed _ _ (verdict-passed _ _ e).1).0 in
-      let n = (lengths-passed (rows * cols) (length marks ∷ places_of elevation g) long).0 in
-      record {
-        verdict-is = r.verdict-is ∙ ap (λ (m : ℕ). verdict (second_places (settings_test second) ∷ mark_test m marks ∷ [])) n
-            ∙ sym (verdict-after (shared_tests rows cols side first (Some (length marks)) elevation g)
-            (second_places (settings_test second) ∷ mark_test (rows * cols) marks ∷ []) e);
-        rules-are = (λ given q. let s = r.rules-are given q in (s.0 ∙ j.rules-are rules refl, s.1));
-      }
+    rest-passed p = rest-sound first second marks accepted (sym (marked-none marks p)) (omega arith)
 
 -- marks that pass 19 are all 0 or 1
 pub marks-few : (n : ℕ) (s t : Settings) (marks : List ℕ) → length marks ≡ n → verdict (farm_tests n (two s t marks)) ≡ passed → Marked n marks

@@ -6,8 +6,8 @@ pub mod Slopes
 pub mod Percents
 pub mod Steepnesses
 pub mod Lengths
-pub mod Judging
 pub mod Judgements
+pub mod Judging
 pub mod GivenBack
 pub mod Answers
 pub mod Apart

@@ -1,11 +1,12 @@
 -- Only inner functions cite this file: what they assume, and what they answer. Assumes nothing.
-use Rattle.std.specs.Prelude.{ℕ, ◌+◌, ◌-◌, ◌*◌, ◌/◌, ◌%◌, ◌^◌, ◌≤◌, ◌<◌, Bool, true, cond, List, [], ◌∷◌, ◌++◌, ◌≡◌, ltb, leb, eqb, ℤ, get_or, Option, Some, None, Result, Ok, Err}
-use Rattle.laws.specs.Tests.{Test, passed, verdict}
-use Rattle.text.specs.Ranges.{size_test, length_test, side_test}
+use Rattle.std.specs.Prelude.{ℕ, ◌+◌, ◌-◌, ◌*◌, ◌/◌, ◌%◌, ◌^◌, ◌≤◌, ◌<◌, Bool, true, cond, List, [], ◌∷◌, ◌++◌, ◌≡◌, ltb, leb, eqb, ℤ, length, get_or, Option, Some, None, Result, Ok, Err}
+use Rattle.laws.specs.Tests.{passed, failed, verdict}
+use Rattle.text.specs.Faults.{number_of}
+use Rattle.text.specs.Ranges.{all_long}
 use Rattle.text.specs.declared.Refusal.{Refusal}
 use Rattle.settings.specs.declared.Settings.{Settings}
 use Rattle.settings.specs.declared.Setting.{Setting as Bad}
-use Rattle.settings.specs.Settings.{rules_of, place_of, settings_test}
+use Rattle.settings.specs.Settings.{judged_of, place_of}
 use Rattle.text.specs.declared.faults.Fault.TheVariants.{Setting}
 use Rattle.settings.specs.declared.Rules.{Rules}
 use Rattle.factor.specs.Inflow.{cutoff_for, step_over, amount_of}
@@ -13,8 +14,8 @@ use Rattle.factor.specs.LengthFactor.{greatest_mm, reached}
 use Rattle.terrain.specs.Filled.{top}
 use Rattle.terrain.specs.Drainage.{Trails, Totals, Surface}
 use Rattle.terrain.specs.declared.Source.{Source}
-use Rattle.factor.specs.Farms.{Farms, rules_in}
-use Rattle.factor.specs.Answers.{Grids, places_of, first_tests, answer, after, accepts, told, found}
+use Rattle.factor.specs.Farms.{Farms, one, two, rules_in, mark_places, farm_tests}
+use Rattle.factor.specs.Answers.{Grids, places_of, first_tests, answer, after, accepts, told}
 use Rattle.terrain.specs.declared.Summary.{Summary}
 
 -- a cell side, and a steepness as small as those of a map: at most twice the square of a drop below 2^21 cm
@@ -79,15 +80,20 @@ abbrev pub places_with : Option ℕ → List ℕ
 places_with None = []
 places_with (Some n) = n ∷ []
 
--- 1 to 4, the last for one farm's settings
-abbrev pub shared_tests : ℕ → ℕ → ℕ → Settings → Option ℕ → List ℤ → Grids → List Test
-shared_tests rows cols side settings marks elevation g =
-    size_test rows cols ∷ length_test (rows * cols) (places_with marks ++ places_of elevation g) ∷ side_test side ∷ settings_test settings ∷ []
+-- what holds of whatever farms begin with these settings, and with so many marks where there are some
+abbrev pub OfFarms : Settings → Option ℕ → (Farms → Type 0) → Type 0
+OfFarms settings None P = P (one settings)
+OfFarms settings (Some n) P = (second : Settings) (marks : List ℕ) → length marks ≡ n → P (two settings second marks)
 
--- what is found by them
-pub record JudgesGround (rows cols side : ℕ) (settings : Settings) (marks : Option ℕ) (elevation : List ℤ) (g : Grids) (r : Result Rules Refusal) : Type 0 where
-  pub verdict-is : found r ≡ verdict (shared_tests rows cols side settings marks elevation g)
-  pub rules-are : (rules : Rules) → r ≡ Ok rules → rules ≡ rules_of settings
+-- what is found by them of whatever farms begin so: a refusal is that of all their first tests; else the rules are the settings', the marks and
+-- the lent lists are long, and the farms' own tests alone are left
+module _ (rows cols side : ℕ) (settings : Settings) (marks : Option ℕ) (elevation : List ℤ) (g : Grids) where
+  abbrev pub JudgesGround : Result Rules Refusal → Type 0
+  JudgesGround (Err f) = OfFarms settings marks (λ farms. verdict (first_tests rows cols side farms elevation g) ≡ failed (number_of f.fault) f.place)
+  JudgesGround (Ok rules) =
+      (judged_of settings ≡ Ok rules)
+      × OfFarms settings marks (λ farms. (all_long (rows * cols) (mark_places farms ++ places_of elevation g) ≡ true)
+      × (verdict (first_tests rows cols side farms elevation g) ≡ verdict (farm_tests (rows * cols) farms)))
 
 -- ---- the map call after the first tests
 
