@@ -34,9 +34,9 @@ use Rattle.factor.specs.Answers.{Grids, places_of, tests, judged, answer_of, ans
 use Rattle.factor.specs.Inner.{places_with, settings_found, OfFarms, JudgesGround}
 use Rattle.factor.proofs.Judgements.{rows-refused, columns-refused, long-refused, side-refused, farms-left, judges-refused, judges-settings, judges-sound, rest-settings, rest-marks, rest-sound, farms-settings}
 use Rattle.text.specs.Faults.{number_of, fault_of}
+use Rattle.text.proofs.FaultNumbers.{number-some as fault-some}
 use Rattle.text.specs.declared.Refusal.{Refusal}
-use Rattle.text.specs.declared.faults.Fault.{Fault}
-use Rattle.text.specs.declared.faults.Fault.TheVariants.{Size, Length, Side, Setting, Height, Name, Malformed, Fine, Ended, Trailing, Large, Comma, Room, FloatBytes, NotFinite, Overflow, Direction, Ring, Mark}
+use Rattle.text.specs.declared.faults.Fault.TheVariants.{Size, Length, Side, Setting, Mark}
 
 -- the grids that are lent on to the terrain layer: the grid of LS for its falls, and all but that of the lengths
 abbrev pub lent_on : Grids → TerrainGrids
@@ -48,34 +48,12 @@ unfolding all_long
 all-long n [] w = refl
 all-long n (a ∷ l) w = ap₂ ◌&&◌ (eq-eqb a n w.0) (all-long n l w.1)
 
--- no fault has number 0
-fault-some : (f : Fault) → 1 ≤ number_of f
-fault-some Size = omega arith
-fault-some Length = omega arith
-fault-some Side = omega arith
-fault-some Setting = omega arith
-fault-some Height = omega arith
-fault-some Name = omega arith
-fault-some Malformed = omega arith
-fault-some Fine = omega arith
-fault-some Ended = omega arith
-fault-some Trailing = omega arith
-fault-some Large = omega arith
-fault-some Comma = omega arith
-fault-some Room = omega arith
-fault-some FloatBytes = omega arith
-fault-some NotFinite = omega arith
-fault-some Overflow = omega arith
-fault-some Direction = omega arith
-fault-some Ring = omega arith
-fault-some Mark = omega arith
-
 -- an answer with number 0 is no refusal, whatever the tests were, if none of them refuses with 0
 pub answer-some : (rows cols : ℕ) (elevation : List ℤ) (dir : List ℕ) (t : Test) → Numbered t → (told (answer_of rows cols elevation dir t)).number ≡ 0 →
     accepts (answer_of rows cols elevation dir t) ≡ true
 unfolding answer_of
 answer-some rows cols elevation dir passed n e = refl
-answer-some rows cols elevation dir (failed number place) n e = absurd (omega (arith, fault-some (fault_of number)))
+answer-some rows cols elevation dir (failed number place) n e = absurd (fault-some (fault_of number) e)
 
 -- ---- the number of a refusal
 
