@@ -7,6 +7,7 @@ use lib.Dec.{eqb}
 use lib.Ieee.{Float}
 use lib.ListN.{length}
 use Rattle.laws.specs.Sums.{when}
+use Rattle.laws.specs.Tests.{Test, passed, failed}
 use Rattle.settings.specs.declared.Channel.{Channel}
 use Rattle.settings.specs.declared.Channel.TheVariants.{Percentage, Cells, NoChannel}
 use Rattle.settings.specs.declared.Formula.TheVariants.{Older}
@@ -15,13 +16,13 @@ use Rattle.settings.specs.Settings.{quotient, default_settings}
 use Rattle.factor.specs.Farms.{one as one_farm, two as two_farms, mark_test}
 use Rattle.factor.specs.Cell.{too_long}
 use Rattle.factor.specs.Grid.{no_data_factor}
+use Rattle.factor.specs.Answers.{found as told_by}
 use Rattle.report.specs.Maps.{Map, map_of}
 use Rattle.report.specs.Reports.{found, report_of}
 use Rattle.report.specs.Answers.{Reported, after_add, after_join}
 use Rattle.report.specs.declared.Greatest.{Greatest}
 use Rattle.report.specs.declared.Report.{Report}
 use Rattle.report.proofs.Lists.{sheet}
-use Rattle.report.proofs.Additions.{accepted, refused}
 
 abbrev settings_of : Float → Float → Channel → Settings
 settings_of low high channel = record { low = low; high = high; channel = channel; formula = Older }
@@ -75,6 +76,19 @@ reports-hold = refl
 
 -- ---- joins
 
+-- what comes of a call: its answer, a refusal by number and place, and the report
+abbrev Outcome : Type 0
+Outcome = Test × Report
+
+abbrev told : Reported → Outcome
+told x = (told_by x.answer, x.report)
+
+abbrev accepted : Report → Outcome
+accepted report = (passed, report)
+
+abbrev refused : ℕ → ℕ → Report → Outcome
+refused number place report = (failed number place, report)
+
 -- the greatest number of 64 bits
 abbrev top : ℕ
 top = 18446744073709551615
@@ -84,7 +98,7 @@ abbrev leading : ℕ → Option Greatest → Report
 leading maps greatest = sheet maps 0 0 0 0 0 0 0 0 0 greatest
 
 -- a join: the two reports, and what comes of it
-unfoldable pub joins : List ((Report × Report) × Reported)
+unfoldable pub joins : List ((Report × Report) × Outcome)
 joins =
     ((sheet 1 2 3 4 5 6 7 8 9 10 None, sheet 10 20 30 40 50 60 70 80 90 100 None), accepted (sheet 11 22 33 44 55 66 77 88 99 110 None)) ∷
     -- the greatest: only one has it, the second's is greater, the first's is, a tie
@@ -100,7 +114,7 @@ joins =
     ((leading 6 (found 1 top top), leading 0 None), accepted (leading 6 (found 1 top top))) ∷
     []
 
-pub joins-hold : map (λ (x : (Report × Report) × Reported). after_join x.0.0 x.0.1) joins ≡ map (λ (x : (Report × Report) × Reported). x.1) joins
+pub joins-hold : map (λ (x : (Report × Report) × Outcome). told (after_join x.0.0 x.0.1)) joins ≡ map (λ (x : (Report × Report) × Outcome). x.1) joins
 unfolding joins after_join
 joins-hold = refl
 
@@ -115,8 +129,8 @@ ten = 0 ∷ 1 ∷ 2 ∷ 3 ∷ 4 ∷ 5 ∷ 6 ∷ 7 ∷ 8 ∷ 9 ∷ []
 
 -- each number up to the end of 64 bits, and one more
 pub edges-hold :
-    (map (λ k. after_join (one k (top - 1)) (one k 1)) ten ≡ map (λ k. accepted (one k top)) ten)
-    × (map (λ k. after_join (one k top) (one k 1)) ten ≡ map (λ k. refused 16 0 (one k top)) ten)
+    (map (λ k. told (after_join (one k (top - 1)) (one k 1))) ten ≡ map (λ k. accepted (one k top)) ten)
+    × (map (λ k. told (after_join (one k top) (one k 1))) ten ≡ map (λ k. refused 16 0 (one k top)) ten)
 unfolding after_join when
 edges-hold = (refl, refl)
 
@@ -138,7 +152,7 @@ abbrev above1 : Float
 above1 = quotient 100 101
 
 -- an addition: the report and the map, and what comes of it
-unfoldable pub additions : List ((Report × Map) × Reported)
+unfoldable pub additions : List ((Report × Map) × Outcome)
 additions =
     ((leading 3 (found 9 2 1), row (9 ∷ 10 ∷ [])), accepted (sheet 4 2 0 0 0 19 2 0 0 0 (found 10 3 1))) ∷
     ((leading 3 (found 10 2 1), row (10 ∷ [])), accepted (sheet 4 1 0 0 0 10 1 0 0 0 (found 10 2 1))) ∷
@@ -171,6 +185,6 @@ additions =
     ((leading top None, pair_with no_channel no_channel (1 ∷ 2 ∷ [])), refused 19 1 (leading top None)) ∷
     []
 
-pub additions-hold : map (λ (x : (Report × Map) × Reported). after_add x.0.0 x.0.1) additions ≡ map (λ (x : (Report × Map) × Reported). x.1) additions
+pub additions-hold : map (λ (x : (Report × Map) × Outcome). told (after_add x.0.0 x.0.1)) additions ≡ map (λ (x : (Report × Map) × Outcome). x.1) additions
 unfolding additions after_add quotient when mark_test
 additions-hold = refl
